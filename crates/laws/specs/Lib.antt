@@ -1,0 +1,14 @@
+pub mod Cases
+pub mod Loops
+pub mod Put
+pub mod Writers
+pub mod Order
+pub mod Between
+pub mod Flat
+pub mod Best
+pub mod Search
+pub mod Run
+pub mod Sort
+pub mod Sorting
+pub mod Ordered
+pub mod Same

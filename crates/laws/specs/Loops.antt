@@ -1,0 +1,86 @@
+-- What a loop computes, as a definition, with the two laws that the loop's proof needs: one turn, and the end.
+-- Assumes nothing.
+use mathlib.Core.Path.{_≡_, refl, _∙_}
+use mathlib.Core.List.{List, [], _∷_}
+use mathlib.Core.Bool.{Bool, true, false, _||_}
+use Prim.Native.Nat.{ℕ, zero, suc, _+_, _-_, _≤_, _<_}
+use native.Mathlib.Nat.{sub-zero}
+use lib.ListN.{length, getD}
+use native.Mathlib.Numerals.{add-one}
+use native.Mathlib.Omega.{arith}
+
+-- m turns from i on
+unfoldable pub turns : {A : Type 0} → (ℕ → A → A) → ℕ → ℕ → A → A
+turns f zero i a = a
+turns f (suc m) i a = turns f m (suc i) (f i a)
+
+-- `for i in i..n { a = f(i, a); }`
+unfoldable pub up : {A : Type 0} → (ℕ → A → A) → ℕ → ℕ → A → A
+unfolding turns
+up f i n a = turns f (n - i) i a
+
+-- `for k = k down to 1 { a = f(k, a); }`
+unfoldable pub down : {A : Type 0} → (ℕ → A → A) → ℕ → A → A
+down f zero a = a
+down f (suc k) a = down f k (f (suc k) a)
+
+-- whether p holds of some i from i to n - 1
+unfoldable pub anyFor : (ℕ → Bool) → ℕ → ℕ → Bool
+anyFor p zero i = false
+anyFor p (suc m) i = p i || anyFor p m (suc i)
+
+unfoldable pub anyUp : (ℕ → Bool) → ℕ → ℕ → Bool
+unfolding anyFor
+anyUp p i n = anyFor p (n - i) i
+
+module _ {A : Type 0} (f : ℕ → A → A) where
+  pub up-step : (i n : ℕ) (a : A) → i < n → up f i n a ≡ up f (i + 1) n (f i a)
+  unfolding up turns
+  up-step i n a h = let e : n - i ≡ suc (n - (i + 1)) = omega arith in rw (e, add-one)
+
+  pub up-done : (i n : ℕ) (a : A) → n ≤ i → up f i n a ≡ a
+  unfolding up turns
+  up-done i n a h = let e : n - i ≡ 0 = omega arith in rw e
+
+  pub down-step : (k : ℕ) (a : A) → 0 < k → down f k a ≡ down f (k - 1) (f k a)
+  unfolding down
+  down-step zero a h = absurd (omega arith)
+  down-step (suc k) a h = let e : suc k - 1 ≡ k = omega arith in rw e
+
+  pub down-done : (k : ℕ) (a : A) → k ≤ 0 → down f k a ≡ a
+  unfolding down
+  down-done zero a h = refl
+  down-done (suc k) a h = absurd (omega arith)
+
+module _ (p : ℕ → Bool) where
+  pub any-hit : (i n : ℕ) → i < n → p i ≡ true → anyUp p i n ≡ true
+  unfolding anyUp anyFor
+  any-hit i n h t = let e : n - i ≡ suc (n - (i + 1)) = omega arith in rw (e, t)
+
+  pub any-miss : (i n : ℕ) → i < n → p i ≡ false → anyUp p i n ≡ anyUp p (i + 1) n
+  unfolding anyUp anyFor
+  any-miss i n h t = let e : n - i ≡ suc (n - (i + 1)) = omega arith in rw (e, t, add-one)
+
+  pub any-done : (i n : ℕ) → n ≤ i → anyUp p i n ≡ false
+  unfolding anyUp anyFor
+  any-done i n h = let e : n - i ≡ 0 = omega arith in rw e
+
+-- a fold over a list's elements, for a reader who prefers it to one over indices
+unfoldable pub over : {A B : Type 0} → (A → B → A) → A → List B → A
+over g a [] = a
+over g a (x ∷ l) = over g (g a x) l
+
+module _ {A B : Type 0} (g : A → B → A) (d : B) where
+  shift : (x : B) (l : List B) (m i : ℕ) (a : A) → turns (λ j b. g b (getD (x ∷ l) j d)) m (suc i) a ≡ turns (λ j b. g b (getD l j d)) m i a
+  unfolding turns
+  shift x l zero i a = refl
+  shift x l (suc m) i a = shift x l m (suc i) (g a (getD l i d))
+
+  turns-over : (l : List B) (a : A) → turns (λ j b. g b (getD l j d)) (length l) 0 a ≡ over g a l
+  unfolding turns over
+  turns-over [] a = refl
+  turns-over (x ∷ l) a = shift x l (length l) 0 (g a x) ∙ turns-over l (g a x)
+
+  pub up-over : (l : List B) (a : A) → up (λ j b. g b (getD l j d)) 0 (length l) a ≡ over g a l
+  unfolding up
+  up-over l a = rw (sub-zero (length l)) (turns-over l a)

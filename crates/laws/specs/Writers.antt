@@ -1,0 +1,64 @@
+-- Writers that store what fits and always advance. A place stops at the largest usize, which no slice reaches, so nothing is required. Assumes nothing.
+use mathlib.Core.Path.{_≡_, refl, sym, ap, _∙_, subst}
+use mathlib.Core.List.{List, [], _∷_, _++_}
+use Prim.Native.Nat.{ℕ, zero, suc, _+_, _-_, _≤_, _<_}
+use native.Mathlib.Nat.{add-assoc, zero-add}
+use native.Mathlib.Omega.{arith}
+use lib.ListN.{length, take, drop, set, length-append}
+use lib.Seq.{set-out}
+use lib.Dec.{ltb}
+use mathlib.Core.Bool.{Bool, true, false}
+use borrow.Author.Tests.{ltb-true, ltb-false}
+use Rattle.laws.specs.Put.{put, length-put, put-put, put-eq}
+
+-- n, or the largest usize where n is above it
+abbrev pub place : ℕ → ℕ
+place n = n - (n - 18446744073709551615)
+
+module _ {A : Type 0} where
+  put-past : (l : List A) (i : ℕ) (vs : List A) → length l ≤ i → put l i vs ≡ l
+  unfolding put
+  put-past l i [] h = refl
+  put-past l i (a ∷ vs) h = rw (set-out l i a h) (put-past l (suc i) vs (omega arith))
+
+  -- `txt` stands in l from `at` on, as far as l goes, and `next` is the place after it
+  pub record Wrote (l : List A) (at : ℕ) (out : List A) (next : ℕ) (txt : List A) : Type 0 where
+    pub room : length l < 18446744073709551615
+    pub list : out ≡ put l at txt
+    pub next-is : next ≡ place (at + length txt)
+
+  stops : (l : List A) (n : ℕ) (vs : List A) → length l < 18446744073709551615 → put l (place n) vs ≡ put l n vs
+  stops l n vs h = go (ltb n 18446744073709551615) refl
+    where
+      go : (t : Bool) → ltb n 18446744073709551615 ≡ t → put l (place n) vs ≡ put l n vs
+      go true e = let w : place n ≡ n = omega (arith, ltb-true n 18446744073709551615 e) in ap (λ (i : ℕ). put l i vs) w
+      go false e = put-past l (place n) vs (omega (arith, ltb-false n 18446744073709551615 e)) ∙ sym (put-past l n vs (omega (arith, ltb-false n 18446744073709551615 e)))
+
+  -- two writers in a row are one
+  pub wrote-more : {l m out : List A} {at p q : ℕ} {txt ws : List A} → Wrote l at m p txt → Wrote m p out q ws → Wrote l at out q (txt ++ ws)
+  wrote-more {l} {m} {out} {at} {p} {q} {txt} {ws} u v =
+      let n : length (put l at txt) ≡ length l = length-put l at txt in
+      record {
+        room = u .room;
+        list = v .list ∙ rw (u .list, u .next-is) (stops (put l at txt) (at + length txt) ws (omega (arith, u .room)) ∙ put-put l at txt ws);
+        next-is = v .next-is ∙ rw (u .next-is, length-append) (omega arith);
+      }
+
+  -- the text by another name
+  pub wrote-as : {l out : List A} {at next : ℕ} {txt txt′ : List A} → txt ≡ txt′ → Wrote l at out next txt → Wrote l at out next txt′
+  wrote-as {l} {out} {at} {next} e w = subst (Wrote l at out next) e w
+
+  -- measured on an empty part
+  pub measured : {l out : List A} {n : ℕ} {txt : List A} → Wrote l 0 out n txt → n ≡ place (length txt)
+  measured {txt = txt} w = w .next-is ∙ ap place (zero-add (length txt))
+
+  -- an empty part stays empty
+  pub empty : {out : List A} {n : ℕ} {txt : List A} → Wrote [] 0 out n txt → out ≡ []
+  empty {txt = txt} w = w .list ∙ put-past [] 0 txt (omega arith)
+
+  -- written where it fits
+  pub fitted : {l out : List A} {n : ℕ} {txt : List A} → Wrote l 0 out n txt → length txt ≤ length l → (n ≡ length txt) × (out ≡ txt ++ drop (length txt) l)
+  fitted {l} {out} {n} {txt} w h = (
+    measured w ∙ omega (arith, w .room),
+    w .list ∙ put-eq l 0 txt (omega arith) ∙ ap (λ (i : ℕ). txt ++ drop i l) (zero-add (length txt)),
+  )
