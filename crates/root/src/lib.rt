@@ -1,0 +1,115 @@
+// The bits of the square root of a finite f64 above zero, nearest to the exact one, by whole numbers of 64 bits.
+ghost use mathlib.Core.Path.{_≡_};
+ghost use Prim.Native.Nat.{_+_, _*_, _^_, _≤_, _<_};
+ghost use Rattle.root.specs.Root.{step, wholeRoot, nearestOf, scale, scaled, evened, rootBits};
+
+// The root of the digits taken so far, the remainder, and the digits to come.
+pub struct Digits {
+    pub q: u64,
+    pub r: u64,
+    pub x: u64,
+}
+
+// A significand and its exponent.
+pub struct Scaled {
+    pub s: u64,
+    pub e: u64,
+}
+
+// Takes one digit.
+fn digit(d: Digits) -> Digits
+    requires { ⌜ (d .q < 2 ^ 53) × (d .r ≤ 2 * d .q) ⌝ }
+    ensures { λ r. ⌜ r ≡ step d ⌝ }
+{
+    let down = 4 * d.r + d.x / 4611686018427387904;
+    let t = 4 * d.q + 1;
+    let rest = 4 * (d.x % 4611686018427387904);
+    if t <= down {
+        return Digits {
+            q: 2 * d.q + 1,
+            r: down - t,
+            x: rest,
+        };
+    }
+    Digits {
+        q: 2 * d.q,
+        r: down,
+        x: rest,
+    }
+}
+
+// The whole root of a * 2^52, and its remainder.
+fn whole_root(a: u64) -> Digits
+    requires { ⌜ a < 2 ^ 54 ⌝ }
+    ensures { λ r. ⌜ r ≡ wholeRoot a ⌝ }
+{
+    let mut d = Digits {
+        q: 0,
+        r: 0,
+        x: a * 1024,
+    };
+    let mut left: u64 = 53;
+    while 0 < left {
+        d = digit(d);
+        left -= 1;
+    }
+    d
+}
+
+// The significand shifted up to 2^52 or more, 52 places at the most.
+fn scale_up(s0: u64, e0: u64) -> Scaled
+    requires { ⌜ (s0 < 2 ^ 53) × (e0 ≡ 65) ⌝ }
+    ensures { λ r. ⌜ (r ≡ scale 52 s0 e0) × (r .s < 2 ^ 53) × (r .e ≤ 65) ⌝ }
+{
+    let mut s = s0;
+    let mut e = e0;
+    let mut left: u64 = 52;
+    while 0 < left {
+        if 4503599627370496 <= s {
+            return Scaled { s: s, e: e };
+        }
+        s = 2 * s;
+        e -= 1;
+        left -= 1;
+    }
+    Scaled { s: s, e: e }
+}
+
+// The exponent and the significand of a number that is finite and above zero, split by shifts and masks.
+fn split(b: u64) -> Scaled
+    requires { ⌜ b < 2047 * 2 ^ 52 ⌝ }
+    ensures { λ r. ⌜ (r ≡ scaled b) × (r .s < 2 ^ 53) × (r .e < 2111) ⌝ }
+{
+    let field = b >> 52;
+    let low = b & 4503599627370495;
+    if field == 0 {
+        return scale_up(low, 65);
+    }
+    Scaled {
+        s: 4503599627370496 + low,
+        e: field + 64,
+    }
+}
+
+fn even(c: Scaled) -> u64
+    requires { ⌜ c .s < 2 ^ 53 ⌝ }
+    ensures { λ r. ⌜ (r ≡ evened c) × (r < 2 ^ 54) ⌝ }
+{
+    if c.e % 2 == 1 { c.s } else { 2 * c.s }
+}
+
+fn nearest(d: Digits) -> u64
+    requires { ⌜ d .q < 2 ^ 53 ⌝ }
+    ensures { λ r. ⌜ (r ≡ nearestOf d) × (r ≤ 2 ^ 53) ⌝ }
+{
+    if d.q < d.r { d.q + 1 } else { d.q }
+}
+
+pub fn root_bits(b: u64) -> u64
+    requires { ⌜ b < 2047 * 2 ^ 52 ⌝ }
+    ensures { λ r. ⌜ (r ≡ rootBits b) × (r < 2047 * 2 ^ 52) ⌝ }
+{
+    let c = split(b);
+    let p = nearest(whole_root(even(c)));
+    ((c.e + 959) / 2 - 1) * 4503599627370496 + p
+}
