@@ -1,11 +1,12 @@
 -- What a loop computes, as a definition, with the two laws that the loop's proof needs: one turn, and the end.
 -- Assumes nothing.
 use mathlib.Core.Path.{_≡_, refl, _∙_}
-use mathlib.Core.List.{List, [], _∷_}
+use mathlib.Core.List.{List, [], _∷_, _++_}
 use mathlib.Core.Bool.{Bool, true, false, _||_}
 use Prim.Native.Nat.{ℕ, zero, suc, _+_, _-_, _≤_, _<_}
-use native.Mathlib.Nat.{sub-zero}
-use lib.ListN.{length, getD}
+use native.Mathlib.Nat.{sub-zero, not-suc-le-zero}
+use lib.ListN.{length, getD, take, drop, drop-of-length-le}
+use lib.Seq.{drop-cons, take-nil}
 use native.Mathlib.Numerals.{add-one}
 use native.Mathlib.Omega.{arith}
 
@@ -84,3 +85,24 @@ module _ {A B : Type 0} (g : A → B → A) (d : B) where
   pub up-over : (l : List B) (a : A) → up (λ j b. g b (getD l j d)) 0 (length l) a ≡ over g a l
   unfolding up
   up-over l a = rw (sub-zero (length l)) (turns-over l a)
+
+  -- a fold over two lists joined is one fold after the other
+  pub over-join : (a : A) (p q : List B) → over g a (p ++ q) ≡ over g (over g a p) q
+  unfolding over
+  over-join a [] q = refl
+  over-join a (x ∷ p) q = over-join (g a x) p q
+
+  -- A fold over the n elements of l from i on, or as many as there are: one turn, and the two ends.
+  pub over-part-turn : (l : List B) (i n : ℕ) (a : A) → i < length l → 0 < n → over g (g a (getD l i d)) (take (n - 1) (drop (i + 1) l)) ≡ over g a (take n (drop i l))
+  unfolding over
+  over-part-turn l i zero a h k = absurd (not-suc-le-zero k)
+  over-part-turn l i (suc n) a h k = let e : suc n - 1 ≡ n = omega arith in rw (drop-cons l i d h, e, add-one)
+
+  pub over-part-none : (l : List B) (i n : ℕ) (a : A) → n ≤ 0 → over g a (take n (drop i l)) ≡ a
+  unfolding over
+  over-part-none l i zero a h = refl
+  over-part-none l i (suc n) a h = absurd (not-suc-le-zero h)
+
+  pub over-part-past : (l : List B) (i n : ℕ) (a : A) → length l ≤ i → over g a (take n (drop i l)) ≡ a
+  unfolding over
+  over-part-past l i n a h = rw (drop-of-length-le l h, take-nil n)

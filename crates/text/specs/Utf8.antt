@@ -1,0 +1,58 @@
+-- Well-formed UTF-8: Table 3-7 of the Unicode Standard.
+use mathlib.Core.Bool.{Bool, true, false, cond, _&&_}
+use mathlib.Core.List.{List, [], _∷_}
+use mathlib.Core.Option.{Option, none, some}
+use Prim.Native.Nat.{ℕ}
+use lib.Dec.{leb}
+use Rattle.laws.specs.Loops.{over}
+
+-- the bytes from lo to hi
+pub record Range : Type 0 where
+  pub lo : ℕ
+  pub hi : ℕ
+
+abbrev pub to : ℕ → ℕ → Range
+to a b = record { lo = a; hi = b }
+
+-- Table 3-7: for each row the range of each byte, first to last
+abbrev pub rows : List (List Range)
+rows =
+    (to 0x00 0x7f ∷ [])
+    ∷ (to 0xc2 0xdf ∷ to 0x80 0xbf ∷ [])
+    ∷ (to 0xe0 0xe0 ∷ to 0xa0 0xbf ∷ to 0x80 0xbf ∷ [])
+    ∷ (to 0xe1 0xec ∷ to 0x80 0xbf ∷ to 0x80 0xbf ∷ [])
+    ∷ (to 0xed 0xed ∷ to 0x80 0x9f ∷ to 0x80 0xbf ∷ [])
+    ∷ (to 0xee 0xef ∷ to 0x80 0xbf ∷ to 0x80 0xbf ∷ [])
+    ∷ (to 0xf0 0xf0 ∷ to 0x90 0xbf ∷ to 0x80 0xbf ∷ to 0x80 0xbf ∷ [])
+    ∷ (to 0xf1 0xf3 ∷ to 0x80 0xbf ∷ to 0x80 0xbf ∷ to 0x80 0xbf ∷ [])
+    ∷ (to 0xf4 0xf4 ∷ to 0x80 0x8f ∷ to 0x80 0xbf ∷ to 0x80 0xbf ∷ [])
+    ∷ []
+
+abbrev pub isIn : ℕ → Range → Bool
+isIn b r = leb (r .lo) b && leb b (r .hi)
+
+-- What must still come: the ranges of the bytes that the character lacks. `none` after an ill-formed byte.
+abbrev pub Awaited : Type 0
+Awaited = Option (List Range)
+
+-- the rest of the first row whose first range has b
+abbrev pub lookup : ℕ → List (List Range) → Awaited
+lookup b [] = none
+lookup b ([] ∷ rs) = lookup b rs
+lookup b ((r ∷ row) ∷ rs) = let later = lookup b rs in cond (isIn b r) (some row) later
+
+-- one byte
+abbrev pub byTable : Awaited → ℕ → Awaited
+byTable none b = none
+byTable (some []) b = lookup b rows
+byTable (some (r ∷ row)) b = cond (isIn b r) (some row) none
+
+-- no byte is lacking
+abbrev pub isDone : Awaited → Bool
+isDone none = false
+isDone (some []) = true
+isDone (some (r ∷ row)) = false
+
+-- a text is a run of whole characters
+abbrev pub wellFormed : List ℕ → Bool
+wellFormed s = isDone (over byTable (some []) s)
