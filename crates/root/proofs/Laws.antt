@@ -8,8 +8,9 @@ use native.Mathlib.Omega.{arith}
 use borrow.Author.Tests.{lt-ltb, le-ltb}
 use Rattle.root.specs.declared.Digits.{Digits}
 use Rattle.root.specs.declared.Scaled.{Scaled}
-use Rattle.root.specs.Root.{step, steps, scale, scaled, evened, wholeRoot, nearestOf, packed, rootBits}
-use Rattle.root.specs.Nearest.{Sound, step-sound}
+use Rattle.root.specs.Root.{scale, scaled, evened, wholeRoot, nearestRoot, packed, rootBits}
+use Rattle.root.specs.Nearest.{nearest-root-le}
+use Rattle.root.specs.Digits.{step, Sound, step-sound, sound-root}
 
 down : (k : ℕ) → suc k - 1 ≡ k
 down k = omega arith
@@ -20,19 +21,16 @@ twice-fits q h = omega arith
 pub twice-one-fits : (q : ℕ) → q < 2 ^ 53 → 2 * q + 1 < 2 ^ 64
 twice-one-fits q h = omega arith
 
-pub steps-turn : (n : ℕ) (d : Digits) → 0 < n → steps (n - 1) (step d) ≡ steps n d
-unfolding steps
-steps-turn zero d h = absurd (not-suc-le-zero h)
-steps-turn (suc n) d h = rw down
-
 pub sound-turn : (x0 n : ℕ) (d : Digits) → 0 < n → Sound x0 n d → Sound x0 (n - 1) (step d)
 sound-turn x0 zero d h g = absurd (not-suc-le-zero h)
 sound-turn x0 (suc n) d h g = rw down (step-sound x0 n d g)
 
-pub steps-end : (n : ℕ) (d : Digits) → n ≤ 0 → d ≡ steps n d
-unfolding steps
-steps-end zero d h = refl
-steps-end (suc n) d h = absurd (not-suc-le-zero h)
+pub sound-end : (a n : ℕ) (d : Digits) → a < 2 ^ 54 → n ≤ 0 → Sound (a * 1024) n d → (d .q ≡ wholeRoot (a * 2 ^ 52)) × (d .q * d .q + d .r ≡ a * 2 ^ 52)
+sound-end a zero d h k g = sound-root a d h g
+sound-end a (suc n) d h k g = absurd (not-suc-le-zero k)
+
+pub nearest-fits : (a p : ℕ) → a < 2 ^ 54 → p ≡ nearestRoot (a * 2 ^ 52) → p ≤ 2 ^ 53
+nearest-fits a p h e = rw e (nearest-root-le (a * 2 ^ 52) (omega arith))
 
 pub scale-turn : (n s e : ℕ) → 0 < n → s < 2 ^ 52 → scale (n - 1) (2 * s) (e - 1) ≡ scale n s e
 unfolding scale
@@ -52,6 +50,6 @@ scale-end (suc n) s e k = absurd (not-suc-le-zero k)
 pub low-is : (b : ℕ) → bitAnd b 4503599627370495 ≡ b % 2 ^ 52
 low-is b = and-mask b 52
 
-pub rootBits-is : (b : ℕ) (c : Scaled) (a p : ℕ) (d : Digits) → c ≡ scaled b → a ≡ evened c → d ≡ wholeRoot a → p ≡ nearestOf d → packed (c .e) p ≡ rootBits b
+pub rootBits-is : (b : ℕ) (c : Scaled) (a p : ℕ) → c ≡ scaled b → a ≡ evened c → p ≡ nearestRoot (a * 2 ^ 52) → packed (c .e) p ≡ rootBits b
 unfolding rootBits
-rootBits-is b c a p d e1 e2 e3 e4 = rw (← e1, ← e2, ← e3, ← e4)
+rootBits-is b c a p e1 e2 e3 = rw (← e1, ← e2, ← e3)

@@ -1,44 +1,37 @@
--- The square root of a binary64, from exponent and significand bits, with whole numbers below 2 ^ 64.
+-- The square root of a binary64 that is finite and above zero, from exponent and significand bits, by comparing whole-number squares:
+-- "the f64 nearest the exact square root of v, worked out from exponent and significand bits with whole numbers".
 use mathlib.Core.Bool.{Bool, true, false, cond}
 use Prim.Native.Nat.{ℕ, zero, suc, _+_, _-_, _*_, _/_, _%_, _^_}
 use lib.Dec.{leb, ltb, eqb}
-use Rattle.root.specs.declared.Digits.{Digits}
 use Rattle.root.specs.declared.Scaled.{Scaled}
 
--- `Digits` is the root q of the digits to the base 4 that were taken so far, the remainder r, and the digits still to come, in the top places of x.
+-- The digit 2 ^ k joins q where the square then is at most n.
+abbrev pub withDigit : ℕ → ℕ → ℕ → ℕ
+withDigit n k q = cond (leb ((q + 2 ^ k) * (q + 2 ^ k)) n) (q + 2 ^ k) q
+
+-- q, with each of the k lowest binary digits tried, the highest first
+unfoldable pub digits : ℕ → ℕ → ℕ → ℕ
+digits n zero q = q
+digits n (suc k) q = digits n k (withDigit n k q)
+
+-- The whole root: the largest q with q * q ≤ n, for n below 2 ^ 106 (`whole-root` of Nearest).
+unfoldable pub wholeRoot : ℕ → ℕ
+wholeRoot n = digits n 53 0
+
+-- The whole number nearest to the exact root: up where q + 1/2 is at most that root. There is no tie: the odd square (2 q + 1) * (2 q + 1) is never 4 n (`no-tie` of Nearest).
+unfoldable pub nearestRoot : ℕ → ℕ
+nearestRoot n = let q = wholeRoot n in cond (leb ((2 * q + 1) * (2 * q + 1)) (4 * n)) (q + 1) q
+
 -- `Scaled` is a significand s shifted up to 2 ^ 52 or more, and its exponent e, which falls along.
-
--- one digit: bring it down, and append 1 to the root if 4 q + 1 fits into the remainder, else 0
-abbrev pub step : Digits → Digits
-step d =
-    let down = 4 * d .r + d .x / 2 ^ 62 in
-    let t = 4 * d .q + 1 in
-    let rest = 4 * (d .x % 2 ^ 62) in
-    cond (leb t down) (record { q = 2 * d .q + 1; r = down - t; x = rest }) (record { q = 2 * d .q; r = down; x = rest })
-
-unfoldable pub steps : ℕ → Digits → Digits
-steps zero d = d
-steps (suc k) d = steps k (step d)
-
-abbrev pub begin : ℕ → Digits
-begin x = record { q = 0; r = 0; x = x }
-
--- the whole root of a * 2 ^ 52 with its remainder: 53 digits of a, which is below 2 ^ 54
-abbrev pub wholeRoot : ℕ → Digits
-wholeRoot a = steps 53 (begin (a * 1024))
-
--- the nearest whole number to the root
-abbrev pub nearestOf : Digits → ℕ
-nearestOf d = cond (ltb (d .q) (d .r)) (d .q + 1) (d .q)
-
 unfoldable pub scale : ℕ → ℕ → ℕ → Scaled
 scale zero s e = record { s = s; e = e }
 scale (suc k) s e = let more = scale k (2 * s) (e - 1) in cond (ltb s (2 ^ 52)) more (record { s = s; e = e })
 
--- The bits of the root from those of a number b that is finite and above zero. Exponents count from 64 more than the field has.
+-- The significand and the exponent of the bits b. Exponents count from 64 more than the field has, so that a subnormal number's stay above zero.
 abbrev pub scaled : ℕ → Scaled
 scaled b = cond (eqb (b / 2 ^ 52) 0) (scale 52 (b % 2 ^ 52) 65) (record { s = 2 ^ 52 + b % 2 ^ 52; e = b / 2 ^ 52 + 64 })
 
+-- the significand that goes with an odd exponent, whose power of two then is a square
 abbrev pub evened : Scaled → ℕ
 evened c = cond (eqb (c .e % 2) 1) (c .s) (2 * c .s)
 
@@ -46,5 +39,6 @@ evened c = cond (eqb (c .e % 2) 1) (c .s) (2 * c .s)
 abbrev pub packed : ℕ → ℕ → ℕ
 packed e p = ((e + 959) / 2 - 1) * 2 ^ 52 + p
 
+-- The bits of the root from those of a number that is finite and above zero. That they are the nearest binary64's is `root-closest` of Closest.
 unfoldable pub rootBits : ℕ → ℕ
-rootBits b = let c = scaled b in packed (c .e) (nearestOf (wholeRoot (evened c)))
+rootBits b = let c = scaled b in packed (c .e) (nearestRoot (evened c * 2 ^ 52))

@@ -1,7 +1,8 @@
 // The bits of the square root of a finite f64 above zero, nearest to the exact one, by whole numbers of 64 bits.
 ghost use mathlib.Core.Path.{_≡_};
 ghost use Prim.Native.Nat.{_+_, _*_, _^_, _≤_, _<_};
-ghost use Rattle.root.specs.Root.{step, wholeRoot, nearestOf, scale, scaled, evened, rootBits};
+ghost use Rattle.root.specs.Root.{wholeRoot, nearestRoot, scale, scaled, evened, rootBits};
+ghost use Rattle.root.specs.Digits.{step};
 
 // The root of the digits taken so far, the remainder, and the digits to come.
 pub struct Digits {
@@ -41,7 +42,7 @@ fn digit(d: Digits) -> Digits
 // The whole root of a * 2^52, and its remainder.
 fn whole_root(a: u64) -> Digits
     requires { ⌜ a < 2 ^ 54 ⌝ }
-    ensures { λ r. ⌜ r ≡ wholeRoot a ⌝ }
+    ensures { λ r. ⌜ (r .q ≡ wholeRoot (a * 2 ^ 52)) × (r .q * r .q + r .r ≡ a * 2 ^ 52) ⌝ }
 {
     let mut d = Digits {
         q: 0,
@@ -98,18 +99,21 @@ fn even(c: Scaled) -> u64
     if c.e % 2 == 1 { c.s } else { 2 * c.s }
 }
 
-fn nearest(d: Digits) -> u64
-    requires { ⌜ d .q < 2 ^ 53 ⌝ }
-    ensures { λ r. ⌜ (r ≡ nearestOf d) × (r ≤ 2 ^ 53) ⌝ }
+// The whole number nearest to the root of a * 2^52, digit by digit.
+fn by_digits(a: u64) -> u64
+    requires { ⌜ a < 2 ^ 54 ⌝ }
+    ensures { λ r. ⌜ (r ≡ nearestRoot (a * 2 ^ 52)) × (r ≤ 2 ^ 53) ⌝ }
 {
+    let d = whole_root(a);
     if d.q < d.r { d.q + 1 } else { d.q }
 }
 
+// The bits of the f64 nearest to the exact square root of the one with the bits b.
 pub fn root_bits(b: u64) -> u64
     requires { ⌜ b < 2047 * 2 ^ 52 ⌝ }
     ensures { λ r. ⌜ (r ≡ rootBits b) × (r < 2047 * 2 ^ 52) ⌝ }
 {
     let c = split(b);
-    let p = nearest(whole_root(even(c)));
+    let p = by_digits(even(c));
     ((c.e + 959) / 2 - 1) * 4503599627370496 + p
 }
