@@ -3,12 +3,13 @@ use mathlib.Core.Path.{_≡_, refl, sym, ap, _∙_, subst}
 use mathlib.Core.List.{List, [], _∷_, _++_}
 use Prim.Native.Nat.{ℕ, zero, suc, _+_, _-_, _≤_, _<_}
 use native.Mathlib.Nat.{add-assoc, zero-add}
+use native.Mathlib.Numerals.{add-one}
 use native.Mathlib.Omega.{arith}
-use lib.ListN.{length, take, drop, set, length-append}
-use lib.Seq.{set-out}
-use lib.Dec.{ltb}
-use mathlib.Core.Bool.{Bool, true, false}
-use borrow.Author.Tests.{ltb-true, ltb-false}
+use lib.ListN.{length, take, drop, set, getD, length-append}
+use lib.Seq.{set-out, take-suc}
+use lib.Dec.{ltb, leb}
+use mathlib.Core.Bool.{Bool, true, false, cond}
+use borrow.Author.Tests.{ltb-true, ltb-false, le-leb, lt-leb}
 use Rattle.laws.specs.Put.{put, length-put, put-put, put-eq}
 
 -- n, or the largest usize where n is above it
@@ -44,6 +45,15 @@ module _ {A : Type 0} where
         next-is = v .next-is ∙ rw (u .next-is, length-append) (omega arith);
       }
 
+  -- nothing written yet
+  pub wrote-none : (l : List A) (at : ℕ) → length l < 18446744073709551615 → at ≤ 18446744073709551615 → Wrote l at l at []
+  unfolding put
+  wrote-none l at h k = record { room = h; list = refl; next-is = omega arith }
+
+  -- one element of s more
+  pub wrote-next : {l m out : List A} {at p q : ℕ} (s : List A) (i : ℕ) (d : A) → i < length s → Wrote l at m p (take i s) → Wrote m p out q (getD s i d ∷ []) → Wrote l at out q (take (i + 1) s)
+  wrote-next {l} {m} {out} {at} {p} {q} s i d h u v = subst (Wrote l at out q) (sym (take-suc s i d h) ∙ ap (λ (n : ℕ). take n s) (sym (add-one i))) (wrote-more u v)
+
   -- the text by another name
   pub wrote-as : {l out : List A} {at next : ℕ} {txt txt′ : List A} → txt ≡ txt′ → Wrote l at out next txt → Wrote l at out next txt′
   wrote-as {l} {out} {at} {next} e w = subst (Wrote l at out next) e w
@@ -62,3 +72,27 @@ module _ {A : Type 0} where
     measured w ∙ omega (arith, w .room),
     w .list ∙ put-eq l 0 txt (omega arith) ∙ ap (λ (i : ℕ). txt ++ drop i l) (zero-add (length txt)),
   )
+
+  -- ---- a call that measures on an empty part and then writes, or refuses and changes nothing
+
+  -- the text and what stood after it, where it fits
+  abbrev pub after : List A → List A → List A
+  after txt out = cond (leb (length txt) (length out)) (txt ++ drop (length txt) out) out
+
+  -- the answer: the length where the text fits in `room`, else the refusal
+  abbrev pub answer : {R : Type 0} → (ℕ → R) → R → List A → ℕ → R
+  answer written refused txt room = cond (leb (length txt) room) (written (length txt)) refused
+
+  -- p is what the empty part came back as, n the length measured on it
+  module _ {R : Type 0} (written : ℕ → R) (refused : R) {p : List A} {n : ℕ} (txt out : List A) (w : Wrote [] 0 p n txt) (room : length out < 18446744073709551615) where
+    pub refuses : length (p ++ out) < n → (refused ≡ answer written refused txt (length out)) × (p ++ out ≡ after txt out)
+    refuses h =
+        let e : length out < length txt = omega (arith, measured w, length-append p out) in
+        (rw (lt-leb _ _ e), rw (lt-leb _ _ e) (ap (λ (l : List A). l ++ out) (empty w)))
+
+    pub writes : {q : List A} {m : ℕ} → n ≤ length (p ++ out) → Wrote (p ++ out) 0 q m txt → (written m ≡ answer written refused txt (length out)) × (q ≡ after txt out)
+    writes {q} {m} h v =
+        let k : length (p ++ out) ≡ length out = ap (λ (l : List A). length (l ++ out)) (empty w) in
+        let e : length txt ≤ length out = omega (arith, measured w) in
+        let f : (m ≡ length txt) × (q ≡ txt ++ drop (length txt) out) = fitted (subst (λ (l : List A). Wrote (l ++ out) 0 q m txt) (empty w) v) e in
+        (rw (le-leb _ _ e) (ap written (f .0)), rw (le-leb _ _ e) (f .1))

@@ -1,3 +1,4 @@
 pub mod Utf8
 pub mod Automaton
 pub mod Table
+pub mod Digits

@@ -1,7 +1,12 @@
-// Text in bytes: well-formed UTF-8, a byte at a time.
+// Text in bytes: well-formed UTF-8, a byte at a time; bytes and digits put into a lent slice.
+// A writer stores what fits and always advances: on an empty slice it measures.
 ghost use mathlib.Core.Path.{_≡_};
+ghost use mathlib.Core.List.{[], _∷_};
+ghost use Prim.Native.Nat.{_+_, _<_};
 ghost use lib.ListN.{take, drop};
+ghost use Rattle.laws.specs.Writers.{Wrote};
 ghost use Rattle.text.specs.Automaton.{within, lead, feedOf, feedAll};
+ghost use Rattle.text.specs.Digits.{digits};
 
 // The state next where b is in the range, and 8 where it is not.
 fn in_range(b: u8, lo: u8, hi: u8, next: u8) -> u8
@@ -85,4 +90,47 @@ pub fn feed_part(s: &[u8], a: usize, n: usize, st: u8) -> u8
         left -= 1;
     }
     t
+}
+
+// The byte b at `at`, where it fits; the next place.
+pub fn put_byte(out: &mut [u8], at: usize, b: u8) -> usize
+    ensures { λ r. ⌜ Wrote (now (out .entry)) at (now (out .exit)) r (b ∷ []) ⌝ }
+{
+    if at < out.len() {
+        out[at] = b;
+        return at + 1;
+    }
+    if at < 18446744073709551615 {
+        return at + 1;
+    }
+    at
+}
+
+// The bytes of s.
+pub fn put_bytes(out: &mut [u8], at: usize, s: &[u8]) -> usize
+    ensures { λ r. ⌜ Wrote (now (out .entry)) at (now (out .exit)) r (now (s .entry)) ⌝ }
+{
+    let mut next = at;
+    for i in 0..s.len() {
+        next = put_byte(out, next, s[i]);
+    }
+    next
+}
+
+fn digit(n: u64) -> u8
+    requires { ⌜ n < 10 ⌝ }
+    ensures { λ r. ⌜ r ≡ 48 + n ⌝ }
+{
+    48 + (n as u8)
+}
+
+// The decimal digits of n.
+pub fn put_number(out: &mut [u8], at: usize, n: u64) -> usize
+    ensures { λ r. ⌜ Wrote (now (out .entry)) at (now (out .exit)) r (digits n) ⌝ }
+{
+    if n < 10 {
+        return put_byte(out, at, digit(n));
+    }
+    let next = put_number(out, at, n / 10);
+    put_byte(out, next, digit(n % 10))
 }

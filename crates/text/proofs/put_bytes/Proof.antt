@@ -1,0 +1,66 @@
+-- `text::put_bytes` meets its contract. The invariant: the bytes passed are written.
+use mathlib.Core.Path.{_≡_, refl, sym, _∙_}
+use Prim.Native.Nat.{ℕ, _+_, _-_, _≤_, _<_}
+use native.Mathlib.Omega.{arith}
+use lib.ListN.{length, take}
+use lib.Seq.{take-all}
+use denote.Ref.{now}
+use Rattle.laws.specs.Writers.{Wrote, wrote-none, wrote-next, wrote-as}
+use Rattle.text.proofs.put_bytes.Statement.{statement}
+use Rattle.text.proofs.put_bytes.Tie as tie
+use Rattle.text.proofs.put_bytes.Reads as reads
+use Rattle.text.proofs.put_bytes.Lts as lts
+use Rattle.text.proofs.put_byte.Reads as put-byte-reads
+
+abbrev Inv-loop : tie.InvT-loop
+Inv-loop out₀ at s next₀ i₀ i-end out next i = (i-end ≡ length s) × (i ≤ length s) × (length out ≡ length out₀) × Wrote out₀ at out next (take i s)
+
+abbrev μ-loop : tie.MeasureT-loop
+μ-loop out₀ at s next₀ i₀ i-end out next i = i-end - i
+
+-- src/lib.rt:114:5
+loop-holds : tie.Need-loop-holds Inv-loop μ-loop
+loop-holds c = (refl, omega arith, refl, wrote-none (now (c .before .before .args .out)) (c .before .before .args .at) (omega arith) (omega arith))
+
+-- src/lib.rt:115:36
+shared-slice-read-put-byte : tie.Need-shared-slice-read-put-byte Inv-loop μ-loop
+shared-slice-read-put-byte c = omega arith
+
+-- src/lib.rt:115:9
+put-byte-requires : tie.Need-put-byte-requires Inv-loop μ-loop
+put-byte-requires c κs = tt
+
+-- src/lib.rt:114:9
+add-i : tie.Need-add-i Inv-loop μ-loop
+add-i c = omega arith
+
+-- src/lib.rt:114:5
+loop-less : tie.Need-loop-less Inv-loop μ-loop
+loop-less c = omega arith
+
+-- src/lib.rt:114:5
+loop-again : tie.Need-loop-again Inv-loop μ-loop
+loop-again c = (c .before .before .before .before .before .before .loop .inv .0, omega arith, c .before .before .put-byte .kept .0 ∙ c .before .before .before .before .before .before .loop .inv .2, wrote-next (now (c .before .before .before .before .before .before .before .before .before .args .s)) (c .before .before .before .before .before .before .loop .i) 0 (omega arith) (c .before .before .before .before .before .before .loop .inv .3) (c .before .before .put-byte .ensures))
+
+-- src/lib.rt:110:1
+same-length : tie.Need-same-length Inv-loop μ-loop
+same-length c = c .before .loop .inv .2
+
+-- src/lib.rt:110:1
+returns : tie.Need-returns Inv-loop μ-loop
+returns c = wrote-as (take-all (c .before .loop .i) (now (c .before .before .before .before .args .s)) (omega arith)) (c .before .loop .inv .3)
+
+pub put-bytes-spec : {M : Type 1} → statement M
+put-bytes-spec =
+    tie.close
+    (tie.spec
+    Inv-loop
+    μ-loop
+    loop-holds
+    shared-slice-read-put-byte
+    put-byte-requires
+    add-i
+    loop-less
+    loop-again
+    same-length
+    returns)
