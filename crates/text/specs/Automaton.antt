@@ -2,9 +2,10 @@
 -- 0 between characters; 1, 2, 3 that many bytes to come; 4 after E0, 5 after ED, 6 after F0, 7 after F4; 8 ill-formed.
 use mathlib.Core.Bool.{Bool, true, false, cond}
 use mathlib.Core.List.{List, [], _∷_}
-use Prim.Native.Nat.{ℕ}
+use Prim.Native.Nat.{ℕ, _+_, _*_, _%_}
 use lib.Dec.{leb, eqb}
 use Rattle.laws.specs.Loops.{over}
+use Rattle.text.specs.Utf8.{payload}
 
 -- the state next where b is in the range, else 8
 abbrev pub within : ℕ → ℕ → ℕ → ℕ → ℕ
@@ -40,3 +41,12 @@ feedOf st b =
 -- the state after the bytes of s
 abbrev pub feedAll : ℕ → List ℕ → ℕ
 feedAll st s = over feedOf st s
+
+-- The value of the character so far, after the byte b in state st. Between the bytes of a character v is below 32768, so that no bit is lost.
+unfoldable pub gatherOf : ℕ → ℕ → ℕ → ℕ
+gatherOf st v b = cond (eqb st 0) (payload b) (64 * (v % 32768) + b % 64)
+
+-- f over the code points that the bytes of s complete, from state st, value v and a
+unfoldable pub readBy : {A : Type 0} → (A → ℕ → A) → ℕ → ℕ → A → List ℕ → A
+readBy f st v a [] = a
+readBy f st v a (b ∷ s) = readBy f (feedOf st b) (gatherOf st v b) (cond (eqb (feedOf st b) 0) (f a (gatherOf st v b)) a) s

@@ -1,4 +1,5 @@
 pub mod Utf8
 pub mod Automaton
 pub mod Table
+pub mod Codes
 pub mod Digits

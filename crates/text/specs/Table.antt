@@ -74,11 +74,11 @@ same-is (some r) (some q) t = ap some (row-is r q t)
 
 -- ---- the test
 -- f at each number below n
-abbrev below : (ℕ → Bool) → ℕ → Bool
+abbrev pub below : (ℕ → Bool) → ℕ → Bool
 below f zero = true
 below f (suc n) = f n && below f n
 
-below-at : (f : ℕ → Bool) (n k : ℕ) → T (below f n) → k < n → T (f k)
+pub below-at : (f : ℕ → Bool) (n k : ℕ) → T (below f n) → k < n → T (f k)
 below-at f zero k t h = absurd (not-suc-le-zero h)
 below-at f (suc n) k t h = go (eqb k n) refl (λ l. below-at f n k (and-r (f n) (below f n) t) l)
   where
@@ -135,7 +135,7 @@ all-high (suc (suc (suc (suc (suc (suc (suc (suc st)))))))) b k h = absurd (omeg
 out : (b lo hi next : ℕ) → hi < b → within b lo hi next ≡ 8
 out b lo hi next h = by-bool (leb lo b) (λ e. rw (e, lt-leb b hi h)) (λ e. rw e)
 
-feed-high : (st b : ℕ) → 256 ≤ b → feedOf st b ≡ 8
+pub feed-high : (st b : ℕ) → 256 ≤ b → feedOf st b ≡ 8
 unfolding feedOf lead
 feed-high st b h =
     rw (
@@ -166,7 +166,7 @@ feed-high st b h =
     eight : (a b c d e f g h : Bool) (x : ℕ) → cond a x (cond b x (cond c x (cond d x (cond e x (cond f x (cond g x (cond h x x))))))) ≡ x
     eight a b c d e f g h x = simp same
 
-feed-over : (st b : ℕ) → 8 ≤ st → feedOf st b ≡ 8
+pub feed-over : (st b : ℕ) → 8 ≤ st → feedOf st b ≡ 8
 unfolding feedOf
 feed-over st b h =
     rw (
@@ -180,7 +180,7 @@ feed-over st b h =
       ne-eqb st 7 (λ e. omega arith),
     )
 
-awaits-over : (st : ℕ) → 8 ≤ st → awaits st ≡ none
+pub awaits-over : (st : ℕ) → 8 ≤ st → awaits st ≡ none
 awaits-over st h = List·getD-eq-default states none h
 
 -- The automaton's step is the table's.

@@ -1,9 +1,9 @@
--- Well-formed UTF-8: Table 3-7 of the Unicode Standard.
+-- Well-formed UTF-8 and its code points: Tables 3-7 and 3-6 of the Unicode Standard.
 use mathlib.Core.Bool.{Bool, true, false, cond, _&&_}
 use mathlib.Core.List.{List, [], _∷_}
 use mathlib.Core.Option.{Option, none, some}
-use Prim.Native.Nat.{ℕ}
-use lib.Dec.{leb}
+use Prim.Native.Nat.{ℕ, _+_, _*_, _%_}
+use lib.Dec.{leb, ltb}
 use Rattle.laws.specs.Loops.{over}
 
 -- the bytes from lo to hi
@@ -56,3 +56,26 @@ isDone (some (r ∷ row)) = false
 -- a text is a run of whole characters
 abbrev pub wellFormed : List ℕ → Bool
 wellFormed s = isDone (over byTable (some []) s)
+
+-- Table 3-6: the bits that a character's first byte brings, 7 where it is the only byte, else 5, 4 or 3
+unfoldable pub payload : ℕ → ℕ
+payload b = cond (ltb b 0x80) b (cond (ltb b 0xe0) (b % 32) (cond (ltb b 0xf0) (b % 16) (b % 8)))
+
+-- the value so far, v, and one byte more: a later byte brings 6 bits
+abbrev pub gathered : Awaited → ℕ → ℕ → ℕ
+gathered none v b = v
+gathered (some []) v b = payload b
+gathered (some (r ∷ row)) v b = 64 * v + b % 64
+
+-- a character's code point is the value gathered when no byte is lacking any more
+unfoldable pub codesFrom : Awaited → ℕ → List ℕ → List ℕ
+codesFrom w v [] = []
+codesFrom w v (b ∷ s) =
+    let w′ = byTable w b in
+    let v′ = gathered w v b in
+    let rest = codesFrom w′ v′ s in
+    cond (isDone w′) (v′ ∷ rest) rest
+
+-- the code points of a text, in order
+abbrev pub codePoints : List ℕ → List ℕ
+codePoints s = codesFrom (some []) 0 s

@@ -5,7 +5,8 @@ ghost use mathlib.Core.List.{[], _∷_};
 ghost use Prim.Native.Nat.{_+_, _<_};
 ghost use lib.ListN.{take, drop};
 ghost use Rattle.laws.specs.Writers.{Wrote};
-ghost use Rattle.text.specs.Automaton.{within, lead, feedOf, feedAll};
+ghost use Rattle.text.specs.Utf8 as U;
+ghost use Rattle.text.specs.Automaton.{within, lead, feedOf, feedAll, gatherOf};
 ghost use Rattle.text.specs.Digits.{digits};
 
 // The state next where b is in the range, and 8 where it is not.
@@ -90,6 +91,32 @@ pub fn feed_part(s: &[u8], a: usize, n: usize, st: u8) -> u8
         left -= 1;
     }
     t
+}
+
+// The bits of a code point that a character's first byte brings.
+fn payload(b: u8) -> u8
+    ensures { λ r. ⌜ r ≡ U.payload b ⌝ }
+{
+    if b < 0x80 {
+        return b;
+    }
+    if b < 0xe0 {
+        return b % 32;
+    }
+    if b < 0xf0 {
+        return b % 16;
+    }
+    b % 8
+}
+
+// The value of the character so far, after the byte b in state st: its code point where `feed(st, b)` is 0.
+pub fn gather(st: u8, v: u32, b: u8) -> u32
+    ensures { λ r. ⌜ r ≡ gatherOf st v b ⌝ }
+{
+    if st == 0 {
+        return payload(b) as u32;
+    }
+    64 * (v % 32768) + (b % 64) as u32
 }
 
 // The byte b at `at`, where it fits; the next place.
