@@ -1,9 +1,12 @@
 -- One turn of each loop, and bounds.
-use mathlib.Core.Path.{_≡_, refl}
-use Prim.Native.Nat.{_%_}
+use mathlib.Core.Path.{_≡_, refl, sym, subst}
+use mathlib.Core.Bool.{Bool, true, false, not}
+use lib.Dec.{T}
+use lib.Ieee.{Float, nan, inf, fin, binary64, ne, eq, isNan, nanBits}
+use lib.Ieee.Bits.{nanBits-above}
 use lib.Bits.{bitAnd, and-mask}
-use Prim.Native.Nat.{ℕ, zero, suc, _+_, _-_, _*_, _^_, _≤_, _<_}
-use native.Mathlib.Nat.{not-suc-le-zero}
+use Prim.Native.Nat.{ℕ, zero, suc, _+_, _-_, _*_, _/_, _%_, _^_, _≤_, _<_}
+use native.Mathlib.Nat.{not-suc-le-zero, mul-le-mul}
 use native.Mathlib.Omega.{arith}
 use borrow.Author.Tests.{lt-ltb, le-ltb}
 use Rattle.root.specs.declared.Digits.{Digits}
@@ -49,6 +52,36 @@ scale-end (suc n) s e k = absurd (not-suc-le-zero k)
 
 pub low-is : (b : ℕ) → bitAnd b 4503599627370495 ≡ b % 2 ^ 52
 low-is b = and-mask b 52
+
+-- ---- the halves of p
+pub low-half-is : (p : ℕ) → bitAnd p 67108863 ≡ p % 2 ^ 26
+low-half-is p = and-mask p 26
+
+low-half-lt : (p : ℕ) → bitAnd p 67108863 ≤ 2 ^ 26
+low-half-lt p = omega (arith, low-half-is p)
+
+pub high-square : (p : ℕ) → p ≤ 2 ^ 53 → p / 2 ^ 26 * (p / 2 ^ 26) ≤ 2 ^ 54
+high-square p h = let l : p / 2 ^ 26 ≤ 2 ^ 27 = omega arith in mul-le-mul l l
+
+pub cross-small : (p : ℕ) → p ≤ 2 ^ 53 → 2 * (p / 2 ^ 26) * bitAnd p 67108863 ≤ 2 ^ 54
+cross-small p h = let l : 2 * (p / 2 ^ 26) ≤ 2 ^ 28 = omega arith in mul-le-mul l (low-half-lt p)
+
+pub low-square : (p : ℕ) → bitAnd p 67108863 * bitAnd p 67108863 ≤ 2 ^ 52
+low-square p = mul-le-mul (low-half-lt p) (low-half-lt p)
+
+-- one way out of a test with a claim for true only
+pub not-claimed : {A : Type 0} → false ≡ true → A
+not-claimed e = absurd (subst T (sym e) tt)
+
+-- ---- floats
+pub no-nan : (v : Float) → ne v v ≡ false → T (not (isNan v))
+unfolding isNan ne eq
+no-nan nan e = not-claimed (sym e)
+no-nan (inf s) e = tt
+no-nan (fin s m e′) e = tt
+
+pub no-nan-bits : (n : ℕ) → n < 2047 * 2 ^ 52 → T (not (nanBits binary64 n))
+no-nan-bits n h = rw (nanBits-above binary64 n, le-ltb (2047 * 2 ^ 52) (n % 2 ^ 63) (omega arith)) tt
 
 pub rootBits-is : (b : ℕ) (c : Scaled) (a p : ℕ) → c ≡ scaled b → a ≡ evened c → p ≡ nearestRoot (a * 2 ^ 52) → packed (c .e) p ≡ rootBits b
 unfolding rootBits

@@ -1,5 +1,6 @@
 // The bits of the square root of a finite f64 above zero, nearest to the exact one, by whole numbers of 64 bits.
 ghost use mathlib.Core.Path.{_≡_};
+ghost use mathlib.Core.Bool.{true};
 ghost use Prim.Native.Nat.{_+_, _*_, _^_, _≤_, _<_};
 ghost use Rattle.root.specs.Root.{wholeRoot, nearestRoot, scale, scaled, evened, rootBits};
 ghost use Rattle.root.specs.Digits.{step};
@@ -108,12 +109,104 @@ fn by_digits(a: u64) -> u64
     if d.q < d.r { d.q + 1 } else { d.q }
 }
 
+// The bits of a / 2^52 as an f64 from 1 to 4.
+fn unit_bits(a: u64) -> u64
+    requires { ⌜ a < 2 ^ 54 ⌝ }
+    ensures { λ r. ⌜ r < 2047 * 2 ^ 52 ⌝ }
+{
+    if a < 9007199254740992 {
+        a + 4602678819172646912
+    } else {
+        a / 2 + 4607182418800017408
+    }
+}
+
+// Near to the root of x, from y near to 1 / root(x): g goes to the root and h to 1 / (2 root(x)),
+// then the exact rest of x over g * g, with g in two halves, corrects g once more. Nothing is claimed of the result.
+fn near_root(x: f64, y: f64) -> f64 {
+    let g0 = x * y;
+    let h0 = 0.5 * y;
+    let c0 = 1.5 - g0 * h0;
+    let g1 = g0 * c0;
+    let h1 = h0 * c0;
+    let c1 = 1.5 - g1 * h1;
+    let g2 = g1 * c1;
+    let h2 = h1 * c1;
+    let c2 = 1.5 - g2 * h2;
+    let g = g2 * c2;
+    let h = h2 * c2;
+    let t = g * 134217729.0;
+    let top = t - (t - g);
+    let low = g - top;
+    let rest = ((x - top * top) - 2.0 * top * low) - low * low;
+    g + rest * h
+}
+
+// A guess at the whole number nearest to the root of a * 2^52. Nothing is claimed of it but its size.
+fn guess(a: u64) -> u64
+    requires { ⌜ a < 2 ^ 54 ⌝ }
+    ensures { λ r. ⌜ r ≤ 2 ^ 53 ⌝ }
+{
+    let b = unit_bits(a);
+    let x = f64::from_bits(b);
+    let y = f64::from_bits(6910469410427058089 - b / 2);
+    let g = near_root(x, y);
+    if g != g {
+        return 0;
+    }
+    let w = f64::to_bits(g);
+    if w < 4602678819172646912 {
+        return 0;
+    }
+    if 4611686018427387904 < w {
+        return 0;
+    }
+    w - 4602678819172646912
+}
+
+// Whether p is seen to be the whole number nearest to the root of a * 2^52: p * (p - 1) is below that number, and p * (p + 1) is not,
+// compared by halves of 26 bits of p.
+fn is_nearest(a: u64, p: u64) -> bool
+    requires { ⌜ (a < 2 ^ 54) × (p ≤ 2 ^ 53) ⌝ }
+    ensures { λ r. ⌜ (r ≡ true → p ≡ nearestRoot (a * 2 ^ 52)) ⌝ }
+{
+    let h = p >> 26;
+    let l = p & 67108863;
+    let hh = h * h;
+    if a < hh {
+        return false;
+    }
+    let d = a - hh;
+    if 137438953472 <= d {
+        return false;
+    }
+    let n = d * 67108864;
+    let hl = 2 * h * l;
+    let ll = l * l;
+    if n + h <= hl + (ll - l) / 67108864 {
+        return false;
+    }
+    n <= hl + h + (ll + l) / 67108864
+}
+
+// The whole number nearest to the root of a * 2^52: a guess where it is seen to be right, else digit by digit.
+fn nearest(a: u64) -> u64
+    requires { ⌜ a < 2 ^ 54 ⌝ }
+    ensures { λ r. ⌜ (r ≡ nearestRoot (a * 2 ^ 52)) × (r ≤ 2 ^ 53) ⌝ }
+{
+    let p = guess(a);
+    if is_nearest(a, p) {
+        return p;
+    }
+    by_digits(a)
+}
+
 // The bits of the f64 nearest to the exact square root of the one with the bits b.
 pub fn root_bits(b: u64) -> u64
     requires { ⌜ b < 2047 * 2 ^ 52 ⌝ }
     ensures { λ r. ⌜ (r ≡ rootBits b) × (r < 2047 * 2 ^ 52) ⌝ }
 {
     let c = split(b);
-    let p = by_digits(even(c));
+    let p = nearest(even(c));
     ((c.e + 959) / 2 - 1) * 4503599627370496 + p
 }

@@ -1,6 +1,8 @@
 -- `root::by_digits` meets its contract.
 use Prim.Native.Nat.{_*_, _^_}
+use native.Mathlib.Omega.{arith}
 use borrow.Author.Needs.{needs}
+use Rattle.root.specs.Nearest.{whole-root-lt}
 use Rattle.root.specs.Digits.{digits-up, digits-stay}
 use Rattle.root.proofs.Laws.{nearest-fits}
 use Rattle.root.proofs.by_digits.Statement.{statement}
@@ -15,7 +17,7 @@ whole-root-requires c κs = search needs
 
 -- src/lib.rt:108:20
 add-result : tie.Need-add-result
-add-result c = search needs
+add-result c = omega (arith, c .before .before .before .whole-root .ensures .0, whole-root-lt (c .before .before .before .before .args .a * 2 ^ 52) (omega arith))
 
 -- src/lib.rt:103:1
 returns : tie.Need-returns
