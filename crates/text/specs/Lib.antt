@@ -2,4 +2,5 @@ pub mod Utf8
 pub mod Automaton
 pub mod Table
 pub mod Codes
+pub mod Encode
 pub mod Digits

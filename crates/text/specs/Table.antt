@@ -100,7 +100,7 @@ and-no true b e = e
 and-no false b e = refl
 
 -- b is above the range
-not-in : (b : ℕ) (r : Range) → r .hi < b → isIn b r ≡ false
+pub not-in : (b : ℕ) (r : Range) → r .hi < b → isIn b r ≡ false
 not-in b r h = and-no (leb (r .lo) b) (leb b (r .hi)) (lt-leb b (r .hi) h)
 
 no-lead : (b : ℕ) → 256 ≤ b → lookup b rows ≡ none
