@@ -98,7 +98,7 @@ between (fin s m e) (fin t n d) (fin u k g) h a =
     beside (m * up e) (n * up d) (k * up g) (down e) (down d) (down g) (down-pos e) (down-pos d) (down-pos g) s t u a
 
 -- what is above or below something is no NaN
-level-self : (s : Bool) (a : ℕ) → level s a s a ≡ true
+pub level-self : (s : Bool) (a : ℕ) → level s a s a ≡ true
 level-self true a = rw (eq-eqb a a refl)
 level-self false a = rw (eq-eqb a a refl)
 

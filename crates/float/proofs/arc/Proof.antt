@@ -1,0 +1,21 @@
+-- `float::arc` meets its contract.
+use Rattle.float.specs.Standins.{arc, halved}
+use borrow.Author.Needs.{needs}
+use Rattle.float.proofs.arc.Statement.{statement}
+use Rattle.float.proofs.arc.Tie as tie
+
+halved-requires : tie.Need-halved-requires
+halved-requires c κs = search needs
+
+halved-requires-2 : tie.Need-halved-requires-2
+halved-requires-2 c κs = search needs
+
+arc-series-requires : tie.Need-arc-series-requires
+arc-series-requires c κs = search needs
+
+returns : tie.Need-returns
+unfolding arc
+returns c = rw (← (c .before .before .halved .ensures), ← (c .before .halved2 .ensures), c .arc-series .ensures)
+
+pub arc-spec : {M : Type 1} → statement M
+arc-spec = tie.close (tie.spec halved-requires halved-requires-2 arc-series-requires returns)

@@ -1,0 +1,4 @@
+pub mod Ops
+pub mod Constants
+pub mod Standins
+pub mod Signs

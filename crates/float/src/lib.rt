@@ -1,0 +1,258 @@
+// The stand-ins for the library's float functions. Each operation rounds once.
+ghost use mathlib.Core.Path.{_≡_};
+ghost use Prim.Native.Nat.{_<_, _≤_};
+ghost use Rattle.float.specs.Standins as S;
+
+// The order of two numbers, as Rust names it.
+pub enum Ordering {
+    Less,
+    Equal,
+    Greater,
+}
+
+// Whether the sign bit is set.
+pub fn negative(v: f64) -> bool
+    ensures { λ r. ⌜ r ≡ S.negative v ⌝ }
+{
+    if v != v {
+        return false;
+    }
+    9223372036854775808 <= f64::to_bits(v)
+}
+
+pub fn abs(v: f64) -> f64
+    ensures { λ r. ⌜ r ≡ S.abs v ⌝ }
+{
+    if negative(v) { -v } else { v }
+}
+
+pub fn copysign(v: f64, s: f64) -> f64
+    ensures { λ r. ⌜ r ≡ S.copysign v s ⌝ }
+{
+    if negative(s) { -abs(v) } else { abs(v) }
+}
+
+pub fn signum(v: f64) -> f64
+    ensures { λ r. ⌜ r ≡ S.signum v ⌝ }
+{
+    if v != v {
+        return v;
+    }
+    copysign(1.0, v)
+}
+
+pub fn min(a: f64, b: f64) -> f64
+    ensures { λ r. ⌜ r ≡ S.min a b ⌝ }
+{
+    if a != a {
+        return b;
+    }
+    if b < a { b } else { a }
+}
+
+pub fn max(a: f64, b: f64) -> f64
+    ensures { λ r. ⌜ r ≡ S.max a b ⌝ }
+{
+    if a != a {
+        return b;
+    }
+    if a < b { b } else { a }
+}
+
+pub fn clamp(v: f64, low: f64, high: f64) -> f64
+    ensures { λ r. ⌜ r ≡ S.clamp v low high ⌝ }
+{
+    if v < low {
+        return low;
+    }
+    if high < v { high } else { v }
+}
+
+// The f64 nearest the exact square root; 0 for a negative number and for NaN.
+pub fn root(v: f64) -> f64
+    ensures { λ r. ⌜ r ≡ S.root v ⌝ }
+{
+    if v != v {
+        return 0.0;
+    }
+    let b = f64::to_bits(v);
+    if b == 0 {
+        return v;
+    }
+    if b == 9223372036854775808 {
+        return v;
+    }
+    if 9223372036854775808 <= b {
+        return 0.0;
+    }
+    if 9218868437227405312 <= b {
+        return v;
+    }
+    f64::from_bits(root::root_bits(b))
+}
+
+pub fn hypot(a: f64, b: f64) -> f64
+    ensures { λ r. ⌜ r ≡ S.hypot a b ⌝ }
+{
+    root(a * a + b * b)
+}
+
+pub fn midpoint(a: f64, b: f64) -> f64
+    ensures { λ r. ⌜ r ≡ S.midpoint a b ⌝ }
+{
+    (a + b) / 2.0
+}
+
+// a % TAU, brought to 0 or above.
+pub fn rem_euclid(a: f64) -> f64
+    ensures { λ r. ⌜ r ≡ S.remEuclid a ⌝ }
+{
+    let r = a % 6.283185307179586;
+    if r < 0.0 { r + 6.283185307179586 } else { r }
+}
+
+// An angle brought to -PI .. PI.
+fn reduced(a: f64) -> f64
+    ensures { λ r. ⌜ r ≡ S.reduced a ⌝ }
+{
+    let r = a % 6.283185307179586;
+    if r > 3.141592653589793 {
+        return r - 6.283185307179586;
+    }
+    if r < -3.141592653589793 {
+        r + 6.283185307179586
+    } else {
+        r
+    }
+}
+
+// The divisor of turn k, for sine and for cosine.
+fn divisor(sine: bool, k: u32) -> u32
+    requires { ⌜ (0 < k) × (k ≤ 14) ⌝ }
+    ensures { λ r. ⌜ (r ≡ S.divisor sine k) × (r ≤ 812) ⌝ }
+{
+    if sine {
+        2 * k * (2 * k + 1)
+    } else {
+        (2 * k - 1) * (2 * k)
+    }
+}
+
+fn series(sine: bool, z: f64) -> f64
+    ensures { λ r. ⌜ r ≡ S.series (S.divisor sine) z ⌝ }
+{
+    let mut t = 1.0;
+    let mut k: u32 = 14;
+    while 0 < k {
+        let d = divisor(sine, k) as f64;
+        t = 1.0 - z / d * t;
+        k -= 1;
+    }
+    t
+}
+
+pub fn sin(a: f64) -> f64
+    ensures { λ r. ⌜ r ≡ S.sin a ⌝ }
+{
+    let r = reduced(a);
+    r * series(true, r * r)
+}
+
+pub fn cos(a: f64) -> f64
+    ensures { λ r. ⌜ r ≡ S.cos a ⌝ }
+{
+    let r = reduced(a);
+    series(false, r * r)
+}
+
+fn halved(u: f64) -> f64
+    ensures { λ r. ⌜ r ≡ S.halved u ⌝ }
+{
+    u / (1.0 + root(1.0 + u * u))
+}
+
+fn arc_series(z: f64) -> f64
+    ensures { λ r. ⌜ r ≡ S.arcSeries z ⌝ }
+{
+    let mut t = 1.0 / 25.0;
+    let mut n: u32 = 12;
+    while 0 < n {
+        let d = (2 * (n - 1) + 1) as f64;
+        t = 1.0 / d - z * t;
+        n -= 1;
+    }
+    t
+}
+
+// The arctangent of w, from 0 to 1.
+fn arc(w: f64) -> f64
+    ensures { λ r. ⌜ r ≡ S.arc w ⌝ }
+{
+    let u = halved(halved(w));
+    4.0 * (u * arc_series(u * u))
+}
+
+fn share(b: f64, a: f64) -> f64
+    ensures { λ r. ⌜ r ≡ S.share b a ⌝ }
+{
+    if a == 0.0 { 0.0 } else { b / a }
+}
+
+// The angle of the upper right quarter.
+fn quarter(y: f64, x: f64) -> f64
+    ensures { λ r. ⌜ r ≡ S.quarter y x ⌝ }
+{
+    if x < y {
+        return 3.141592653589793 / 2.0 - arc(share(x, y));
+    }
+    arc(share(y, x))
+}
+
+pub fn atan2(y: f64, x: f64) -> f64
+    ensures { λ r. ⌜ r ≡ S.atan2 y x ⌝ }
+{
+    let first = quarter(abs(y), abs(x));
+    let half = turned(negative(x), first);
+    if negative(y) { -half } else { half }
+}
+
+fn turned(back: bool, angle: f64) -> f64
+    ensures { λ r. ⌜ r ≡ S.turned back angle ⌝ }
+{
+    if back {
+        3.141592653589793 - angle
+    } else {
+        angle
+    }
+}
+
+// Whether a stands before b.
+fn precedes(a: f64, b: f64) -> bool
+    ensures { λ r. ⌜ r ≡ S.precedes a b ⌝ }
+{
+    if a < b {
+        return true;
+    }
+    if a == b {
+        if negative(a) {
+            return !negative(b);
+        }
+        return false;
+    }
+    if a != a {
+        return false;
+    }
+    b != b
+}
+
+pub fn total_cmp(a: f64, b: f64) -> Ordering
+    ensures { λ r. ⌜ r ≡ S.totalCmp a b ⌝ }
+{
+    if precedes(a, b) {
+        return Ordering::Less;
+    }
+    if precedes(b, a) {
+        return Ordering::Greater;
+    }
+    Ordering::Equal
+}
