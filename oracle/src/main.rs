@@ -1,7 +1,9 @@
 //! The oracle: the Rust that Murshogi ports, with document 01's stand-ins, and what is made from
 //! its answers. README.md says how each part is run.
 
+mod generate;
 mod random;
+mod sheet;
 mod standin;
 mod vectors;
 
@@ -18,11 +20,18 @@ mod layout {
 #[allow(dead_code)]
 mod route {
     include!(concat!(env!("OUT_DIR"), "/route.rs"));
+    pub mod probe;
 }
 
 #[allow(dead_code)]
 mod svg {
     include!(concat!(env!("OUT_DIR"), "/svg.rs"));
+
+    pub fn head(tip: (f64, f64), angle: f64) -> String {
+        let mut out = String::new();
+        arrowhead(&mut out, tip, angle);
+        out
+    }
 }
 
 fn main() {

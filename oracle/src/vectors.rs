@@ -5,6 +5,9 @@
 //! first. The stream ends with a case of kind 0, whose payload is the number of cases before it.
 
 mod float;
+mod shapes;
+mod sheets;
+mod texts;
 
 use std::collections::BTreeMap;
 
@@ -25,8 +28,38 @@ pub mod kind {
     pub const SIGNUM: u8 = 13;
     pub const COPYSIGN: u8 = 14;
     pub const TOTAL_CMP: u8 = 15;
+    pub const CHECK: u8 = 16;
+    pub const LABEL_SIZE: u8 = 17;
+    pub const NUMBER: u8 = 18;
+    pub const PATH: u8 = 19;
+    pub const ARROWHEAD: u8 = 20;
+    pub const POLAR: u8 = 21;
+    pub const DOT: u8 = 22;
+    pub const LEN: u8 = 23;
+    pub const ANGLE: u8 = 24;
+    pub const UNIT_OR: u8 = 25;
+    pub const LEFT: u8 = 26;
+    pub const DIST: u8 = 27;
+    pub const OVERLAPS: u8 = 28;
+    pub const SPANNING: u8 = 29;
+    pub const GROWN: u8 = 30;
+    pub const TOUCHES: u8 = 31;
+    pub const BOX_DIST: u8 = 32;
+    pub const AT: u8 = 33;
+    pub const TANGENT: u8 = 34;
+    pub const ENDS: u8 = 35;
+    pub const SEGMENT_HITS: u8 = 36;
+    pub const SEGMENTS_CROSS: u8 = 37;
+    pub const TRACE: u8 = 38;
+    pub const TRACE_HITS: u8 = 39;
+    pub const TRACES_CROSS: u8 = 40;
     /// A kind and its payload with another answer.
     pub const SPOILED: u8 = 255;
+}
+
+/// Whether the program `vectors` replays cases of this kind.
+fn replayed(kind: u8) -> bool {
+    matches!(kind, 0..=9 | 11..=15 | kind::SPOILED)
 }
 
 /// A case's payload as it is put together.
@@ -60,6 +93,23 @@ impl Payload {
         self
     }
 
+    pub fn flag(self, b: bool) -> Self {
+        self.byte(u8::from(b))
+    }
+
+    pub fn point(self, p: (f64, f64)) -> Self {
+        self.floats(&[p.0, p.1])
+    }
+
+    /// A curve: the number of its points, and eight coordinates, those not used 0.
+    pub fn curve(self, points: &[(f64, f64)]) -> Self {
+        let mut p = self.byte(points.len() as u8);
+        for i in 0..4 {
+            p = p.point(points.get(i).copied().unwrap_or((0.0, 0.0)));
+        }
+        p
+    }
+
     pub fn floats(self, vs: &[f64]) -> Self {
         vs.iter().fold(self, |p, &v| p.float(v))
     }
@@ -79,6 +129,9 @@ impl Stream {
     }
 
     pub fn case(&mut self, kind: u8, payload: Payload) {
+        if !replayed(kind) || (kind == kind::SPOILED && !replayed(payload.0[0])) {
+            return;
+        }
         let length = payload.0.len() as u32;
         assert!(length < 1 << 24);
         self.bytes.push(kind);
@@ -99,6 +152,9 @@ impl Stream {
 pub fn write(file: &str) {
     let mut out = Stream::default();
     float::cases(&mut out);
+    sheets::cases(&mut out);
+    texts::cases(&mut out);
+    shapes::cases(&mut out);
     for (kind, count) in &out.kinds {
         println!("kind {kind}: {count}");
     }

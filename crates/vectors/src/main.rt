@@ -1,0 +1,153 @@
+// Replays the oracle's answers, which stand in standard input, and prints for each kind of case
+// how many there were and how many differ. `oracle/README.md` says how the stream is made.
+ghost use Prim.Native.Nat.{_<_};
+
+mod floats;
+mod report;
+
+use libc::STDIN_FILENO;
+
+// One case more than any stream has; a longer stream counts as cut short.
+const MOST: u32 = 1000000;
+
+// A case that was read: its kind and its payload's length. Not whole where the input ended in it,
+// or where it is longer than any case.
+struct Case {
+    kind: u8,
+    length: usize,
+    whole: bool,
+}
+
+fn wide(b: u8) -> usize
+    ensures { λ r. ⌜ r < 256 ⌝ }
+{
+    b as usize
+}
+
+fn cut() -> Case {
+    Case {
+        kind: 0,
+        length: 0,
+        whole: false,
+    }
+}
+
+// Reads a case.
+fn next(payload: &mut [u8]) -> Case {
+    let mut head = [0u8; 4];
+    if io::read_full(STDIN_FILENO, &mut head) < 4 {
+        return cut();
+    }
+    let length = wide(head[1]) + 256 * wide(head[2]) + 65536 * wide(head[3]);
+    if length > payload.len() {
+        return cut();
+    }
+    if io::read_full(STDIN_FILENO, &mut payload[..length]) < length {
+        return cut();
+    }
+    Case {
+        kind: head[0],
+        length: length,
+        whole: true,
+    }
+}
+
+// Whether the program's answer to a case is the oracle's.
+fn agrees(kind: u8, p: &[u8]) -> bool {
+    if kind < 16 {
+        return floats::agrees(kind, p);
+    }
+    false
+}
+
+// A spoiled case is a kind and its payload with another answer; there the program must not agree.
+fn holds(kind: u8, p: &[u8]) -> bool {
+    if kind != 255 {
+        return agrees(kind, p);
+    }
+    if p.len() == 0 {
+        return false;
+    }
+    let inner = p[0];
+    if inner == 0 {
+        return false;
+    }
+    !agrees(inner, &p[1..])
+}
+
+// One more at the kind's place.
+fn count(list: &mut [u64], kind: u8) {
+    let k = wide(kind);
+    if k < list.len() {
+        list[k] = std::num::wrapping_add_u64(list[k], 1);
+    }
+}
+
+// Replays a case.
+fn tried(kind: u8, p: &[u8], cases: &mut [u64], differ: &mut [u64]) {
+    count(cases, kind);
+    if !holds(kind, p) {
+        count(differ, kind);
+    }
+}
+
+// What ended the replay: 0 nothing yet; 1 the case that ends the stream, with the right number of
+// cases; 2 that case with another number; 3 the input ended before it.
+fn turn(payload: &mut [u8], cases: &mut [u64], differ: &mut [u64], done: u64) -> u8 {
+    let c = next(payload);
+    let length = c.length;
+    if !c.whole {
+        return 3;
+    }
+    if length > payload.len() {
+        return 3;
+    }
+    if c.kind == 0 {
+        if replay::bits(&payload[..length], 0) == done {
+            return 1;
+        }
+        return 2;
+    }
+    tried(c.kind, &payload[..length], cases, differ);
+    0
+}
+
+fn replay_all(cases: &mut [u64], differ: &mut [u64]) -> u8 {
+    let mut payload = [0u8; 70000];
+    let mut done: u32 = 0;
+    while done < MOST {
+        let end = turn(&mut payload, cases, differ, done as u64);
+        if end != 0 {
+            return end;
+        }
+        done += 1;
+    }
+    3
+}
+
+fn at(list: &[u64], k: usize) -> u64 {
+    if k < list.len() { list[k] } else { 0 }
+}
+
+fn report_all(cases: &[u64], differ: &[u64]) {
+    let mut all: u64 = 0;
+    let mut bad: u64 = 0;
+    let mut kind: u8 = 0;
+    while kind < 255 {
+        kind += 1;
+        let n = at(cases, wide(kind));
+        let d = at(differ, wide(kind));
+        report::line(kind, n, d);
+        all = std::num::wrapping_add_u64(all, n);
+        bad = std::num::wrapping_add_u64(bad, d);
+    }
+    report::total(all, bad);
+}
+
+fn main() {
+    let mut cases = [0u64; 256];
+    let mut differ = [0u64; 256];
+    let end = replay_all(&mut cases, &mut differ);
+    report_all(&cases, &differ);
+    report::ending(end);
+}

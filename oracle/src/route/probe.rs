@@ -1,0 +1,137 @@
+//! What the oracle asks of the routing's private parts.
+
+use super::*;
+
+pub type Point = (f64, f64);
+
+fn v(p: Point) -> V {
+    V::new(p.0, p.1)
+}
+
+fn p(v: V) -> Point {
+    (v.x, v.y)
+}
+
+/// x0, y0, x1, y1.
+pub type Box4 = [f64; 4];
+
+fn rect(b: Box4) -> Rect {
+    Rect {
+        x0: b[0],
+        y0: b[1],
+        x1: b[2],
+        y1: b[3],
+    }
+}
+
+fn box4(r: Rect) -> Box4 {
+    [r.x0, r.y0, r.x1, r.y1]
+}
+
+/// The curve through two, three or four points.
+pub fn curve(points: &[Point]) -> Curve {
+    match *points {
+        [a, b] => Curve::Line(v(a), v(b)),
+        [a, c, b] => Curve::Quad(v(a), v(c), v(b)),
+        [a, c, d, b] => Curve::Cubic(v(a), v(c), v(d), v(b)),
+        _ => unreachable!("a curve has two to four points"),
+    }
+}
+
+pub fn polar(a: f64) -> Point {
+    p(V::polar(a))
+}
+
+pub fn dot(a: Point, b: Point) -> f64 {
+    v(a).dot(v(b))
+}
+
+pub fn len(a: Point) -> f64 {
+    v(a).len()
+}
+
+pub fn angle(a: Point) -> f64 {
+    v(a).angle()
+}
+
+pub fn unit_or(a: Point, fallback: Point) -> Point {
+    p(v(a).unit_or(v(fallback)))
+}
+
+pub fn left(a: Point) -> Point {
+    p(v(a).left())
+}
+
+pub fn dist(a: Point, b: Point) -> f64 {
+    v(a).dist(v(b))
+}
+
+pub fn overlaps(a: Box4, b: Box4) -> bool {
+    rect(a).overlaps(rect(b))
+}
+
+pub fn spanning(a: Point, b: Point) -> Box4 {
+    box4(Rect::spanning(v(a), v(b)))
+}
+
+pub fn grown(a: Box4, d: f64) -> Box4 {
+    box4(rect(a).grown(d))
+}
+
+pub fn touches(a: Box4, b: Box4) -> bool {
+    rect(a).touches(rect(b))
+}
+
+pub fn box_dist(a: Box4, b: Point) -> f64 {
+    rect(a).dist(v(b))
+}
+
+pub fn at(points: &[Point], t: f64) -> Point {
+    p(curve(points).at(t))
+}
+
+pub fn tangent(points: &[Point], t: f64) -> Point {
+    p(curve(points).tangent(t))
+}
+
+pub fn ends(points: &[Point]) -> (Point, Point) {
+    (p(curve(points).start()), p(curve(points).end()))
+}
+
+pub fn hits(a: Point, b: Point, r: Box4) -> bool {
+    segment_hits_rect(v(a), v(b), rect(r))
+}
+
+pub fn cross(a: Point, b: Point, c: Point, d: Point) -> bool {
+    segments_cross(v(a), v(b), v(c), v(d))
+}
+
+/// The trace's points and its bounds.
+pub fn trace(points: &[Point]) -> (Vec<Point>, Box4) {
+    let t = Trace::new(0, curve(points));
+    (t.points[..t.len].iter().map(|&q| p(q)).collect(), box4(t.bounds))
+}
+
+pub fn trace_hits(points: &[Point], r: Box4) -> bool {
+    Trace::new(0, curve(points)).hits_rect(rect(r))
+}
+
+pub fn traces_cross(a: &[Point], b: &[Point]) -> bool {
+    Trace::new(0, curve(a)).crosses(&Trace::new(1, curve(b)))
+}
+
+pub fn path(points: &[Point]) -> String {
+    let mut out = String::new();
+    curve(points).write_path(&mut out);
+    out
+}
+
+/// The written number, or refusal 10.
+pub fn number(x: f64) -> Result<String, u8> {
+    if x.is_finite() && x.abs() >= 1e13 {
+        return Err(10);
+    }
+    let mut out = String::new();
+    write_num(&mut out, x);
+    Ok(out)
+}

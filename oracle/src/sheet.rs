@@ -1,0 +1,228 @@
+//! Method sheets, read and written from document 01's words alone.
+
+use crate::graph::{Edge, Graph, Node};
+
+pub const STATES: usize = 64;
+pub const ARROWS: usize = 256;
+pub const LINES: usize = 8;
+pub const LINE_BYTES: usize = 96;
+pub const SHEET_BYTES: usize = 65_536;
+
+/// What a sheet says. A line is its text's pieces.
+#[derive(Clone, Debug, Default, PartialEq)]
+pub struct Sheet {
+    pub states: Vec<u8>,
+    pub arrows: Vec<Arrow>,
+}
+
+#[derive(Clone, Debug, Default, PartialEq)]
+pub struct Arrow {
+    pub from: u16,
+    pub to: u16,
+    pub lines: Vec<Line>,
+}
+
+pub type Line = Vec<Vec<u8>>;
+
+fn word(bytes: &[u8], at: usize) -> usize {
+    usize::from(bytes[at]) + 256 * usize::from(bytes[at + 1])
+}
+
+/// The sheet's meaning, or the number of the first refusal in document 01's order.
+pub fn read(bytes: &[u8]) -> Result<Sheet, u8> {
+    if bytes.len() < 16 || bytes.len() > SHEET_BYTES || bytes.len() != 16 * (1 + word(bytes, 2)) {
+        return Err(1);
+    }
+    if word(bytes, 0) != 1 {
+        return Err(2);
+    }
+    let records: Vec<&[u8]> = bytes[16..].chunks(16).collect();
+    if bytes[8..16].iter().any(|&b| b != 0) || !records.iter().all(|r| well_made(r)) {
+        return Err(4);
+    }
+    let mut walk = Walk {
+        met: vec![false; records.len()],
+        records,
+    };
+    let sheet = walk.sheet(word(bytes, 4), word(bytes, 6)).ok_or(3)?;
+    if walk.met.iter().any(|m| !m) {
+        return Err(3);
+    }
+    let lines = || sheet.arrows.iter().flat_map(|a| &a.lines);
+    if sheet.states.len() > STATES
+        || sheet.arrows.len() > ARROWS
+        || sheet.arrows.iter().any(|a| a.lines.len() > LINES)
+        || lines().any(|l| l.concat().len() > LINE_BYTES)
+    {
+        return Err(5);
+    }
+    if lines().any(|l| std::str::from_utf8(&l.concat()).is_err()) {
+        return Err(6);
+    }
+    Ok(sheet)
+}
+
+/// The kind is known, byte 1 is one that the kind allows, and every byte not named is zero.
+fn well_made(r: &[u8]) -> bool {
+    let used = match (r[0], r[1]) {
+        (1, 0..=3) => 4,
+        (2, 0) => 10,
+        (3, 0) => 6,
+        (4, n @ 1..=12) => 4 + usize::from(n),
+        _ => return false,
+    };
+    r[used..].iter().all(|&b| b == 0)
+}
+
+struct Walk<'a> {
+    records: Vec<&'a [u8]>,
+    met: Vec<bool>,
+}
+
+impl<'a> Walk<'a> {
+    /// The records of a chain, or none where an index is above the count, a record has another
+    /// kind, or one was met before.
+    fn chain(&mut self, kind: u8, first: usize) -> Option<Vec<&'a [u8]>> {
+        let mut list = Vec::new();
+        let mut at = first;
+        while at != 0 {
+            let record = *self.records.get(at - 1)?;
+            if record[0] != kind || self.met[at - 1] {
+                return None;
+            }
+            self.met[at - 1] = true;
+            list.push(record);
+            at = word(record, 2);
+        }
+        Some(list)
+    }
+
+    fn sheet(&mut self, state: usize, arrow: usize) -> Option<Sheet> {
+        let states = self.chain(1, state)?.iter().map(|r| r[1]).collect();
+        let mut arrows = Vec::new();
+        for a in self.chain(2, arrow)? {
+            let mut lines = Vec::new();
+            for l in self.chain(3, word(a, 8))? {
+                let texts = self.chain(4, word(l, 4))?;
+                lines.push(texts.iter().map(|t| t[4..4 + usize::from(t[1])].to_vec()).collect());
+            }
+            arrows.push(Arrow {
+                from: word(a, 4) as u16,
+                to: word(a, 6) as u16,
+                lines,
+            });
+        }
+        Some(Sheet { states, arrows })
+    }
+}
+
+impl Sheet {
+    pub fn graph(&self) -> Graph {
+        let nodes = self.states.iter().map(|s| Node {
+            is_start: s & 1 == 1,
+            is_final: s & 2 == 2,
+        });
+        let edges = self.arrows.iter().map(|a| Edge {
+            from: usize::from(a.from),
+            to: usize::from(a.to),
+            labels: a.lines.iter().map(|l| String::from_utf8(l.concat()).unwrap()).collect(),
+        });
+        Graph {
+            nodes: nodes.collect(),
+            edges: edges.collect(),
+        }
+    }
+
+    /// How many records the sheet takes.
+    pub fn records(&self) -> usize {
+        let lines = self.arrows.iter().flat_map(|a| &a.lines);
+        self.states.len() + self.arrows.len() + lines.map(|l| 1 + l.len()).sum::<usize>()
+    }
+
+    /// The sheet's bytes. `place` holds each record's number, from 1, in the order in which the
+    /// records are met.
+    pub fn bytes(&self, place: &[usize]) -> Vec<u8> {
+        let count = self.records();
+        assert!(place.len() == count);
+        let mut out = vec![0; 16 * (1 + count)];
+        let mut next = place.iter().copied();
+        let mut take = |n: usize| -> Vec<usize> { next.by_ref().take(n).collect() };
+        let states = take(self.states.len());
+        let arrows = take(self.arrows.len());
+        put(&mut out, 0, 1);
+        put(&mut out, 2, count);
+        put(&mut out, 4, first(&states));
+        put(&mut out, 6, first(&arrows));
+        chain(&mut out, 1, &states);
+        chain(&mut out, 2, &arrows);
+        for (s, &at) in self.states.iter().zip(&states) {
+            out[16 * at + 1] = *s;
+        }
+        for (a, &at) in self.arrows.iter().zip(&arrows) {
+            let lines = take(a.lines.len());
+            put(&mut out, 16 * at + 4, usize::from(a.from));
+            put(&mut out, 16 * at + 6, usize::from(a.to));
+            put(&mut out, 16 * at + 8, first(&lines));
+            chain(&mut out, 3, &lines);
+            for (l, &at) in a.lines.iter().zip(&lines) {
+                let texts = take(l.len());
+                put(&mut out, 16 * at + 4, first(&texts));
+                chain(&mut out, 4, &texts);
+                for (t, &at) in l.iter().zip(&texts) {
+                    out[16 * at + 1] = t.len() as u8;
+                    out[16 * at + 4..16 * at + 4 + t.len()].copy_from_slice(t);
+                }
+            }
+        }
+        out
+    }
+}
+
+/// Stores a number in two bytes.
+pub fn put(out: &mut [u8], at: usize, n: usize) {
+    out[at..at + 2].copy_from_slice(&(n as u16).to_le_bytes());
+}
+
+fn first(list: &[usize]) -> usize {
+    list.first().copied().unwrap_or(0)
+}
+
+fn chain(out: &mut [u8], kind: u8, list: &[usize]) {
+    for (i, &at) in list.iter().enumerate() {
+        out[16 * at] = kind;
+        put(out, 16 * at + 2, list.get(i + 1).copied().unwrap_or(0));
+    }
+}
+
+/// The label block's size, or 5 or 6.
+pub fn label_block(text: &[u8], lengths: &[usize]) -> Result<(f64, f64), u8> {
+    let sum: u128 = lengths.iter().map(|&n| n as u128).sum();
+    if lengths.len() > LINES || lengths.iter().any(|&n| n > LINE_BYTES) || sum != text.len() as u128 {
+        return Err(5);
+    }
+    let mut lines = Vec::new();
+    let mut at = 0;
+    for &n in lengths {
+        let line = std::str::from_utf8(&text[at..at + n]).map_err(|_| 6)?;
+        lines.push(line.to_string());
+        at += n;
+    }
+    Ok(crate::route::label_size(&lines))
+}
+
+#[cfg(test)]
+mod tests {
+    use super::*;
+
+    #[test]
+    fn worked() {
+        let empty = Sheet::default().bytes(&[]);
+        assert_eq!(read(&empty), Ok(Sheet::default()));
+        assert_eq!(read(&[&empty[..], &[0]].concat()), Err(1));
+        let one = Sheet { states: vec![1], arrows: vec![] };
+        let mut bytes = one.bytes(&[1]);
+        assert_eq!(read(&bytes), Ok(one));
+        put(&mut bytes, 18, 1);
+        assert_eq!(read(&bytes), Err(3));
+    }
+}
