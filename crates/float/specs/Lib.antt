@@ -2,3 +2,4 @@ pub mod Ops
 pub mod Constants
 pub mod Standins
 pub mod Signs
+pub mod Rounding

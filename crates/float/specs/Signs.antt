@@ -10,7 +10,7 @@ use lib.Ieee.{Float, nan, inf, fin, up, down, binary64, fits, isNan, toBits}
 use lib.Ieee as Ieee
 use lib.Ieee.Bits.{toBits-lt, nanBits-above}
 use lib.Ieee.Compare.{differs-from-itself}
-use Rattle.laws.specs.Between.{level-self}
+use Rattle.laws.specs.Between.{level-self, self-inf, self-num}
 use Rattle.float.specs.Ops.{neg, ne}
 use Rattle.float.specs.Standins.{negative, abs}
 
@@ -39,7 +39,7 @@ pub no-nan-bits : (n : ℕ) → n < 2047 * 2 ^ 52 → T (not (Ieee.nanBits binar
 no-nan-bits n h = rw (nanBits-above binary64 n, le-ltb (2047 * 2 ^ 52) (n % 2 ^ 63) (omega arith)) tt
 
 -- the sign does not enter what a format holds, nor the other bits
-fits-sign : (s t : Bool) (m : ℕ) (e : ℤ) → T (fits binary64 (fin s m e)) → T (fits binary64 (fin t m e))
+pub fits-sign : (s t : Bool) (m : ℕ) (e : ℤ) → T (fits binary64 (fin s m e)) → T (fits binary64 (fin t m e))
 unfolding fits
 fits-sign s t zero e h = h
 fits-sign s t (suc m) e h = h
@@ -48,7 +48,7 @@ signed : (m : ℕ) (e : ℤ) → toBits binary64 (fin true m e) ≡ 2 ^ 63 + toB
 unfolding toBits
 signed m e = omega arith
 
-low-bits : (m : ℕ) (e : ℤ) → T (fits binary64 (fin true m e)) → toBits binary64 (fin false m e) < 2 ^ 63
+pub low-bits : (m : ℕ) (e : ℤ) → T (fits binary64 (fin true m e)) → toBits binary64 (fin false m e) < 2 ^ 63
 low-bits m e h = omega (arith, toBits-lt binary64 (fin true m e) h, signed m e)
 
 -- the sign bit is the highest
@@ -70,3 +70,11 @@ pub abs-other : (v : Float) → negative v ≡ false → v ≡ abs v
 abs-other nan e = refl
 abs-other (inf s) e = rw e
 abs-other (fin s m x) e = rw e
+
+pub abs-num : (v a : Float) → a ≡ abs v → ne v v ≡ false → ne a a ≡ false
+abs-num v a e h = rw e (go v h)
+  where
+    go : (v : Float) → ne v v ≡ false → ne (abs v) (abs v) ≡ false
+    go nan h = h
+    go (inf s) h = self-inf false
+    go (fin s m x) h = self-num false m x

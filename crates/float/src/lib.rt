@@ -1,6 +1,7 @@
 // The stand-ins for the library's float functions. Each operation rounds once.
 ghost use mathlib.Core.Path.{_≡_};
-ghost use Prim.Native.Nat.{_<_, _≤_};
+ghost use Prim.Native.Nat.{_*_, _^_, _<_, _≤_};
+ghost use Rattle.root.specs.Rounded.{magnitude};
 ghost use Rattle.float.specs.Standins as S;
 
 // The order of two numbers, as Rust names it.
@@ -101,6 +102,35 @@ pub fn midpoint(a: f64, b: f64) -> f64
     ensures { λ r. ⌜ r ≡ S.midpoint a b ⌝ }
 {
     (a + b) / 2.0
+}
+
+// The whole number nearest the size that b stands for, a half upwards.
+fn half_up(b: u64) -> u64
+    requires { ⌜ b < 1075 * 2 ^ 52 ⌝ }
+    ensures { λ r. ⌜ (r ≡ S.halfUp (magnitude b) (2 ^ 1074)) × (r ≤ 2 ^ 53) ⌝ }
+{
+    let field = b >> 52;
+    if field < 1022 {
+        return 0;
+    }
+    let s = 4503599627370496 + (b & 4503599627370495);
+    let k = 1074 - field;
+    ((s >> k) + 1) / 2
+}
+
+// The whole number nearest v, a half away from zero.
+pub fn round(v: f64) -> f64
+    ensures { λ r. ⌜ r ≡ S.round v ⌝ }
+{
+    if v != v {
+        return v;
+    }
+    let b = f64::to_bits(abs(v));
+    if 4841369599423283200 <= b {
+        return v;
+    }
+    let size = half_up(b) as f64;
+    if negative(v) { -size } else { size }
 }
 
 // a % TAU, brought to 0 or above.

@@ -102,11 +102,11 @@ pub level-self : (s : Bool) (a : ℕ) → level s a s a ≡ true
 level-self true a = rw (eq-eqb a a refl)
 level-self false a = rw (eq-eqb a a refl)
 
-self-num : (s : Bool) (m : ℕ) (e : ℤ) → ne (fin s m e) (fin s m e) ≡ false
+pub self-num : (s : Bool) (m : ℕ) (e : ℤ) → ne (fin s m e) (fin s m e) ≡ false
 unfolding ne eq
 self-num s m e = rw (level-self s (m * up e * down e))
 
-self-inf : (s : Bool) → ne (inf s) (inf s) ≡ false
+pub self-inf : (s : Bool) → ne (inf s) (inf s) ≡ false
 unfolding ne eq
 self-inf true = refl
 self-inf false = refl
