@@ -1,0 +1,129 @@
+-- One turn of each walk.
+use mathlib.Core.Path.{_≡_, refl, sym, ap, _∙_}
+use mathlib.Core.Bool.{Bool, true, false, not, _||_}
+use mathlib.Core.List.{List, [], _∷_, _++_, map, flatMap, append-nil}
+use Prim.Native.Nat.{ℕ, zero, suc, _+_, _-_, _*_, _≤_, _<_, min}
+use native.Mathlib.Omega.{arith}
+use lib.ListN.{length, take, drop, length-append, length-take, length-drop}
+use Rattle.text.specs.Automaton.{feedAll}
+use Rattle.text.specs.Table.{feedAll-join, well-formed-is}
+use Rattle.sheet.specs.Sheet.{chainBy, next, piece, byteOne, count, firstText, firstArrow, lineOf, linesFrom, Arrow, arrowOf, arrowsOf}
+use Rattle.sheet.specs.Refusals.{any, longLine, largeArrow, overLimits, illLine, illArrow}
+use Rattle.sheet.specs.Sheet.{chain, firstLine, firstState, statesOf, meaning}
+use Rattle.sheet.specs.declared.Limits.{Limits}
+use borrow.Author.Tests.{lt-ltb, le-ltb}
+use lib.Dec.{ltb, eqb}
+use lib.ListN.{length-map}
+use Rattle.laws.specs.Loops.{over}
+use Rattle.sheet.specs.Chains.{chain-end, chain-cut, chain-turn}
+
+module _ (s : List ℕ) (n i k : ℕ) where
+  pub length-end : i ≡ 0 → k ≡ k + length (chainBy s n i)
+  length-end e = rw (chain-end s n i e) (omega arith)
+
+  pub length-cut : n ≡ 0 → k ≡ k + length (chainBy s n i)
+  length-cut e = rw (chain-cut s n i e) (omega arith)
+
+  pub length-turn : (n ≡ 0 → ⊥) → (i ≡ 0 → ⊥) → k + 1 + length (chainBy s (n - 1) (next s i)) ≡ k + length (chainBy s n i)
+  length-turn h e = rw (chain-turn s n i h e) (omega arith)
+
+  -- ---- the bytes of a line
+  pub bytes-end : i ≡ 0 → k ≡ k + length (flatMap (piece s) (chainBy s n i))
+  unfolding flatMap
+  bytes-end e = rw (chain-end s n i e) (omega arith)
+
+  pub bytes-cut : n ≡ 0 → k ≡ k + length (flatMap (piece s) (chainBy s n i))
+  unfolding flatMap
+  bytes-cut e = rw (chain-cut s n i e) (omega arith)
+
+  pub bytes-turn : (p : ℕ) → p ≡ length (piece s i) → (n ≡ 0 → ⊥) → (i ≡ 0 → ⊥)
+      → k + p + length (flatMap (piece s) (chainBy s (n - 1) (next s i))) ≡ k + length (flatMap (piece s) (chainBy s n i))
+  unfolding flatMap
+  bytes-turn p q h e = rw (chain-turn s n i h e, length-append (piece s i) (flatMap (piece s) (chainBy s (n - 1) (next s i))), ← q) (omega arith)
+
+  pub feed-end : i ≡ 0 → k ≡ feedAll k (flatMap (piece s) (chainBy s n i))
+  unfolding flatMap over
+  feed-end e = rw (chain-end s n i e)
+
+  pub feed-cut : n ≡ 0 → k ≡ feedAll k (flatMap (piece s) (chainBy s n i))
+  unfolding flatMap over
+  feed-cut e = rw (chain-cut s n i e)
+
+  pub feed-turn : (b t : ℕ) → b ≡ byteOne s i → t ≡ feedAll k (take b (drop (16 * i + 4) s)) → (n ≡ 0 → ⊥) → (i ≡ 0 → ⊥)
+      → feedAll t (flatMap (piece s) (chainBy s (n - 1) (next s i))) ≡ feedAll k (flatMap (piece s) (chainBy s n i))
+  unfolding flatMap
+  feed-turn b t q r h e = rw (chain-turn s n i h e, r, q) (sym (feedAll-join k (piece s i) (flatMap (piece s) (chainBy s (n - 1) (next s i)))))
+
+-- ---- where a piece ends
+module _ (s : List ℕ) (k n : ℕ) (q : n ≡ byteOne s k) where
+  pub piece-in : 16 * k + 4 + n ≤ length s → 16 * k + 4 + n ≡ 16 * k + 4 + length (piece s k)
+  piece-in h = rw (length-take (byteOne s k) (drop (16 * k + 4) s), length-drop (16 * k + 4) s, ← q) (omega arith)
+
+  pub piece-over : 16 * k + 4 ≤ length s → length s < 16 * k + 4 + n → length s ≡ 16 * k + 4 + length (piece s k)
+  piece-over h l = rw (length-take (byteOne s k) (drop (16 * k + 4) s), length-drop (16 * k + 4) s, ← q) (omega arith)
+
+  pub piece-out : length s < 16 * k + 4 → 16 * k + 4 ≡ 16 * k + 4 + length (piece s k)
+  piece-out h = rw (length-take (byteOne s k) (drop (16 * k + 4) s), length-drop (16 * k + 4) s, ← q) (omega arith)
+
+-- ---- where the walk along a line's pieces begins
+pub line-start : (s : List ℕ) (k i m : ℕ) → i ≡ firstText s k → m ≡ count s → 0 + length (flatMap (piece s) (chainBy s (m + 1) i)) ≡ length (lineOf s k)
+unfolding lineOf
+line-start s k i m e q = rw (e, q) (omega arith)
+
+pub feed-start : (s : List ℕ) (k i m : ℕ) → i ≡ firstText s k → m ≡ count s → feedAll 0 (flatMap (piece s) (chainBy s (m + 1) i)) ≡ feedAll 0 (lineOf s k)
+unfolding lineOf
+feed-start s k i m e q = rw (e, q)
+
+pub lines-start : (p : List ℕ → Bool) (s : List ℕ) (i m : ℕ) → m ≡ count s → any p (map (lineOf s) (chainBy s (m + 1) i)) ≡ any p (linesFrom s i)
+unfolding linesFrom
+lines-start p s i m q = rw q
+
+pub arrows-start : (p : Arrow → Bool) (s : List ℕ) (i m : ℕ) → i ≡ firstArrow s → m ≡ count s → any p (map (arrowOf s) (chainBy s (m + 1) i)) ≡ any p (arrowsOf s)
+unfolding arrowsOf
+arrows-start p s i m e q = rw (e, q)
+
+-- ---- the limits, by what the code has counted
+module _ (m : Limits) (s : List ℕ) (k f n : ℕ) (e : f ≡ firstLine s k) (q : n ≡ length (chain s f)) where
+  large-by : ltb (m .lines) n ≡ ltb (m .lines) (length (arrowOf s k .lines))
+  unfolding arrowOf linesFrom
+  large-by = rw (length-map (chain s (firstLine s k)) (lineOf s), ← e, ← q)
+
+  pub large-lines : m .lines < n → true ≡ largeArrow m (arrowOf s k)
+  unfolding largeArrow
+  large-lines h = rw (← large-by, lt-ltb (m .lines) n h)
+
+  pub large-rest : (b : Bool) → n ≤ m .lines → b ≡ any (longLine m) (linesFrom s f) → b ≡ largeArrow m (arrowOf s k)
+  unfolding largeArrow arrowOf
+  large-rest b h r = rw (← large-by, le-ltb (m .lines) n h, ← e) r
+
+module _ (m : Limits) (s : List ℕ) (f n : ℕ) (e : f ≡ firstState s) (q : n ≡ length (chain s f)) where
+  pub states-by : ltb (m .states) n ≡ ltb (m .states) (length (statesOf s))
+  unfolding statesOf
+  states-by = rw (length-map (chain s (firstState s)) (byteOne s), ← e, ← q)
+
+module _ (m : Limits) (s : List ℕ) (f n : ℕ) (e : f ≡ firstArrow s) (q : n ≡ length (chain s f)) where
+  pub arrows-by : ltb (m .arrows) n ≡ ltb (m .arrows) (length (arrowsOf s))
+  unfolding arrowsOf
+  arrows-by = rw (length-map (chain s (firstArrow s)) (arrowOf s), ← e, ← q)
+
+module _ (m : Limits) (s : List ℕ) where
+  pub over-states : ltb (m .states) (length (statesOf s)) ≡ true → true ≡ overLimits m (meaning s)
+  unfolding overLimits
+  over-states e = rw e
+
+  pub over-arrows : ltb (m .states) (length (statesOf s)) ≡ false → ltb (m .arrows) (length (arrowsOf s)) ≡ true → true ≡ overLimits m (meaning s)
+  unfolding overLimits
+  over-arrows e q = rw (e, q)
+
+  pub over-rest : (b : Bool) → ltb (m .states) (length (statesOf s)) ≡ false → ltb (m .arrows) (length (arrowsOf s)) ≡ false → b ≡ any (largeArrow m) (arrowsOf s)
+      → b ≡ overLimits m (meaning s)
+  unfolding overLimits
+  over-rest b e q r = rw (e, q) r
+
+-- ---- UTF-8
+pub ill-arrow : (s : List ℕ) (k f : ℕ) (b : Bool) → f ≡ firstLine s k → b ≡ any illLine (linesFrom s f) → illArrow (arrowOf s k) ≡ b
+unfolding illArrow arrowOf
+ill-arrow s k f b e q = rw (← e, ← q)
+
+pub ill-line : (s : List ℕ) (k st : ℕ) → st ≡ feedAll 0 (lineOf s k) → not (eqb st 0) ≡ illLine (lineOf s k)
+ill-line s k st e = rw (well-formed-is (lineOf s k), ← e)

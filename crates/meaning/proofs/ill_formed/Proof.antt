@@ -1,0 +1,104 @@
+use mathlib.Core.Path.{_≡_, refl, sym, _∙_, ap, ap₂}
+use mathlib.Core.List.{map}
+use Prim.Native.Nat.{ℕ, _+_, _-_, _*_, _<_, _≤_}
+use native.Mathlib.Omega.{arith}
+use denote.Ref.{now}
+use Rattle.sheet.specs.Sheet.{chainBy, arrowOf, arrowsOf, meaning}
+use Rattle.sheet.specs.Refusals.{any, illArrow, illFormed}
+use Rattle.sheet.specs.Chains.{any-end, any-cut, any-hit, any-miss}
+use Rattle.meaning.proofs.Laws.{arrows-start, ill-arrow}
+use borrow.Author.Needs.{needs}
+use Rattle.meaning.proofs.ill_formed.Statement.{statement}
+use Rattle.meaning.proofs.ill_formed.Tie as tie
+use Rattle.meaning.proofs.ill_formed.Reads as reads
+use Rattle.meaning.proofs.ill_formed.Lts as lts
+use Rattle.meaning.proofs.some_ill.Reads as some-ill-reads
+use Rattle.sheet.proofs.first_line_at.Reads as first-line-at-reads
+use Rattle.sheet.proofs.next_at.Reads as next-at-reads
+use Rattle.sheet.proofs.word_at.Reads as word-at-reads
+
+abbrev Inv-loop : tie.InvT-loop
+Inv-loop s i₀ left₀ i left = (any illArrow (map (arrowOf s) (chainBy s left i)) ≡ illFormed (meaning s)) × (i < 65536)
+
+abbrev μ-loop : tie.MeasureT-loop
+μ-loop s i₀ left₀ i left = left
+
+-- src/lib.rt:193:9
+word-at-requires : tie.Need-word-at-requires Inv-loop μ-loop
+word-at-requires c κs = search needs
+
+-- src/lib.rt:194:20
+word-at-requires-2 : tie.Need-word-at-requires-2 Inv-loop μ-loop
+word-at-requires-2 c κs = search needs
+
+-- src/lib.rt:194:20
+add-left : tie.Need-add-left Inv-loop μ-loop
+add-left c = search needs
+
+-- src/lib.rt:195:5
+loop-holds : tie.Need-loop-holds Inv-loop μ-loop
+unfolding illFormed
+loop-holds c = (arrows-start illArrow (now (c .before .before .before .args .s)) (c .before .word-at .result) (c .word-at2 .result) (c .before .word-at .ensures .0) (c .word-at2 .ensures .0), omega arith)
+
+-- src/lib.rt:197:13
+returns : tie.Need-returns Inv-loop μ-loop
+returns c = any-cut (now (c .before .before .before .before .before .before .args .s)) (arrowOf (now (c .before .before .before .before .before .before .args .s))) illArrow (c .before .before .loop .left) (c .before .before .loop .i) (c .if1 .taken) ∙ c .before .before .loop .inv .0
+
+-- src/lib.rt:199:24
+first-line-at-requires : tie.Need-first-line-at-requires Inv-loop μ-loop
+first-line-at-requires c κs = search needs
+
+-- src/lib.rt:199:12
+some-ill-requires : tie.Need-some-ill-requires Inv-loop μ-loop
+some-ill-requires c κs = search needs
+
+-- src/lib.rt:200:13
+returns-2 : tie.Need-returns-2 Inv-loop μ-loop
+returns-2 c = any-hit (now (c .before .before .before .before .before .before .before .before .before .args .s)) (arrowOf (now (c .before .before .before .before .before .before .before .before .before .args .s))) illArrow (c .before .before .before .before .before .loop .left) (c .before .before .before .before .before .loop .i) (c .before .before .before .if1 .left) (c .before .before .before .before .loop-test .taken)
+    (ill-arrow (now (c .before .before .before .before .before .before .before .before .before .args .s)) (c .before .before .before .before .before .loop .i) (c .before .before .first-line-at .result) (c .before .some-ill .result) (c .before .before .first-line-at .ensures .0) (c .before .some-ill .ensures) ∙ c .if2 .taken) ∙ c .before .before .before .before .before .loop .inv .0
+
+-- src/lib.rt:202:9
+next-at-requires : tie.Need-next-at-requires Inv-loop μ-loop
+next-at-requires c κs = search needs
+
+-- src/lib.rt:203:9
+sub-left : tie.Need-sub-left Inv-loop μ-loop
+sub-left c = search needs
+
+-- src/lib.rt:195:5
+loop-less : tie.Need-loop-less Inv-loop μ-loop
+loop-less c = search needs
+
+-- src/lib.rt:195:5
+loop-again : tie.Need-loop-again Inv-loop μ-loop
+loop-again c =
+    let s = now (c .before .before .before .before .before .before .before .before .before .before .args .s) in (
+      ap (λ (j : ℕ). any illArrow (map (arrowOf s) (chainBy s (c .before .before .before .before .before .before .loop .left - 1) j))) (c .next-at .ensures .0)
+          ∙ any-miss s (arrowOf s) illArrow (c .before .before .before .before .before .before .loop .left) (c .before .before .before .before .before .before .loop .i) (c .before .before .before .before .if1 .left) (c .before .before .before .before .before .loop-test .taken) (ill-arrow (now (c .before .before .before .before .before .before .before .before .before .before .args .s)) (c .before .before .before .before .before .before .loop .i) (c .before .before .before .first-line-at .result) (c .before .before .some-ill .result) (c .before .before .before .first-line-at .ensures .0) (c .before .before .some-ill .ensures) ∙ c .before .if2 .left)
+          ∙ c .before .before .before .before .before .before .loop .inv .0,
+      omega arith,
+    )
+
+-- src/lib.rt:190:1
+returns-3 : tie.Need-returns-3 Inv-loop μ-loop
+returns-3 c = any-end (now (c .before .before .before .before .before .args .s)) (arrowOf (now (c .before .before .before .before .before .args .s))) illArrow (c .before .loop .left) (c .before .loop .i) (c .loop-test .left) ∙ c .before .loop .inv .0
+
+pub ill-formed-spec : {M : Type 1} → statement M
+ill-formed-spec =
+    tie.close
+    (tie.spec
+    Inv-loop
+    μ-loop
+    word-at-requires
+    word-at-requires-2
+    add-left
+    loop-holds
+    returns
+    first-line-at-requires
+    some-ill-requires
+    returns-2
+    next-at-requires
+    sub-left
+    loop-less
+    loop-again
+    returns-3)

@@ -1,0 +1,92 @@
+use mathlib.Core.Path.{_≡_, refl, sym, _∙_, ap, ap₂}
+use mathlib.Core.List.{map}
+use Prim.Native.Nat.{ℕ, _+_, _-_, _*_, _<_, _≤_}
+use native.Mathlib.Omega.{arith}
+use denote.Ref.{now}
+use Rattle.sheet.specs.Sheet.{chainBy, lineOf, linesFrom}
+use Rattle.sheet.specs.Refusals.{any, illLine}
+use Rattle.sheet.specs.Chains.{any-end, any-cut, any-hit, any-miss}
+use Rattle.meaning.proofs.Laws.{lines-start}
+use borrow.Author.Needs.{needs}
+use Rattle.meaning.proofs.some_ill.Statement.{statement}
+use Rattle.meaning.proofs.some_ill.Tie as tie
+use Rattle.meaning.proofs.some_ill.Reads as reads
+use Rattle.meaning.proofs.some_ill.Lts as lts
+use Rattle.meaning.proofs.ill_line.Reads as ill-line-reads
+use Rattle.sheet.proofs.next_at.Reads as next-at-reads
+use Rattle.sheet.proofs.word_at.Reads as word-at-reads
+
+abbrev Inv-loop : tie.InvT-loop
+Inv-loop s first i₀ left₀ i left = (any illLine (map (lineOf s) (chainBy s left i)) ≡ any illLine (linesFrom s first)) × (i < 65536)
+
+abbrev μ-loop : tie.MeasureT-loop
+μ-loop s first i₀ left₀ i left = left
+
+-- src/lib.rt:175:20
+word-at-requires : tie.Need-word-at-requires Inv-loop μ-loop
+word-at-requires c κs = search needs
+
+-- src/lib.rt:175:20
+add-left : tie.Need-add-left Inv-loop μ-loop
+add-left c = search needs
+
+-- src/lib.rt:176:5
+loop-holds : tie.Need-loop-holds Inv-loop μ-loop
+loop-holds c = (lines-start illLine (now (c .before .before .args .s)) (c .before .before .args .first) (c .word-at .result) (c .word-at .ensures .0), omega arith)
+
+-- src/lib.rt:178:13
+returns : tie.Need-returns Inv-loop μ-loop
+returns c = any-cut (now (c .before .before .before .before .before .args .s)) (lineOf (now (c .before .before .before .before .before .args .s))) illLine (c .before .before .loop .left) (c .before .before .loop .i) (c .if1 .taken) ∙ c .before .before .loop .inv .0
+
+-- src/lib.rt:180:12
+ill-line-requires : tie.Need-ill-line-requires Inv-loop μ-loop
+ill-line-requires c κs = search needs
+
+-- src/lib.rt:181:13
+returns-2 : tie.Need-returns-2 Inv-loop μ-loop
+returns-2 c = any-hit (now (c .before .before .before .before .before .before .before .args .s)) (lineOf (now (c .before .before .before .before .before .before .before .args .s))) illLine (c .before .before .before .before .loop .left) (c .before .before .before .before .loop .i) (c .before .before .if1 .left) (c .before .before .before .loop-test .taken)
+    (sym (c .before .ill-line .ensures) ∙ c .if2 .taken) ∙ c .before .before .before .before .loop .inv .0
+
+-- src/lib.rt:183:9
+next-at-requires : tie.Need-next-at-requires Inv-loop μ-loop
+next-at-requires c κs = search needs
+
+-- src/lib.rt:184:9
+sub-left : tie.Need-sub-left Inv-loop μ-loop
+sub-left c = search needs
+
+-- src/lib.rt:176:5
+loop-less : tie.Need-loop-less Inv-loop μ-loop
+loop-less c = search needs
+
+-- src/lib.rt:176:5
+loop-again : tie.Need-loop-again Inv-loop μ-loop
+loop-again c =
+    let s = now (c .before .before .before .before .before .before .before .before .args .s) in (
+      ap (λ (j : ℕ). any illLine (map (lineOf s) (chainBy s (c .before .before .before .before .before .loop .left - 1) j))) (c .next-at .ensures .0)
+          ∙ any-miss s (lineOf s) illLine (c .before .before .before .before .before .loop .left) (c .before .before .before .before .before .loop .i) (c .before .before .before .if1 .left) (c .before .before .before .before .loop-test .taken) (sym (c .before .before .ill-line .ensures) ∙ c .before .if2 .left)
+          ∙ c .before .before .before .before .before .loop .inv .0,
+      omega arith,
+    )
+
+-- src/lib.rt:170:1
+returns-3 : tie.Need-returns-3 Inv-loop μ-loop
+returns-3 c = any-end (now (c .before .before .before .before .args .s)) (lineOf (now (c .before .before .before .before .args .s))) illLine (c .before .loop .left) (c .before .loop .i) (c .loop-test .left) ∙ c .before .loop .inv .0
+
+pub some-ill-spec : {M : Type 1} → statement M
+some-ill-spec =
+    tie.close
+    (tie.spec
+    Inv-loop
+    μ-loop
+    word-at-requires
+    add-left
+    loop-holds
+    returns
+    ill-line-requires
+    returns-2
+    next-at-requires
+    sub-left
+    loop-less
+    loop-again
+    returns-3)

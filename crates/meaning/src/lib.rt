@@ -1,0 +1,198 @@
+// What a sheet means, read out of its bytes by walks along its chains.
+ghost use mathlib.Core.Path.{_≡_};
+ghost use mathlib.Core.List.{map};
+ghost use Prim.Native.Nat.{_+_, _*_, _<_, _≤_};
+ghost use lib.ListN.{length};
+ghost use Rattle.laws.specs.Put.{put};
+ghost use Rattle.text.specs.Automaton.{feedAll};
+ghost use Rattle.sheet.specs.Sheet as S;
+ghost use Rattle.sheet.specs.Refusals as R;
+use sheet::Limits;
+use sheet::first_line_at;
+use sheet::first_text_at;
+use sheet::next_at;
+use sheet::one_at;
+use sheet::word_at;
+
+// How many records the chain from record `first` on has.
+pub fn chain_length(s: &[u8], first: usize) -> usize
+    requires { ⌜ first < 65536 ⌝ }
+    ensures { λ r. ⌜ (r ≡ length (S.chain (now (s .entry)) first)) × (r ≤ 65536) ⌝ }
+{
+    let mut i = first;
+    let mut left = word_at(s, 2) + 1;
+    let mut n = 0;
+    while i != 0 {
+        if left == 0 {
+            return n;
+        }
+        n += 1;
+        i = next_at(s, i);
+        left -= 1;
+    }
+    n
+}
+
+// The place after the bytes of text record k, which start at 16 k + 4.
+pub fn piece_end(s: &[u8], k: usize) -> usize
+    requires { ⌜ k < 65536 ⌝ }
+    ensures { λ r. ⌜ (r ≡ 16 * k + 4 + length (S.piece (now (s .entry)) k)) × (r ≤ 16 * k + 259) × (16 * k + 4 < r → r ≤ length (now (s .entry))) ⌝ }
+{
+    let a = 16 * k + 4;
+    let e = a + one_at(s, k);
+    if e <= s.len() {
+        return e;
+    }
+    if a <= s.len() {
+        return s.len();
+    }
+    a
+}
+
+// How many bytes the line of record k has.
+pub fn line_length(s: &[u8], k: usize) -> usize
+    requires { ⌜ k < 65536 ⌝ }
+    ensures { λ r. ⌜ r ≡ length (S.lineOf (now (s .entry)) k) ⌝ }
+{
+    let mut i = first_text_at(s, k);
+    let mut left = word_at(s, 2) + 1;
+    let mut n = 0;
+    while i != 0 {
+        if left == 0 {
+            return n;
+        }
+        n += piece_end(s, i) - (16 * i + 4);
+        i = next_at(s, i);
+        left -= 1;
+    }
+    n
+}
+
+// Whether a line of the chain from `first` on is longer than the limit.
+fn some_long(s: &[u8], first: usize, m: Limits) -> bool
+    requires { ⌜ first < 65536 ⌝ }
+    ensures { λ r. ⌜ r ≡ R.any (R.longLine m) (S.linesFrom (now (s .entry)) first) ⌝ }
+{
+    let mut i = first;
+    let mut left = word_at(s, 2) + 1;
+    while i != 0 {
+        if left == 0 {
+            return false;
+        }
+        if m.bytes < line_length(s, i) {
+            return true;
+        }
+        i = next_at(s, i);
+        left -= 1;
+    }
+    false
+}
+
+// Whether arrow record k has more lines, or a longer one, than the limits.
+fn large_arrow(s: &[u8], k: usize, m: Limits) -> bool
+    requires { ⌜ k < 65536 ⌝ }
+    ensures { λ r. ⌜ r ≡ R.largeArrow m (S.arrowOf (now (s .entry)) k) ⌝ }
+{
+    let first = first_line_at(s, k);
+    if m.lines < chain_length(s, first) {
+        return true;
+    }
+    some_long(s, first, m)
+}
+
+fn some_large(s: &[u8], m: Limits) -> bool
+    ensures { λ r. ⌜ r ≡ R.any (R.largeArrow m) (S.arrowsOf (now (s .entry))) ⌝ }
+{
+    let mut i = word_at(s, 6);
+    let mut left = word_at(s, 2) + 1;
+    while i != 0 {
+        if left == 0 {
+            return false;
+        }
+        if large_arrow(s, i, m) {
+            return true;
+        }
+        i = next_at(s, i);
+        left -= 1;
+    }
+    false
+}
+
+// Whether the sheet has more of something than the limits.
+pub fn over_limits(s: &[u8], m: Limits) -> bool
+    ensures { λ r. ⌜ r ≡ R.overLimits m (S.meaning (now (s .entry))) ⌝ }
+{
+    if m.states < chain_length(s, word_at(s, 4)) {
+        return true;
+    }
+    if m.arrows < chain_length(s, word_at(s, 6)) {
+        return true;
+    }
+    some_large(s, m)
+}
+
+// The state of the UTF-8 automaton after the line of record k.
+fn feed_line(s: &[u8], k: usize) -> u8
+    requires { ⌜ k < 65536 ⌝ }
+    ensures { λ r. ⌜ r ≡ feedAll 0 (S.lineOf (now (s .entry)) k) ⌝ }
+{
+    let mut i = first_text_at(s, k);
+    let mut left = word_at(s, 2) + 1;
+    let mut st: u8 = 0;
+    while i != 0 {
+        if left == 0 {
+            return st;
+        }
+        st = text::feed_part(s, 16 * i + 4, one_at(s, i), st);
+        i = next_at(s, i);
+        left -= 1;
+    }
+    st
+}
+
+// Whether the line of record k is not well-formed UTF-8.
+fn ill_line(s: &[u8], k: usize) -> bool
+    requires { ⌜ k < 65536 ⌝ }
+    ensures { λ r. ⌜ r ≡ R.illLine (S.lineOf (now (s .entry)) k) ⌝ }
+{
+    feed_line(s, k) != 0
+}
+
+// Whether a line of the chain from `first` on is not well-formed UTF-8.
+fn some_ill(s: &[u8], first: usize) -> bool
+    requires { ⌜ first < 65536 ⌝ }
+    ensures { λ r. ⌜ r ≡ R.any R.illLine (S.linesFrom (now (s .entry)) first) ⌝ }
+{
+    let mut i = first;
+    let mut left = word_at(s, 2) + 1;
+    while i != 0 {
+        if left == 0 {
+            return false;
+        }
+        if ill_line(s, i) {
+            return true;
+        }
+        i = next_at(s, i);
+        left -= 1;
+    }
+    false
+}
+
+// Whether a line of the sheet is not well-formed UTF-8.
+pub fn ill_formed(s: &[u8]) -> bool
+    ensures { λ r. ⌜ r ≡ R.illFormed (S.meaning (now (s .entry))) ⌝ }
+{
+    let mut i = word_at(s, 6);
+    let mut left = word_at(s, 2) + 1;
+    while i != 0 {
+        if left == 0 {
+            return false;
+        }
+        if some_ill(s, first_line_at(s, i)) {
+            return true;
+        }
+        i = next_at(s, i);
+        left -= 1;
+    }
+    false
+}

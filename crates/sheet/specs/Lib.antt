@@ -1,0 +1,3 @@
+pub mod Sheet
+pub mod Refusals
+pub mod Chains

@@ -1,0 +1,164 @@
+-- The walk, one record and one chain at a time.
+use mathlib.Core.Path.{_≡_, refl, sym, ap, _∙_}
+use mathlib.Core.Bool.{Bool, true, false, cond, _&&_, true≢false}
+use mathlib.Core.List.{List, [], _∷_, _++_, map, flatMap}
+use Prim.Native.Nat.{ℕ, zero, suc, _+_, _-_, _*_, _≤_, _<_}
+use lib.ListN.{length, getD, set, List·getD-eq-default}
+use native.Mathlib.Nat.{not-suc-le-zero, le-of-suc-le-suc}
+use borrow.Author.Tests.{lt-leb, le-leb, eq-eqb, ne-eqb, ltb-false, eqb-true, not-false}
+use native.Mathlib.Omega.{arith}
+use lib.Dec.{ltb}
+use Rattle.laws.specs.Cases.{by-bool}
+use Rattle.sheet.specs.Refusals.{wrongLength, wrongBytes, wrongChains, overLimits, illFormed, checkOf, decide}
+use Rattle.sheet.specs.declared.Checked.{Checked}
+use Rattle.sheet.specs.declared.Checked.the-variants.{Accepted, Refused}
+use Rattle.sheet.specs.declared.Limits.{Limits}
+use Rattle.sheet.specs.Sheet.{version, meaning, kindOf, chainBy, chain, next, count, Met, meet, metAlone, metLine, metArrow, met, firstText, firstLine, firstState, firstArrow}
+use Rattle.sheet.specs.Chains.{chain-end, chain-cut, chain-turn}
+use Rattle.walk.specs.Walk.{At, at, fresh, walk}
+
+-- ---- two lists in a row
+pub walk-then : (s : List ℕ) (xs ys : List Met) (m m′ : List ℕ) → at true m′ ≡ walk s xs m → walk s ys m′ ≡ walk s (xs ++ ys) m
+unfolding walk
+walk-then s [] ys m m′ e = ap (λ (a : At). walk s ys (a .marks)) e
+walk-then s (x ∷ xs) ys m m′ e = go (fresh s x m) refl (λ q. walk-then s xs ys (set m (x .index) 1) m′ q)
+  where
+    go : (b : Bool) → fresh s x m ≡ b → (at true m′ ≡ walk s xs (set m (x .index) 1) → walk s ys m′ ≡ walk s (xs ++ ys) (set m (x .index) 1))
+        → walk s ys m′ ≡ cond (fresh s x m) (walk s (xs ++ ys) (set m (x .index) 1)) (at false m)
+    go true f r = rw f (r (rw f at e))
+    go false f r = absurd (true≢false (ap (λ (a : At). a .ok) (rw f at e)))
+
+pub walk-stop : (s : List ℕ) (xs ys : List Met) (m m′ : List ℕ) → at false m′ ≡ walk s xs m → at false m′ ≡ walk s (xs ++ ys) m
+unfolding walk
+walk-stop s [] ys m m′ e = absurd (true≢false (sym (ap (λ (a : At). a .ok) e)))
+walk-stop s (x ∷ xs) ys m m′ e = go (fresh s x m) refl (λ q. walk-stop s xs ys (set m (x .index) 1) m′ q)
+  where
+    go : (b : Bool) → fresh s x m ≡ b → (at false m′ ≡ walk s xs (set m (x .index) 1) → at false m′ ≡ walk s (xs ++ ys) (set m (x .index) 1))
+        → at false m′ ≡ cond (fresh s x m) (walk s (xs ++ ys) (set m (x .index) 1)) (at false m)
+    go true f r = rw f (r (rw f at e))
+    go false f r = rw f (rw f at e)
+
+-- ---- a chain: f is what meeting a record brings
+module _ (s : List ℕ) (f : ℕ → List Met) (n i : ℕ) (m : List ℕ) where
+  pub chain-over : i ≡ 0 → at true m ≡ walk s (flatMap f (chainBy s n i)) m
+  unfolding flatMap walk
+  chain-over e = rw (chain-end s n i e)
+
+  pub chain-short : n ≡ 0 → at true m ≡ walk s (flatMap f (chainBy s n i)) m
+  unfolding flatMap walk
+  chain-short e = rw (chain-cut s n i e)
+
+  module _ (m′ : List ℕ) (h : n ≡ 0 → ⊥) (e : i ≡ 0 → ⊥) (b : Bool) (q : at b m′ ≡ walk s (f i) m) where
+    pub chain-on : b ≡ true → walk s (flatMap f (chainBy s (n - 1) (next s i))) m′ ≡ walk s (flatMap f (chainBy s n i)) m
+    unfolding flatMap
+    chain-on t = rw (chain-turn s n i h e) (walk-then s (f i) (flatMap f (chainBy s (n - 1) (next s i))) m m′ (rw t at q))
+
+    pub chain-bad : b ≡ false → at false m′ ≡ walk s (flatMap f (chainBy s n i)) m
+    unfolding flatMap
+    chain-bad t = rw (chain-turn s n i h e) (walk-stop s (f i) (flatMap f (chainBy s (n - 1) (next s i))) m m′ (rw t at q))
+
+-- ---- one record
+pub getD-any : (l : List ℕ) (i d e : ℕ) → i < length l → getD l i d ≡ getD l i e
+getD-any [] i d e h = absurd (not-suc-le-zero h)
+getD-any (x ∷ l) zero d e h = refl
+getD-any (x ∷ l) (suc i) d e h = getD-any l i d e (le-of-suc-le-suc h)
+
+module _ (s : List ℕ) (k i : ℕ) (m : List ℕ) where
+  pub meet-above : count s < i → at false m ≡ walk s (metAlone k i) m
+  unfolding walk fresh
+  meet-above h = rw (lt-leb i (count s) h)
+
+  module _ (h : i ≤ count s) where
+    pub meet-other : (kindOf s i ≡ k → ⊥) → at false m ≡ walk s (metAlone k i) m
+    unfolding walk fresh
+    meet-other e = rw (le-leb i (count s) h, ne-eqb (kindOf s i) k e)
+
+    module _ (e : kindOf s i ≡ k) where
+      pub meet-past : length m ≤ i → at false m ≡ walk s (metAlone k i) m
+      unfolding walk fresh
+      meet-past l = rw (le-leb i (count s) h, eq-eqb (kindOf s i) k e, List·getD-eq-default m 1 l)
+
+      pub meet-again : i < length m → (getD m i 0 ≡ 0 → ⊥) → at false m ≡ walk s (metAlone k i) m
+      unfolding walk fresh
+      meet-again l g = rw (le-leb i (count s) h, eq-eqb (kindOf s i) k e, getD-any m i 1 0 l, ne-eqb (getD m i 0) 0 g)
+
+      pub meet-first : i < length m → getD m i 0 ≡ 0 → at true (set m i 1) ≡ walk s (metAlone k i) m
+      unfolding walk fresh
+      meet-first l g = rw (le-leb i (count s) h, eq-eqb (kindOf s i) k e, getD-any m i 1 0 l, g)
+
+-- ---- a record and the chain that it begins
+module _ (s : List ℕ) (i : ℕ) (m m′ : List ℕ) (b : Bool) where
+  pub line-bad : b ≡ false → at b m′ ≡ walk s (metAlone 3 i) m → at false m′ ≡ walk s (metLine s i) m
+  unfolding metLine
+  line-bad t q = walk-stop s (metAlone 3 i) (flatMap (metAlone 4) (chain s (firstText s i))) m m′ (rw t at q)
+
+  pub line-on : (f : ℕ) (a : At) → b ≡ true → at b m′ ≡ walk s (metAlone 3 i) m → f ≡ firstText s i → a ≡ walk s (flatMap (metAlone 4) (chain s f)) m′ → a ≡ walk s (metLine s i) m
+  unfolding metLine
+  line-on f a t q e r = r ∙ ap (λ (j : ℕ). walk s (flatMap (metAlone 4) (chain s j)) m′) e ∙ walk-then s (metAlone 3 i) (flatMap (metAlone 4) (chain s (firstText s i))) m m′ (rw t at q)
+
+  pub arrow-bad : b ≡ false → at b m′ ≡ walk s (metAlone 2 i) m → at false m′ ≡ walk s (metArrow s i) m
+  unfolding metArrow
+  arrow-bad t q = walk-stop s (metAlone 2 i) (flatMap (metLine s) (chain s (firstLine s i))) m m′ (rw t at q)
+
+  pub arrow-on : (f : ℕ) (a : At) → b ≡ true → at b m′ ≡ walk s (metAlone 2 i) m → f ≡ firstLine s i → a ≡ walk s (flatMap (metLine s) (chain s f)) m′ → a ≡ walk s (metArrow s i) m
+  unfolding metArrow
+  arrow-on f a t q e r = r ∙ ap (λ (j : ℕ). walk s (flatMap (metLine s) (chain s j)) m′) e ∙ walk-then s (metAlone 2 i) (flatMap (metLine s) (chain s (firstLine s i))) m m′ (rw t at q)
+
+-- ---- both chains
+module _ (s : List ℕ) (m m′ : List ℕ) (b : Bool) (f : ℕ) (e : f ≡ firstState s) (q : at b m′ ≡ walk s (flatMap (metAlone 1) (chain s f)) m) where
+  pub all-bad : b ≡ false → at false m′ ≡ walk s (met s) m
+  unfolding met
+  all-bad t = walk-stop s (flatMap (metAlone 1) (chain s (firstState s))) (flatMap (metArrow s) (chain s (firstArrow s))) m m′ (rw (t, e) at q)
+
+  pub all-on : (g : ℕ) (a : At) → b ≡ true → g ≡ firstArrow s → a ≡ walk s (flatMap (metArrow s) (chain s g)) m′ → a ≡ walk s (met s) m
+  unfolding met
+  all-on g a t d r =
+      r ∙ ap (λ (j : ℕ). walk s (flatMap (metArrow s) (chain s j)) m′) d
+      ∙ walk-then s (flatMap (metAlone 1) (chain s (firstState s))) (flatMap (metArrow s) (chain s (firstArrow s))) m m′ (rw (t, e) at q)
+
+-- ---- the refusals, in their order
+module _ (s : List ℕ) where
+  -- a sheet of right length has at most 4,095 records
+  pub few : wrongLength s ≡ false → count s < 4096
+  few e =
+      by-bool (ltb (length s) 16)
+      (λ t. absurd (true≢false (rw t at e)))
+      (λ t. by-bool (ltb 65536 (length s))
+      (λ q. absurd (true≢false (rw (t, q) at e)))
+      (λ q. let a : length s ≤ 65536 = ltb-false 65536 (length s) q in
+      let b : length s ≡ 16 * (1 + count s) = eqb-true (length s) (16 * (1 + count s)) (not-false _ (rw (t, q) at e)) in
+      omega arith))
+
+module _ (m : Limits) (s : List ℕ) where
+  pub refuse-1 : wrongLength s ≡ true → Refused 1 ≡ checkOf m s
+  unfolding checkOf decide
+  refuse-1 e = rw e
+
+  module _ (e1 : wrongLength s ≡ false) where
+    pub refuse-2 : (version s ≡ 1 → ⊥) → Refused 2 ≡ checkOf m s
+    unfolding checkOf decide
+    refuse-2 e = rw (e1, ne-eqb (version s) 1 e)
+
+    module _ (e2 : version s ≡ 1) where
+      pub refuse-4 : wrongBytes s ≡ true → Refused 4 ≡ checkOf m s
+      unfolding checkOf decide
+      refuse-4 e = rw (e1, eq-eqb (version s) 1 e2, e)
+
+      module _ (e4 : wrongBytes s ≡ false) where
+        pub refuse-3 : wrongChains s ≡ true → Refused 3 ≡ checkOf m s
+        unfolding checkOf decide
+        refuse-3 e = rw (e1, eq-eqb (version s) 1 e2, e4, e)
+
+        module _ (e3 : wrongChains s ≡ false) where
+          pub refuse-5 : overLimits m (meaning s) ≡ true → Refused 5 ≡ checkOf m s
+          unfolding checkOf decide
+          refuse-5 e = rw (e1, eq-eqb (version s) 1 e2, e4, e3, e)
+
+          module _ (e5 : overLimits m (meaning s) ≡ false) where
+            pub refuse-6 : illFormed (meaning s) ≡ true → Refused 6 ≡ checkOf m s
+            unfolding checkOf decide
+            refuse-6 e = rw (e1, eq-eqb (version s) 1 e2, e4, e3, e5, e)
+
+            pub accept : illFormed (meaning s) ≡ false → Accepted ≡ checkOf m s
+            unfolding checkOf decide
+            accept e = rw (e1, eq-eqb (version s) 1 e2, e4, e3, e5, e)
