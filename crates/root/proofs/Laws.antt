@@ -60,10 +60,10 @@ low-half-is p = and-mask p 26
 low-half-lt : (p : ℕ) → bitAnd p 67108863 ≤ 2 ^ 26
 low-half-lt p = omega (arith, low-half-is p)
 
-pub high-square : (p : ℕ) → p ≤ 2 ^ 53 → p / 2 ^ 26 * (p / 2 ^ 26) ≤ 2 ^ 54
+pub high-square : (p : ℕ) → p < 2 ^ 53 → p / 2 ^ 26 * (p / 2 ^ 26) ≤ 2 ^ 54
 high-square p h = let l : p / 2 ^ 26 ≤ 2 ^ 27 = omega arith in mul-le-mul l l
 
-pub cross-small : (p : ℕ) → p ≤ 2 ^ 53 → 2 * (p / 2 ^ 26) * bitAnd p 67108863 ≤ 2 ^ 54
+pub cross-small : (p : ℕ) → p < 2 ^ 53 → 2 * (p / 2 ^ 26) * bitAnd p 67108863 ≤ 2 ^ 54
 cross-small p h = let l : 2 * (p / 2 ^ 26) ≤ 2 ^ 28 = omega arith in mul-le-mul l (low-half-lt p)
 
 pub low-square : (p : ℕ) → bitAnd p 67108863 * bitAnd p 67108863 ≤ 2 ^ 52
@@ -83,6 +83,6 @@ no-nan (fin s m e′) e = tt
 pub no-nan-bits : (n : ℕ) → n < 2047 * 2 ^ 52 → T (not (nanBits binary64 n))
 no-nan-bits n h = rw (nanBits-above binary64 n, le-ltb (2047 * 2 ^ 52) (n % 2 ^ 63) (omega arith)) tt
 
-pub rootBits-is : (b : ℕ) (c : Scaled) (a p : ℕ) → c ≡ scaled b → a ≡ evened c → p ≡ nearestRoot (a * 2 ^ 52) → packed (c .e) p ≡ rootBits b
+pub rootBits-is : (b : ℕ) (c : Scaled) (p : ℕ) → c ≡ scaled b → p ≡ nearestRoot (evened c * 2 ^ 52) → packed (c .e) p ≡ rootBits b
 unfolding rootBits
-rootBits-is b c a p e1 e2 e3 = rw (← e1, ← e2, ← e3)
+rootBits-is b c p e1 e2 = rw (← e1, ← e2)

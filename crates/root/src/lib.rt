@@ -109,18 +109,6 @@ fn by_digits(a: u64) -> u64
     if d.q < d.r { d.q + 1 } else { d.q }
 }
 
-// The bits of a / 2^52 as an f64 from 1 to 4.
-fn unit_bits(a: u64) -> u64
-    requires { ⌜ a < 2 ^ 54 ⌝ }
-    ensures { λ r. ⌜ r < 2047 * 2 ^ 52 ⌝ }
-{
-    if a < 9007199254740992 {
-        a + 4602678819172646912
-    } else {
-        a / 2 + 4607182418800017408
-    }
-}
-
 // Near to the root of x, from y near to 1 / root(x): g goes to the root and h to 1 / (2 root(x)),
 // then the exact rest of x over g * g, with g in two halves, corrects g once more. Nothing is claimed of the result.
 fn near_root(x: f64, y: f64) -> f64 {
@@ -142,32 +130,24 @@ fn near_root(x: f64, y: f64) -> f64 {
     g + rest * h
 }
 
-// A guess at the whole number nearest to the root of a * 2^52. Nothing is claimed of it but its size.
-fn guess(a: u64) -> u64
-    requires { ⌜ a < 2 ^ 54 ⌝ }
-    ensures { λ r. ⌜ r ≤ 2 ^ 53 ⌝ }
+// A guess at the significand of the root of x, from the bits b of x, by shifts and masks. Nothing is claimed of it but its size.
+fn guess(b: u64) -> u64
+    requires { ⌜ b < 2047 * 2 ^ 52 ⌝ }
+    ensures { λ r. ⌜ r < 2 ^ 53 ⌝ }
 {
-    let b = unit_bits(a);
     let x = f64::from_bits(b);
-    let y = f64::from_bits(6910469410427058089 - b / 2);
+    let y = f64::from_bits(6910469410427058089 - (b >> 1));
     let g = near_root(x, y);
     if g != g {
         return 0;
     }
-    let w = f64::to_bits(g);
-    if w < 4602678819172646912 {
-        return 0;
-    }
-    if 4611686018427387904 < w {
-        return 0;
-    }
-    w - 4602678819172646912
+    (f64::to_bits(g) & 4503599627370495) + 4503599627370496
 }
 
-// Whether p is seen to be the whole number nearest to the root of a * 2^52: p * (p - 1) is below that number, and p * (p + 1) is not,
-// compared by halves of 26 bits of p.
+// Whether p is seen to be the whole number nearest to the root of a * 2^52. With a * 2^52 for n, n + p - p * p is then from 1 to 2 * p;
+// it is worked out from the halves h and l of p, and y is what it has above l - l * l, in units of 2^26.
 fn is_nearest(a: u64, p: u64) -> bool
-    requires { ⌜ (a < 2 ^ 54) × (p ≤ 2 ^ 53) ⌝ }
+    requires { ⌜ (a < 2 ^ 54) × (p < 2 ^ 53) ⌝ }
     ensures { λ r. ⌜ (r ≡ true → p ≡ nearestRoot (a * 2 ^ 52)) ⌝ }
 {
     let h = p >> 26;
@@ -180,21 +160,38 @@ fn is_nearest(a: u64, p: u64) -> bool
     if 137438953472 <= d {
         return false;
     }
-    let n = d * 67108864;
+    let m = d * 67108864 + h;
     let hl = 2 * h * l;
-    let ll = l * l;
-    if n + h <= hl + (ll - l) / 67108864 {
+    if m < hl {
         return false;
     }
-    n <= hl + h + (ll + l) / 67108864
+    let y = m - hl;
+    if 137438953472 <= y {
+        return false;
+    }
+    let z = y * 67108864 + l;
+    let ll = l * l;
+    if z <= ll {
+        return false;
+    }
+    z <= ll + 2 * p
 }
 
-// The whole number nearest to the root of a * 2^52: a guess where it is seen to be right, else digit by digit.
-fn nearest(a: u64) -> u64
-    requires { ⌜ a < 2 ^ 54 ⌝ }
-    ensures { λ r. ⌜ (r ≡ nearestRoot (a * 2 ^ 52)) × (r ≤ 2 ^ 53) ⌝ }
+// The bits of c's significand as an f64 x from 1 to 4, with the exponent even.
+fn unit_bits(c: Scaled) -> u64
+    requires { ⌜ c .s < 2 ^ 53 ⌝ }
+    ensures { λ r. ⌜ r < 2047 * 2 ^ 52 ⌝ }
 {
-    let p = guess(a);
+    c.s + 4607182418800017408 - c.e % 2 * 4503599627370496
+}
+
+// The significand of the root: a guess where it is seen to be right, else digit by digit.
+fn nearest(c: Scaled) -> u64
+    requires { ⌜ c .s < 2 ^ 53 ⌝ }
+    ensures { λ r. ⌜ (r ≡ nearestRoot (evened c * 2 ^ 52)) × (r ≤ 2 ^ 53) ⌝ }
+{
+    let a = even(c);
+    let p = guess(unit_bits(c));
     if is_nearest(a, p) {
         return p;
     }
@@ -207,6 +204,6 @@ pub fn root_bits(b: u64) -> u64
     ensures { λ r. ⌜ (r ≡ rootBits b) × (r < 2047 * 2 ^ 52) ⌝ }
 {
     let c = split(b);
-    let p = nearest(even(c));
+    let p = nearest(c);
     ((c.e + 959) / 2 - 1) * 4503599627370496 + p
 }

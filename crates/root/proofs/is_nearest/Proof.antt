@@ -1,78 +1,85 @@
 -- `root::is_nearest` meets its contract.
-use mathlib.Core.Path.{_≡_, refl, sym}
-use Prim.Native.Nat.{_-_, _*_, _/_, _^_}
+use Prim.Native.Nat.{_+_, _-_, _*_, _/_, _^_}
 use native.Mathlib.Omega.{arith}
 use lib.Bits.{bitAnd}
 use borrow.Author.Tests.{leb-true}
 use borrow.Author.Needs.{needs}
-use Rattle.root.specs.Halves.{halves, self-le-square}
+use Rattle.root.specs.Halves.{halves}
 use Rattle.root.proofs.Laws.{low-half-is, high-square, cross-small, low-square, not-claimed}
 use Rattle.root.proofs.is_nearest.Statement.{statement}
 use Rattle.root.proofs.is_nearest.Tie as tie
 use Rattle.root.proofs.is_nearest.Reads as reads
 use Rattle.root.proofs.is_nearest.Lts as lts
 
--- src/lib.rt:171:14
+-- src/lib.rt:155:14
 mul-hh : tie.Need-mul-hh
 mul-hh c = omega (arith, high-square (c .args .p) (c .pre .1))
 
--- src/lib.rt:173:9
+-- src/lib.rt:157:9
 returns : tie.Need-returns
 returns c = not-claimed
 
--- src/lib.rt:177:9
+-- src/lib.rt:161:9
 returns-2 : tie.Need-returns-2
 returns-2 c = not-claimed
 
--- src/lib.rt:179:13
-mul-n : tie.Need-mul-n
-mul-n c = search needs
+-- src/lib.rt:163:13
+mul-m : tie.Need-mul-m
+mul-m c = search needs
 
--- src/lib.rt:180:14
+-- src/lib.rt:163:13
+add-m : tie.Need-add-m
+add-m c = search needs
+
+-- src/lib.rt:164:14
 mul-hl : tie.Need-mul-hl
 mul-hl c = search needs
 
--- src/lib.rt:180:14
+-- src/lib.rt:164:14
 mul-hl-2 : tie.Need-mul-hl-2
 mul-hl-2 c = omega (arith, cross-small (c .before .before .args .p) (c .before .before .pre .1))
 
--- src/lib.rt:181:14
-mul-ll : tie.Need-mul-ll
-mul-ll c = omega (arith, low-square (c .before .before .args .p))
-
--- src/lib.rt:182:8
-add-if3 : tie.Need-add-if3
-add-if3 c = search needs
-
--- src/lib.rt:182:23
-sub-if3 : tie.Need-sub-if3
-sub-if3 c = self-le-square (bitAnd (c .before .before .args .p) 67108863)
-
--- src/lib.rt:182:17
-add-if3-2 : tie.Need-add-if3-2
-add-if3-2 c = omega (arith, cross-small (c .before .before .args .p) (c .before .before .pre .1), low-square (c .before .before .args .p))
-
--- src/lib.rt:183:9
+-- src/lib.rt:166:9
 returns-3 : tie.Need-returns-3
 returns-3 c = not-claimed
 
--- src/lib.rt:185:10
-add-result : tie.Need-add-result
-add-result c = search needs
-
--- src/lib.rt:185:20
-add-result-2 : tie.Need-add-result-2
-add-result-2 c = omega (arith, low-half-is (c .before .before .before .args .p), low-square (c .before .before .before .args .p))
-
--- src/lib.rt:185:10
-add-result-3 : tie.Need-add-result-3
-add-result-3 c = omega (arith, cross-small (c .before .before .before .args .p) (c .before .before .before .pre .1), low-half-is (c .before .before .before .args .p), low-square (c .before .before .before .args .p))
-
--- src/lib.rt:165:1
+-- src/lib.rt:170:9
 returns-4 : tie.Need-returns-4
-returns-4 c e =
-    let p = c .before .before .before .args .p in
-    halves (c .before .before .before .args .a) p (p / 2 ^ 26) (bitAnd p 67108863) (c .before .before .before .args .a - p / 2 ^ 26 * (p / 2 ^ 26)) (c .before .before .before .pre .0) (omega (arith, low-half-is p)) (omega (arith, c .before .before .if1 .left)) (c .if3 .left) (leb-true _ _ e)
+returns-4 c = not-claimed
+
+-- src/lib.rt:172:13
+mul-z : tie.Need-mul-z
+mul-z c = search needs
+
+-- src/lib.rt:172:13
+add-z : tie.Need-add-z
+add-z c = omega (arith, low-half-is (c .before .before .before .before .args .p))
+
+-- src/lib.rt:173:14
+mul-ll : tie.Need-mul-ll
+mul-ll c = omega (arith, low-square (c .before .before .before .before .args .p))
+
+-- src/lib.rt:175:9
+returns-5 : tie.Need-returns-5
+returns-5 c = not-claimed
+
+-- src/lib.rt:177:15
+mul-result : tie.Need-mul-result
+mul-result c = search needs
+
+-- src/lib.rt:177:10
+add-result : tie.Need-add-result
+add-result c = omega (arith, low-square (c .before .before .before .before .before .args .p))
+
+-- src/lib.rt:149:1
+returns-6 : tie.Need-returns-6
+returns-6 c e =
+    let a = c .before .before .before .before .before .args .a in
+    let p = c .before .before .before .before .before .args .p in
+    let h = p / 2 ^ 26 in
+    let l = bitAnd p 67108863 in
+    let d = a - h * h in
+    halves a p h l d (d * 2 ^ 26 + h - 2 * h * l) (c .before .before .before .before .before .pre .0) (omega (arith, low-half-is p)) (omega (arith, c .before .before .before .before .if1 .left)) (omega (arith, c .before .before .if3 .left)) (c .if5 .left) (leb-true _ _ e)
 
 pub is-nearest-spec : {M : Type 1} → statement M
 is-nearest-spec =
@@ -81,15 +88,16 @@ is-nearest-spec =
     mul-hh
     returns
     returns-2
-    mul-n
+    mul-m
+    add-m
     mul-hl
     mul-hl-2
-    mul-ll
-    add-if3
-    sub-if3
-    add-if3-2
     returns-3
+    returns-4
+    mul-z
+    add-z
+    mul-ll
+    returns-5
+    mul-result
     add-result
-    add-result-2
-    add-result-3
-    returns-4)
+    returns-6)
