@@ -30,6 +30,7 @@ fn main() {
     println!("cargo:rerun-if-env-changed=MURSHOGI_SRC");
     println!("cargo:rerun-if-changed=build.rs");
     println!("cargo:rerun-if-changed=edits.txt");
+    link_port();
     let mut texts: BTreeMap<String, String> = BTreeMap::new();
     for file in FILES {
         let path = src.join(file);
@@ -68,6 +69,22 @@ fn main() {
         }
         fs::write(out.join(file), text).unwrap();
     }
+}
+
+/// Links the port, where `MURSHOGI_LIB` names its archive; what compares the two is built only then.
+fn link_port() {
+    println!("cargo:rerun-if-env-changed=MURSHOGI_LIB");
+    println!("cargo:rustc-check-cfg=cfg(port)");
+    let Ok(archive) = env::var("MURSHOGI_LIB") else {
+        return;
+    };
+    let archive = fs::canonicalize(&archive).unwrap_or_else(|e| panic!("{archive}: {e}"));
+    let name = archive.file_stem().unwrap().to_str().unwrap();
+    println!("cargo:rerun-if-changed={}", archive.display());
+    println!("cargo:rustc-link-search=native={}", archive.parent().unwrap().display());
+    println!("cargo:rustc-link-lib=static={}", name.strip_prefix("lib").unwrap());
+    println!("cargo:rustc-link-lib=m");
+    println!("cargo:rustc-cfg=port");
 }
 
 /// The item whose first line begins with `start`, with the comments and attributes above it.

@@ -1,6 +1,8 @@
 //! The oracle: the Rust that Murshogi ports, with document 01's stand-ins, and what is made from
 //! its answers. README.md says how each part is run.
 
+mod bench;
+mod calls;
 mod generate;
 mod random;
 mod sheet;
@@ -27,6 +29,14 @@ mod route {
 mod svg {
     include!(concat!(env!("OUT_DIR"), "/svg.rs"));
 
+    /// The six numbers that an arrowhead writes.
+    pub fn head_points(tip: (f64, f64), angle: f64) -> [f64; 6] {
+        let (dx, dy) = (crate::standin::cos(angle), crate::standin::sin(angle));
+        let (bx, by) = (tip.0 - dx * ARROW_LENGTH, tip.1 - dy * ARROW_LENGTH);
+        let (nx, ny) = (-dy * ARROW_HALF_WIDTH, dx * ARROW_HALF_WIDTH);
+        [tip.0, tip.1, bx + nx, by + ny, bx - nx, by - ny]
+    }
+
     pub fn head(tip: (f64, f64), angle: f64) -> String {
         let mut out = String::new();
         arrowhead(&mut out, tip, angle);
@@ -39,8 +49,9 @@ fn main() {
     let words: Vec<&str> = args.iter().map(String::as_str).collect();
     match words.as_slice() {
         ["vectors", file] => vectors::write(file),
+        ["bench", "root"] => bench::root(),
         _ => {
-            eprintln!("usage: oracle vectors FILE");
+            eprintln!("usage: oracle vectors FILE | oracle bench root");
             std::process::exit(2);
         }
     }

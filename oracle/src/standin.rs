@@ -36,17 +36,21 @@ pub fn whole_root(v: f64) -> f64 {
         s *= 2;
         e -= 1;
     }
-    let wide = u128::from(s) << 54;
-    let mut q: u128 = 0;
-    for bit in (0..54).rev() {
-        let t = q | (1 << bit);
-        if t * t <= wide {
-            q = t;
+    // Two bits of s * 2^54 and one of q a step; r is what is left.
+    let (mut q, mut r, mut rest) = (0_u64, 0_u64, s << 10);
+    for _ in 0..54 {
+        r = (r << 2) | (rest >> 62);
+        rest <<= 2;
+        let t = (q << 2) | 1;
+        q <<= 1;
+        if t <= r {
+            r -= t;
+            q |= 1;
         }
     }
     // The root is q * 2^((e - 54) / 2). It never lies halfway: an odd q has an odd square.
     let half = (e - 54) / 2 + 1;
-    let nearest = (q as u64 >> 1) + (q as u64 & 1);
+    let nearest = (q >> 1) + (q & 1);
     f64::from_bits((nearest as f64).to_bits().wrapping_add((half as u64) << 52))
 }
 

@@ -2,7 +2,6 @@
 // how many there were and how many differ. `oracle/README.md` says how the stream is made.
 ghost use Prim.Native.Nat.{_<_};
 
-mod floats;
 mod report;
 
 use libc::STDIN_FILENO;
@@ -55,7 +54,7 @@ fn next(payload: &mut [u8]) -> Case {
 // Whether the program's answer to a case is the oracle's.
 fn agrees(kind: u8, p: &[u8]) -> bool {
     if kind < 16 {
-        return floats::agrees(kind, p);
+        return replay_float::agrees(kind, p);
     }
     false
 }

@@ -135,3 +135,20 @@ pub fn number(x: f64) -> Result<String, u8> {
     write_num(&mut out, x);
     Ok(out)
 }
+
+/// The points of a curve.
+pub fn points(c: Curve) -> Vec<Point> {
+    match c {
+        Curve::Line(a, b) => vec![p(a), p(b)],
+        Curve::Quad(a, c, b) => vec![p(a), p(c), p(b)],
+        Curve::Cubic(a, c, d, b) => vec![p(a), p(c), p(d), p(b)],
+    }
+}
+
+/// The bow of the arrow between two of these centres.
+pub fn bend(from: usize, to: usize, centres: &[Point], both_ways: bool) -> f64 {
+    let pos: Vec<V> = centres.iter().map(|&c| v(c)).collect();
+    let len = pos[from].dist(pos[to]);
+    let along = (pos[to] - pos[from]).unit_or(V::new(1.0, 0.0));
+    super::bend(from, to, &pos, len, along, both_ways)
+}

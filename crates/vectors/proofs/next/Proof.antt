@@ -10,25 +10,25 @@ slice-aggregate-read-full : tie.Need-slice-aggregate-read-full
 slice-aggregate-read-full c = search needs
 
 read-full-requires : tie.Need-read-full-requires
-read-full-requires c κs = search needs
+read-full-requires c κs = tt
 
 cut-requires : tie.Need-cut-requires
-cut-requires c κs = search needs
+cut-requires c κs = tt
 
 returns : tie.Need-returns
-returns c = search needs
+returns c = tt
 
 array-read-wide : tie.Need-array-read-wide
 array-read-wide c = search needs
 
 wide-requires : tie.Need-wide-requires
-wide-requires c κs = search needs
+wide-requires c κs = tt
 
 array-read-wide-2 : tie.Need-array-read-wide-2
 array-read-wide-2 c = search needs
 
 wide-requires-2 : tie.Need-wide-requires-2
-wide-requires-2 c κs = search needs
+wide-requires-2 c κs = tt
 
 mul-length : tie.Need-mul-length
 mul-length c = search needs
@@ -40,7 +40,7 @@ array-read-wide-3 : tie.Need-array-read-wide-3
 array-read-wide-3 c = search needs
 
 wide-requires-3 : tie.Need-wide-requires-3
-wide-requires-3 c κs = search needs
+wide-requires-3 c κs = tt
 
 mul-length-2 : tie.Need-mul-length-2
 mul-length-2 c = search needs
@@ -49,10 +49,10 @@ add-length-2 : tie.Need-add-length-2
 add-length-2 c = search needs
 
 cut-requires-2 : tie.Need-cut-requires-2
-cut-requires-2 c κs = search needs
+cut-requires-2 c κs = tt
 
 returns-2 : tie.Need-returns-2
-returns-2 c = search needs
+returns-2 c = tt
 
 slice-relend-prefix-read-full : tie.Need-slice-relend-prefix-read-full
 slice-relend-prefix-read-full c = search needs
@@ -61,16 +61,16 @@ slice-aggregate-read-full-2 : tie.Need-slice-aggregate-read-full-2
 slice-aggregate-read-full-2 c = sym (length-take-le _ _ (omega arith))
 
 read-full-requires-2 : tie.Need-read-full-requires-2
-read-full-requires-2 c κs = search needs
+read-full-requires-2 c κs = tt
 
 cut-requires-3 : tie.Need-cut-requires-3
-cut-requires-3 c κs = search needs
+cut-requires-3 c κs = tt
 
 same-length : tie.Need-same-length
 same-length c = search needs
 
 returns-3 : tie.Need-returns-3
-returns-3 c = search needs
+returns-3 c = tt
 
 array-read-t20 : tie.Need-array-read-t20
 array-read-t20 c = search needs
@@ -79,7 +79,7 @@ same-length-2 : tie.Need-same-length-2
 same-length-2 c = search needs
 
 returns-4 : tie.Need-returns-4
-returns-4 c = search needs
+returns-4 c = tt
 
 pub next-spec : {M : Type 1} → statement M
 next-spec =

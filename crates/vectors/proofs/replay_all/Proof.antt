@@ -23,7 +23,7 @@ cast-turn : tie.Need-cast-turn Inv-loop μ-loop
 cast-turn c = search needs
 
 turn-requires : tie.Need-turn-requires Inv-loop μ-loop
-turn-requires c κs = search needs
+turn-requires c κs = tt
 
 same-length : tie.Need-same-length Inv-loop μ-loop
 same-length c = search needs
@@ -32,7 +32,7 @@ same-length-2 : tie.Need-same-length-2 Inv-loop μ-loop
 same-length-2 c = search needs
 
 returns : tie.Need-returns Inv-loop μ-loop
-returns c = search needs
+returns c = tt
 
 add-done : tie.Need-add-done Inv-loop μ-loop
 add-done c = search needs
@@ -50,7 +50,7 @@ same-length-4 : tie.Need-same-length-4 Inv-loop μ-loop
 same-length-4 c = search needs
 
 returns-2 : tie.Need-returns-2 Inv-loop μ-loop
-returns-2 c = search needs
+returns-2 c = tt
 
 pub replay-all-spec : {M : Type 1} → statement M
 replay-all-spec =

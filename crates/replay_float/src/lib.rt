@@ -1,11 +1,11 @@
-// The stand-ins for the library's float functions.
+// Cases of the stand-ins for the library's float functions.
 use replay::float as at;
 use replay::same;
 
 // Arguments and answer, eight bytes each.
 pub fn agrees(kind: u8, p: &[u8]) -> bool {
     match kind {
-        1 | 4 | 5 | 6 | 11 | 13 => one_agrees(kind, p),
+        1 | 4 | 5 | 6 | 10 | 11 | 13 => one_agrees(kind, p),
         2 | 3 | 7 | 8 | 9 | 14 => two_agrees(kind, p),
         12 => clamp_agrees(p),
         15 => order_agrees(p),
@@ -26,6 +26,7 @@ fn one(kind: u8, a: f64) -> f64 {
         4 => float::rem_euclid(a),
         5 => float::sin(a),
         6 => float::cos(a),
+        10 => float::round(a),
         11 => float::abs(a),
         _ => float::signum(a),
     }

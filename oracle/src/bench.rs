@@ -1,0 +1,57 @@
+//! Times, a line for each thing that is timed.
+
+use std::hint::black_box;
+use std::time::Instant;
+
+use crate::random::Random;
+use crate::standin;
+
+#[cfg(port)]
+unsafe extern "C" {
+    safe fn murshogi_root(v: f64) -> f64;
+}
+
+const ROUNDS: usize = 60;
+
+/// The least time a call over some rounds, in nanoseconds.
+fn timed(inputs: &[f64], f: impl Fn(f64) -> f64) -> f64 {
+    let mut least = f64::INFINITY;
+    for _ in 0..ROUNDS {
+        let start = Instant::now();
+        for &v in inputs {
+            black_box(f(black_box(v)));
+        }
+        let each = start.elapsed().as_nanos() as f64 / inputs.len() as f64;
+        least = least.min(each);
+    }
+    least
+}
+
+/// The port's root, the hardware's, and a whole-number root of one bit a step, on the same inputs.
+pub fn root() {
+    let rng = &mut Random::new(7);
+    let squares: Vec<f64> = (0..20_000)
+        .map(|_| {
+            let (a, b) = (rng.between(-1000.0, 1000.0), rng.between(-1000.0, 1000.0));
+            a * a + b * b
+        })
+        .collect();
+    let whole: Vec<f64> = (0..20_000).map(|_| rng.below(1 << 20) as f64).collect();
+    let any: Vec<f64> = (0..20_000).map(|_| f64::from_bits(rng.next() >> 1)).collect();
+    println!("ns a call: squared distances, whole numbers, any number above 0");
+    let row = |name: &str, f: &dyn Fn(f64) -> f64| {
+        let t: Vec<f64> = [&squares, &whole, &any].iter().map(|list| timed(list, f)).collect();
+        println!("{name:<26} {:8.2} {:8.2} {:8.2}", t[0], t[1], t[2]);
+    };
+    row("nothing", &|v| v);
+    row("hardware", &f64::sqrt);
+    row("whole numbers, bit by bit", &standin::whole_root);
+    #[cfg(port)]
+    row("port", &|v| murshogi_root(v));
+    #[cfg(not(port))]
+    println!("port                       not linked: MURSHOGI_LIB names no archive");
+    #[cfg(port)]
+    for v in squares.iter().chain(&whole).chain(&any) {
+        assert!(murshogi_root(*v).to_bits() == standin::root(*v).to_bits(), "{v:e}");
+    }
+}

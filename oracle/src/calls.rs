@@ -1,0 +1,288 @@
+//! The seven calls with all their refusals, from document 01, over the Rust.
+
+use std::cell::Cell;
+
+use crate::graph::Graph;
+use crate::layout::{Layout, LayoutKind, NODE_RADIUS, layout as place};
+use crate::route::{Anchor, Geometry, clutter as count, geometry, probe};
+use crate::sheet::{self, Sheet};
+use crate::svg;
+
+thread_local! {
+    static LARGEST_BOW: Cell<f64> = const { Cell::new(0.0) };
+}
+
+/// Notes the first free bow of a two-way pair, and hands it back.
+pub fn note_bow(both_ways: bool, up: f64) -> f64 {
+    if both_ways && up > LARGEST_BOW.get() {
+        LARGEST_BOW.set(up);
+    }
+    up
+}
+
+/// What `f` draws, or 9 where a two-way pair's first free bow exceeds 10^9.
+fn bowed<T>(f: impl FnOnce() -> T) -> Result<T, u8> {
+    LARGEST_BOW.set(0.0);
+    let answer = f();
+    if LARGEST_BOW.get() > 1e9 { Err(9) } else { Ok(answer) }
+}
+
+/// A finite x or y of an existing state's centre beyond 2^20 in size is 8.
+fn centred(sheet: &Sheet, xs: &[f64], ys: &[f64]) -> Result<(), u8> {
+    let far = |list: &[f64]| {
+        list.iter()
+            .take(sheet.states.len())
+            .any(|v| v.is_finite() && v.abs() > 1_048_576.0)
+    };
+    if far(xs) || far(ys) { Err(8) } else { Ok(()) }
+}
+
+fn layout_kind(kind: u8) -> Result<LayoutKind, u8> {
+    match kind {
+        0 => Ok(LayoutKind::Auto),
+        1 => Ok(LayoutKind::Layered),
+        2 => Ok(LayoutKind::Circular),
+        _ => Err(11),
+    }
+}
+
+/// Text put together of words and written numbers; too large a number is kept as a refusal.
+#[derive(Default)]
+struct Text {
+    out: String,
+    refused: bool,
+}
+
+impl Text {
+    fn word(&mut self, s: &str) {
+        self.out.push_str(s);
+    }
+
+    fn checked(&mut self, v: f64) {
+        self.refused |= probe::number(v).is_err();
+    }
+
+    fn number(&mut self, v: f64) {
+        self.checked(v);
+        self.word(&probe::number(v).unwrap_or_default());
+    }
+
+    fn numbers(&mut self, list: &[f64]) {
+        for &v in list {
+            self.word(" ");
+            self.number(v);
+        }
+    }
+
+    fn path(&mut self, g: &Geometry) {
+        let points = probe::points(g.curve);
+        for p in &points {
+            self.checked(p.0);
+            self.checked(p.1);
+        }
+        self.word(&probe::path(&points));
+    }
+
+    fn head(&mut self, tip: (f64, f64), angle: f64) {
+        for v in svg::head_points(tip, angle) {
+            self.checked(v);
+        }
+        self.word(&svg::head(tip, angle));
+    }
+
+    fn done(self) -> Result<Vec<u8>, u8> {
+        if self.refused { Err(10) } else { Ok(self.out.into_bytes()) }
+    }
+}
+
+fn fits(room: usize, wanted: usize) -> Result<(), u8> {
+    if room < wanted { Err(7) } else { Ok(()) }
+}
+
+pub fn check(bytes: &[u8]) -> Result<(), u8> {
+    sheet::read(bytes).map(|_| ())
+}
+
+pub fn layout(bytes: &[u8], kind: u8, x_room: usize, y_room: usize) -> Result<Layout, u8> {
+    let kind = layout_kind(kind)?;
+    let graph = sheet::read(bytes)?.graph();
+    let answer = bowed(|| place(&graph, kind))?;
+    fits(x_room, answer.x.len())?;
+    fits(y_room, answer.y.len())?;
+    Ok(answer)
+}
+
+/// The twenty numbers of a record.
+fn record(g: &Geometry) -> [f64; 20] {
+    let points = probe::points(g.curve);
+    let mut r = [0.0; 20];
+    r[0] = g.edge as f64;
+    r[1] = points.len() as f64;
+    for (i, p) in points.iter().enumerate() {
+        r[2 + 2 * i] = p.0;
+        r[3 + 2 * i] = p.1;
+    }
+    let anchor = match g.anchor {
+        Anchor::Start => 0.0,
+        Anchor::Middle => 1.0,
+        Anchor::End => 2.0,
+    };
+    let b = g.label_box;
+    let rest = [
+        g.tip.x, g.tip.y, g.tip_angle, g.label.x, g.label.y, anchor, b.x0, b.y0, b.x1, b.y1,
+    ];
+    r[10..].copy_from_slice(&rest);
+    r
+}
+
+/// Records and path text.
+pub struct Routing {
+    pub records: Vec<f64>,
+    pub text: Vec<u8>,
+}
+
+fn drawn(graph: &Graph, xs: &[f64], ys: &[f64]) -> Result<(Vec<Geometry>, Routing), u8> {
+    let list = bowed(|| geometry(graph, xs, ys))?;
+    let mut text = Text::default();
+    for g in &list {
+        text.path(g);
+        text.word("\n");
+    }
+    let routing = Routing {
+        records: list.iter().flat_map(record).collect(),
+        text: text.done()?,
+    };
+    Ok((list, routing))
+}
+
+pub fn route(bytes: &[u8], xs: &[f64], ys: &[f64], rooms: (usize, usize)) -> Result<Routing, u8> {
+    let sheet = sheet::read(bytes)?;
+    centred(&sheet, xs, ys)?;
+    let (_, routing) = drawn(&sheet.graph(), xs, ys)?;
+    fits(rooms.0, routing.records.len())?;
+    fits(rooms.1, routing.text.len())?;
+    Ok(routing)
+}
+
+pub fn clutter(bytes: &[u8], xs: &[f64], ys: &[f64]) -> Result<usize, u8> {
+    let sheet = sheet::read(bytes)?;
+    centred(&sheet, xs, ys)?;
+    bowed(|| count(&sheet.graph(), xs, ys))
+}
+
+pub fn write_num(v: f64, room: usize) -> Result<Vec<u8>, u8> {
+    let text = probe::number(v)?.into_bytes();
+    fits(room, text.len())?;
+    Ok(text)
+}
+
+pub fn list(bytes: &[u8], kind: u8, room: usize) -> Result<Vec<u8>, u8> {
+    let kind = layout_kind(kind)?;
+    let sheet = sheet::read(bytes)?;
+    let graph = sheet.graph();
+    let l = bowed(|| place(&graph, kind))?;
+    centred(&sheet, &l.x, &l.y)?;
+    let (drawing, _) = drawn(&graph, &l.x, &l.y)?;
+    let mut t = Text::default();
+    t.word("size");
+    t.numbers(&[l.width, l.height]);
+    t.word("\n");
+    for (i, (x, y)) in l.x.iter().zip(&l.y).enumerate() {
+        t.word(&format!("state {i}"));
+        t.numbers(&[*x, *y]);
+        t.word("\n");
+    }
+    for g in &drawing {
+        let i = g.edge;
+        t.word(&format!("edge {i} "));
+        t.path(g);
+        t.word(&format!("\ntip {i}"));
+        t.numbers(&[g.tip.x, g.tip.y, g.tip_angle]);
+        t.word(&format!("\nhead {i} "));
+        t.head((g.tip.x, g.tip.y), g.tip_angle);
+        t.word(&format!("\nlabel {i}"));
+        t.numbers(&[g.label.x, g.label.y]);
+        t.word(&format!(" {}\n", g.anchor.as_str()));
+    }
+    for (i, node) in graph.nodes.iter().enumerate() {
+        if node.is_start {
+            t.word(&format!("start {i} "));
+            t.head((l.x[i] - NODE_RADIUS, l.y[i]), 0.0);
+            t.word("\n");
+        }
+    }
+    let text = t.done()?;
+    fits(room, text.len())?;
+    Ok(text)
+}
+
+#[cfg(test)]
+mod tests {
+    use super::*;
+    use crate::generate::ordered;
+    use crate::sheet::Arrow;
+
+    fn states(flags: &[u8]) -> Vec<u8> {
+        let sheet = Sheet {
+            states: flags.to_vec(),
+            arrows: vec![],
+        };
+        ordered(&sheet)
+    }
+
+    #[test]
+    fn worked_layouts() {
+        for (flags, x, y, w, h) in [
+            (vec![], vec![], vec![], 32.0, 32.0),
+            (vec![0], vec![38.0], vec![38.0], 76.0, 76.0),
+            (vec![1], vec![66.0], vec![38.0], 104.0, 76.0),
+        ] {
+            let l = layout(&states(&flags), 0, 64, 64).unwrap();
+            assert_eq!((l.x, l.y, l.width, l.height), (x, y, w, h));
+        }
+        assert_eq!(layout(&states(&[1]), 3, 64, 64), Err(11));
+        assert_eq!(layout(&states(&[1]), 0, 64, 0), Err(7));
+    }
+
+    #[test]
+    fn worked_listing() {
+        let sheet = Sheet {
+            states: vec![1, 0],
+            arrows: vec![Arrow {
+                from: 0,
+                to: 1,
+                lines: vec![vec![b"a".to_vec()]],
+            }],
+        };
+        let text = list(&ordered(&sheet), 0, 65_536).unwrap();
+        let wanted = "size 244 76\nstate 0 66 38\nstate 1 206 38\nedge 0 M 88 38 L 184 38\n\
+            tip 0 184 38 0\nhead 0 M 184 38 L 175 41.5 L 175 34.5 Z\nlabel 0 136 19 middle\n\
+            start 0 M 44 38 L 35 41.5 L 35 34.5 Z\n";
+        assert_eq!(String::from_utf8(text).unwrap(), wanted);
+    }
+
+    #[test]
+    fn worked_bows() {
+        for (length, bow) in [(140.0, 42.0), (50.0, 28.0), (300.0, 64.0)] {
+            assert_eq!(probe::bend(0, 1, &[(0.0, 0.0), (length, 0.0)], true), bow);
+        }
+    }
+
+    #[test]
+    fn worked_numbers() {
+        for (v, text) in [(-0.004, "0"), (12.5, "12.5"), (f64::INFINITY, "0")] {
+            assert_eq!(write_num(v, 32).unwrap(), text.as_bytes());
+        }
+        assert_eq!(write_num(1e13, 32), Err(10));
+        assert!(write_num(9_999_999_999_999.998, 32).is_ok());
+        assert_eq!(crate::standin::atan2(-0.0, -1.0), -std::f64::consts::PI);
+    }
+
+    #[test]
+    fn centres() {
+        let bytes = states(&[1]);
+        assert!(clutter(&bytes, &[1_048_576.0], &[]).is_ok());
+        assert_eq!(clutter(&bytes, &[1_048_576.000_000_000_2], &[]), Err(8));
+        assert_eq!(clutter(&bytes, &[0.0, 1e9], &[f64::INFINITY]), Ok(0));
+    }
+}
