@@ -1,0 +1,118 @@
+-- One byte measured, one length tested, one line measured: each from what the calls give. Assumes nothing.
+use mathlib.Core.Path.{_≡_, refl, sym, ap, _∙_, subst}
+use mathlib.Core.Bool.{Bool, true, false, cond, not, _&&_, _||_}
+use mathlib.Core.List.{List, [], _∷_}
+use Prim.Native.Nat.{ℕ, suc, _+_, _-_, _≤_, _<_}
+use native.Mathlib.Numerals.{add-one}
+use native.Mathlib.Omega.{arith}
+use lib.Dec.{T, eqb}
+use lib.Ieee.{Float}
+use lib.ListN.{length, getD, take, drop, drop-of-length-le}
+use lib.Seq.{drop-cons, drop-drop}
+use borrow.Author.Tests.{eq-eqb, ne-eqb, lt-ltb, le-ltb, eqb-true, eqb-false}
+use Rattle.laws.specs.Cases.{by-bool}
+use Rattle.laws.specs.Loops.{over}
+use Rattle.float.specs.Ops.{_⊕_}
+use Rattle.float.specs.Standins.{max}
+use Rattle.text.specs.Utf8.{wellFormed}
+use Rattle.text.specs.Automaton.{feedOf, gatherOf}
+use Rattle.label.specs.declared.Measure.{Measure}
+use Rattle.label.specs.declared.Sized.{Sized}
+use Rattle.label.specs.declared.Sized.the-variants.{Size, Refused}
+use Rattle.label.specs.Label.{charWidth, lineWidth, wider, cut, total, anyOver, allFormed}
+use Rattle.label.specs.Measuring.{measure, measureOf, measureAll, start, measured-formed, measured-width, lengthsFit, linesSize}
+
+pub step-done : (m : Measure) (b st v : ℕ) (w : Float) → st ≡ feedOf (m .st) b → v ≡ gatherOf (m .st) (m .value) b → st ≡ 0 → w ≡ charWidth v → measure st v (m .width ⊕ w) ≡ measureOf m b
+unfolding measureOf
+step-done m b st v w e g z k = rw (← e, ← g, eq-eqb st 0 z, k)
+
+pub step-more : (m : Measure) (b st v : ℕ) → st ≡ feedOf (m .st) b → v ≡ gatherOf (m .st) (m .value) b → (st ≡ 0 → ⊥) → measure st v (m .width) ≡ measureOf m b
+unfolding measureOf
+step-more m b st v e g z = rw (← e, ← g, ne-eqb st 0 z)
+
+-- ---- the lengths from i on
+and-no : (a : Bool) → (a && false) ≡ false
+and-no true = refl
+and-no false = refl
+
+same-test : (a b c d : ℕ) → (a ≡ b → c ≡ d) → (c ≡ d → a ≡ b) → eqb a b ≡ eqb c d
+same-test a b c d f g =
+    by-bool (eqb a b)
+    (λ e. e ∙ sym (eq-eqb c d (f (eqb-true a b e))))
+    (λ e. e ∙ sym (ne-eqb c d (λ h. eqb-false a b e (g h))))
+
+fit-over : (most bytes n : ℕ) (ns : List ℕ) → most < n → false ≡ lengthsFit most bytes (n ∷ ns)
+unfolding lengthsFit anyOver
+fit-over most bytes n ns h = rw (lt-ltb most n h)
+
+fit-short : (most bytes n : ℕ) (ns : List ℕ) → bytes < n → false ≡ lengthsFit most bytes (n ∷ ns)
+unfolding lengthsFit total
+fit-short most bytes n ns h = let z : bytes ≡ n + total ns → ⊥ = λ e. omega arith in rw (ne-eqb bytes (n + total ns) z, and-no)
+
+fit-turn : (most bytes n : ℕ) (ns : List ℕ) → n ≤ most → n ≤ bytes → lengthsFit most (bytes - n) ns ≡ lengthsFit most bytes (n ∷ ns)
+unfolding lengthsFit anyOver total
+fit-turn most bytes n ns h k = rw (le-ltb most n h, same-test (bytes - n) (total ns) bytes (n + total ns) (λ e. omega arith) (λ e. omega arith))
+
+module _ (most left : ℕ) (l : List ℕ) (i : ℕ) (h : i < length l) where
+  here : drop i l ≡ getD l i 0 ∷ drop (suc i) l
+  here = drop-cons l i 0 h
+
+  pub fit-over-at : most < getD l i 0 → false ≡ lengthsFit most left (drop i l)
+  fit-over-at k = fit-over most left (getD l i 0) (drop (suc i) l) k ∙ ap (lengthsFit most left) (sym here)
+
+  pub fit-short-at : left < getD l i 0 → false ≡ lengthsFit most left (drop i l)
+  fit-short-at k = fit-short most left (getD l i 0) (drop (suc i) l) k ∙ ap (lengthsFit most left) (sym here)
+
+  pub fit-turn-at : getD l i 0 ≤ most → getD l i 0 ≤ left → lengthsFit most (left - getD l i 0) (drop (i + 1) l) ≡ lengthsFit most left (drop i l)
+  fit-turn-at j k =
+      ap (λ (n : ℕ). lengthsFit most (left - getD l i 0) (drop n l)) (add-one i)
+      ∙ fit-turn most left (getD l i 0) (drop (suc i) l) j k
+      ∙ ap (lengthsFit most left) (sym here)
+
+  pub total-at : total (drop i l) ≡ getD l i 0 + total (drop (i + 1) l)
+  unfolding total
+  total-at = ap total here ∙ ap (λ (n : ℕ). getD l i 0 + total (drop n l)) (sym (add-one i))
+
+pub fit-end-at : (most left : ℕ) (l : List ℕ) (i : ℕ) → length l ≤ i → eqb left 0 ≡ lengthsFit most left (drop i l)
+unfolding lengthsFit anyOver total
+fit-end-at most left l i h = rw (drop-of-length-le l h)
+
+-- ---- the lines from i on, which begin at `at`
+module _ (h w : Float) (text lengths : List ℕ) (at i : ℕ) where
+  abbrev linesFrom : List (List ℕ)
+  linesFrom = cut (drop at text) (drop i lengths)
+
+  abbrev line : List ℕ
+  line = take (getD lengths i 0) (drop at text)
+
+  abbrev later : List (List ℕ)
+  later = cut (drop (at + getD lengths i 0) text) (drop (i + 1) lengths)
+
+  cut-at : i < length lengths → linesFrom ≡ line ∷ later
+  unfolding cut
+  cut-at k = rw (drop-cons lengths i 0 k, add-one i, drop-drop (getD lengths i 0) at text)
+
+  -- a line that is not well-formed, and one that is
+  pub line-ill : i < length lengths → (m : ℕ) → m ≡ measureAll start line .st → (m ≡ 0 → ⊥) → Refused 6 ≡ linesSize h w linesFrom
+  unfolding linesSize allFormed
+  line-ill k m e z = let f : wellFormed line ≡ false = measured-formed line ∙ sym (ap (λ (n : ℕ). eqb n 0) e) ∙ ne-eqb m 0 z in rw (cut-at k, f)
+
+  pub line-well : i < length lengths → (m : ℕ) (v : Float) → m ≡ measureAll start line .st → v ≡ measureAll start line .width → m ≡ 0
+      → linesSize h (max w v) later ≡ linesSize h w linesFrom
+  unfolding linesSize allFormed over wider
+  line-well k m v e d z =
+      let f : wellFormed line ≡ true = measured-formed line ∙ sym (ap (λ (n : ℕ). eqb n 0) e) ∙ eq-eqb m 0 z in
+      let u : v ≡ lineWidth line = d ∙ measured-width line in
+      rw (cut-at k, f, u)
+
+  pub lines-end : length lengths ≤ i → Size w h ≡ linesSize h w linesFrom
+  unfolding linesSize allFormed over cut
+  lines-end k = rw (drop-of-length-le lengths k)
+
+pub fit-total : (most bytes : ℕ) (l : List ℕ) → lengthsFit most bytes l ≡ true → bytes ≡ total l
+unfolding lengthsFit
+fit-total most bytes l e = eqb-true bytes (total l) (go (not (anyOver most l)) (eqb bytes (total l)) e)
+  where
+    go : (a b : Bool) → (a && b) ≡ true → b ≡ true
+    go true b h = h
+    go false b h = absurd (subst T (sym h) tt)

@@ -1,0 +1,124 @@
+-- `label::lines_size` meets its contract. The invariant: the size continued from this line is the size of all lines.
+use mathlib.Core.Path.{_≡_, refl, sym, ap, _∙_}
+use Prim.Native.Nat.{ℕ, _+_, _-_, _≤_, _<_}
+use native.Mathlib.Omega.{arith}
+use lib.Ieee.{Float}
+use lib.ListN.{length, getD, take, drop}
+use denote.Ref.{now}
+use Rattle.float.specs.Constants.{f0}
+use Rattle.label.specs.declared.Measure.{Measure}
+use Rattle.label.specs.declared.Sized.the-variants.{Size}
+use Rattle.label.specs.Label.{blockHeight, cut, total}
+use Rattle.label.specs.Measuring.{measureAll, linesSize}
+use Rattle.label.proofs.Laws.{line-ill, line-well, lines-end, total-at}
+use borrow.Author.Needs.{needs}
+use Rattle.label.proofs.lines_size.Statement.{statement}
+use Rattle.label.proofs.lines_size.Tie as tie
+use Rattle.label.proofs.lines_size.Reads as reads
+use Rattle.label.proofs.lines_size.Lts as lts
+use Rattle.float.proofs.max.Reads as max-reads
+use Rattle.label.proofs.height.Reads as height-reads
+use Rattle.label.proofs.measure_part.Reads as measure-part-reads
+use Rattle.label.proofs.start.Reads as start-reads
+
+abbrev Inv-loop : tie.InvT-loop
+Inv-loop text lengths at₀ width₀ i₀ i-end at width i =
+    (i-end ≡ length lengths) × (i ≤ length lengths) × (at + total (drop i lengths) ≤ length text)
+    × (linesSize (blockHeight (length lengths)) width (cut (drop at text) (drop i lengths)) ≡ linesSize (blockHeight (length lengths)) f0 (cut text lengths))
+
+abbrev μ-loop : tie.MeasureT-loop
+μ-loop text lengths at₀ width₀ i₀ i-end at width i = i-end - i
+
+-- src/lib.rt:102:5
+loop-holds : tie.Need-loop-holds Inv-loop μ-loop
+loop-holds c = (refl, omega arith, omega (arith, c .before .before .pre), refl)
+
+-- src/lib.rt:103:17
+mul-n : tie.Need-mul-n Inv-loop μ-loop
+mul-n c = search needs
+
+-- src/lib.rt:103:17
+shared-slice-read-n : tie.Need-shared-slice-read-n Inv-loop μ-loop
+shared-slice-read-n c = search needs
+
+-- src/lib.rt:104:43
+start-requires : tie.Need-start-requires Inv-loop μ-loop
+start-requires c κs = tt
+
+-- src/lib.rt:104:13
+measure-part-requires : tie.Need-measure-part-requires Inv-loop μ-loop
+measure-part-requires c κs = tt
+
+-- src/lib.rt:106:13
+returns : tie.Need-returns Inv-loop μ-loop
+returns c =
+    let text = now (c .before .before .before .before .before .before .before .before .before .args .text) in
+    let lengths = now (c .before .before .before .before .before .before .before .before .before .args .lengths) in
+    let h = blockHeight (length lengths) in
+    let e = c .before .before .measure-part .ensures ∙ ap (λ (m : Measure). measureAll m (take (getD lengths (c .before .before .before .before .before .before .loop .i) 0) (drop (c .before .before .before .before .before .before .loop .at) text))) (c .before .before .before .start .ensures) in
+    line-ill h (c .before .before .before .before .before .before .loop .width) text lengths (c .before .before .before .before .before .before .loop .at) (c .before .before .before .before .before .before .loop .i) (omega arith) (c .before .before .measure-part .result .st) (ap (λ (m : Measure). m .st) e) (c .if1 .taken) ∙ c .before .before .before .before .before .before .loop .inv .3
+
+-- src/lib.rt:108:9
+max-requires : tie.Need-max-requires Inv-loop μ-loop
+max-requires c κs = tt
+
+-- src/lib.rt:109:9
+add-at : tie.Need-add-at Inv-loop μ-loop
+add-at c = omega (arith, total-at 0 0 (now (c .before .before .before .before .before .before .before .before .before .before .args .lengths)) (c .before .before .before .before .before .before .before .loop .i) (omega arith))
+
+-- src/lib.rt:102:9
+add-i : tie.Need-add-i Inv-loop μ-loop
+add-i c = omega arith
+
+-- src/lib.rt:102:5
+loop-less : tie.Need-loop-less Inv-loop μ-loop
+loop-less c = omega arith
+
+-- src/lib.rt:102:5
+loop-again : tie.Need-loop-again Inv-loop μ-loop
+loop-again c =
+    let text = now (c .before .before .before .before .before .before .before .before .before .before .args .text) in
+    let lengths = now (c .before .before .before .before .before .before .before .before .before .before .args .lengths) in
+    let h = blockHeight (length lengths) in
+    let e = c .before .before .before .measure-part .ensures ∙ ap (λ (m : Measure). measureAll m (take (getD lengths (c .before .before .before .before .before .before .before .loop .i) 0) (drop (c .before .before .before .before .before .before .before .loop .at) text))) (c .before .before .before .before .start .ensures) in (
+      c .before .before .before .before .before .before .before .loop .inv .0,
+      omega arith,
+      omega (arith, total-at 0 0 lengths (c .before .before .before .before .before .before .before .loop .i) (omega arith)),
+      ap (λ (w : Float). linesSize h w (cut (drop (c .before .before .before .before .before .before .before .loop .at + getD lengths (c .before .before .before .before .before .before .before .loop .i) 0) text) (drop (c .before .before .before .before .before .before .before .loop .i + 1) lengths))) (c .max .ensures)
+          ∙ line-well h (c .before .before .before .before .before .before .before .loop .width) text lengths (c .before .before .before .before .before .before .before .loop .at) (c .before .before .before .before .before .before .before .loop .i) (omega arith) (c .before .before .before .measure-part .result .st) (c .before .before .before .measure-part .result .width)
+          (ap (λ (m : Measure). m .st) e) (ap (λ (m : Measure). m .width) e) (c .before .if1 .left)
+          ∙ c .before .before .before .before .before .before .before .loop .inv .3,
+    )
+
+-- src/lib.rt:111:24
+height-requires : tie.Need-height-requires Inv-loop μ-loop
+height-requires c κs = tt
+
+-- src/lib.rt:96:1
+returns-2 : tie.Need-returns-2 Inv-loop μ-loop
+returns-2 c =
+    let text = now (c .before .before .before .before .before .args .text) in
+    let lengths = now (c .before .before .before .before .before .args .lengths) in
+    ap (Size (c .before .before .loop .width)) (c .height .ensures)
+    ∙ lines-end (blockHeight (length lengths)) (c .before .before .loop .width) text lengths (c .before .before .loop .at) (c .before .before .loop .i) (omega arith)
+    ∙ c .before .before .loop .inv .3
+
+pub lines-size-spec : {M : Type 1} → statement M
+lines-size-spec =
+    tie.close
+    (tie.spec
+    Inv-loop
+    μ-loop
+    loop-holds
+    mul-n
+    shared-slice-read-n
+    start-requires
+    measure-part-requires
+    returns
+    max-requires
+    add-at
+    add-i
+    loop-less
+    loop-again
+    height-requires
+    returns-2)

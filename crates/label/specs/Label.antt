@@ -1,0 +1,87 @@
+-- The size of a label block, and the answer of the call that gives it.
+use mathlib.Core.Path.{_≡_, refl}
+use mathlib.Core.Bool.{Bool, true, false, cond, not, _&&_, _||_}
+use mathlib.Core.List.{List, [], _∷_}
+use Prim.Native.Nat.{ℕ, _+_}
+use lib.Dec.{ltb, eqb}
+use lib.ListN.{length, take, drop}
+use lib.Ieee.{Float, binary64, ofBits, round, mul}
+use Rattle.laws.specs.Loops.{over}
+use Rattle.laws.specs.Refusals.{firstOf}
+use Rattle.float.specs.Ops.{_⊕_, _⊗_, count}
+use Rattle.float.specs.Constants.{f0, f12, f15, f0-6}
+use Rattle.float.specs.Standins.{max}
+use Rattle.text.specs.Utf8.{wellFormed, codePoints}
+use Rattle.label.specs.declared.Sized.{Sized}
+use Rattle.label.specs.declared.Sized.the-variants.{Size, Refused}
+
+-- ---- 'Character widths: ASCII 0.6·12, all others 12, line height 15'
+abbrev pub asciiWidth : Float
+asciiWidth = ofBits binary64 0x401ccccccccccccc
+
+pub ascii-width-is : asciiWidth ≡ f0-6 ⊗ f12
+unfolding ofBits mul round
+ascii-width-is = refl
+
+-- the width of a code point
+unfoldable pub charWidth : ℕ → Float
+charWidth c = cond (ltb c 0x80) asciiWidth f12
+
+abbrev pub widened : Float → ℕ → Float
+widened w c = w ⊕ charWidth c
+
+-- 'A line's width is added character by character from 0'
+unfoldable pub lineWidth : List ℕ → Float
+lineWidth line = over widened f0 (codePoints line)
+
+-- the widest line, from 0, and a line height for each line
+unfoldable pub wider : Float → List ℕ → Float
+wider w line = max w (lineWidth line)
+
+abbrev pub blockWidth : List (List ℕ) → Float
+blockWidth lines = over wider f0 lines
+
+abbrev pub blockHeight : ℕ → Float
+blockHeight n = count n ⊗ f15
+
+-- ---- 'A label block is given text bytes and a list of line lengths'
+-- the lines, one after the other
+unfoldable pub cut : List ℕ → List ℕ → List (List ℕ)
+cut s [] = []
+cut s (n ∷ ns) = take n s ∷ cut (drop n s) ns
+
+unfoldable pub total : List ℕ → ℕ
+total [] = 0
+total (n ∷ ns) = n + total ns
+
+-- some length is above the limit
+unfoldable pub anyOver : ℕ → List ℕ → Bool
+anyOver limit [] = false
+anyOver limit (n ∷ ns) = ltb limit n || anyOver limit ns
+
+unfoldable pub allFormed : List (List ℕ) → Bool
+allFormed [] = true
+allFormed (l ∷ ls) = wellFormed l && allFormed ls
+
+-- 'It meets only 5 (also where the lengths do not add up to the text) and 6': more lines than maxLines, a line of more than maxBytes bytes,
+-- lengths that do not add up; then a line that is not well-formed UTF-8
+unfoldable pub sized : ℕ → ℕ → List ℕ → List ℕ → Sized
+sized maxLines maxBytes text lengths =
+    firstOf
+    (
+    (ltb maxLines (length lengths), Refused 5)
+    ∷ (anyOver maxBytes lengths, Refused 5)
+    ∷ (not (eqb (length text) (total lengths)), Refused 5)
+    ∷ (not (allFormed (cut text lengths)), Refused 6)
+    ∷ []
+    )
+    (Size (blockWidth (cut text lengths)) (blockHeight (length lengths)))
+
+-- document 01's number and values for each case of the answer: 0 and the width and height, or the number of the refusal
+abbrev pub number : Sized → ℕ
+number (Size w h) = 0
+number (Refused n) = n
+
+abbrev pub values : Sized → List Float
+values (Size w h) = w ∷ h ∷ []
+values (Refused n) = []

@@ -1,0 +1,3 @@
+pub mod Label
+pub mod Measuring
+pub mod Worked

@@ -1,0 +1,93 @@
+-- A line measured a byte at a time, so that it can come in pieces. Assumes nothing.
+use mathlib.Core.Path.{_≡_, refl, sym, ap, _∙_, subst}
+use mathlib.Core.Bool.{Bool, true, false, cond, not, _&&_, _||_}
+use mathlib.Core.List.{List, [], _∷_, _++_}
+use Prim.Native.Nat.{ℕ, _+_}
+use lib.Dec.{T, ltb, eqb}
+use lib.ListN.{length}
+use lib.Ieee.{Float}
+use Rattle.laws.specs.Cases.{by-bool}
+use Rattle.laws.specs.Loops.{over, over-join}
+use Rattle.float.specs.Constants.{f0}
+use Rattle.text.specs.Utf8.{wellFormed, codePoints}
+use Rattle.text.specs.Automaton.{feedOf, gatherOf, feedAll, readBy}
+use Rattle.text.specs.Table.{well-formed-is}
+use Rattle.text.specs.Codes.{read-codes}
+use Rattle.label.specs.declared.Measure.{Measure}
+use Rattle.label.specs.declared.Sized.{Sized}
+use Rattle.label.specs.declared.Sized.the-variants.{Size, Refused}
+use Rattle.label.specs.Label.{widened, lineWidth, wider, blockHeight, cut, total, anyOver, allFormed, sized}
+
+abbrev pub measure : ℕ → ℕ → Float → Measure
+measure st value width = record { st = st; value = value; width = width }
+
+-- before the first byte of a line
+abbrev pub start : Measure
+start = measure 0 0 f0
+
+-- one byte: the width grows where a character is complete
+unfoldable pub measureOf : Measure → ℕ → Measure
+measureOf m b =
+    let st = feedOf (m .st) b in
+    let value = gatherOf (m .st) (m .value) b in
+    measure st value (cond (eqb st 0) (widened (m .width) value) (m .width))
+
+-- all bytes of a piece
+abbrev pub measureAll : Measure → List ℕ → Measure
+measureAll m s = over measureOf m s
+
+measure-st : (m : Measure) (s : List ℕ) → measureAll m s .st ≡ feedAll (m .st) s
+unfolding over measureOf
+measure-st m [] = refl
+measure-st m (b ∷ s) = measure-st (measureOf m b) s
+
+measure-width : (m : Measure) (s : List ℕ) → measureAll m s .width ≡ readBy widened (m .st) (m .value) (m .width) s
+unfolding over measureOf readBy
+measure-width m [] = refl
+measure-width m (b ∷ s) = measure-width (measureOf m b) s
+
+-- the line is well-formed exactly where its measure ends in state 0
+pub measured-formed : (line : List ℕ) → wellFormed line ≡ eqb (measureAll start line .st) 0
+measured-formed line = well-formed-is line ∙ ap (λ (st : ℕ). eqb st 0) (sym (measure-st start line))
+
+-- and its width is the measure's
+pub measured-width : (line : List ℕ) → measureAll start line .width ≡ lineWidth line
+unfolding lineWidth
+measured-width line = measure-width start line ∙ read-codes widened f0 line
+
+-- a line in two pieces is measured one piece after the other
+pub measure-join : (m : Measure) (p q : List ℕ) → measureAll m (p ++ q) ≡ measureAll (measureAll m p) q
+measure-join m p q = over-join measureOf 0 m p q
+
+-- ---- the parts of the call
+-- no length is above the limit, and they add up to so many bytes
+unfoldable pub lengthsFit : ℕ → ℕ → List ℕ → Bool
+lengthsFit maxBytes bytes lengths = not (anyOver maxBytes lengths) && eqb bytes (total lengths)
+
+-- the size of lines that come after some of width w, where the whole block has height h
+unfoldable pub linesSize : Float → Float → List (List ℕ) → Sized
+linesSize h w lines = cond (allFormed lines) (Size (over wider w lines) h) (Refused 6)
+
+pub sized-many : (maxLines maxBytes : ℕ) (text lengths : List ℕ) → ltb maxLines (length lengths) ≡ true → sized maxLines maxBytes text lengths ≡ Refused 5
+unfolding sized
+sized-many maxLines maxBytes text lengths e = rw e
+
+pub sized-unfit : (maxLines maxBytes : ℕ) (text lengths : List ℕ) → ltb maxLines (length lengths) ≡ false → lengthsFit maxBytes (length text) lengths ≡ false
+    → sized maxLines maxBytes text lengths ≡ Refused 5
+unfolding sized lengthsFit
+sized-unfit maxLines maxBytes text lengths e f =
+    by-bool (anyOver maxBytes lengths)
+    (λ a. rw (e, a))
+    (λ a. let g : eqb (length text) (total lengths) ≡ false = rw a at f in rw (e, a, g))
+
+pub sized-fit : (maxLines maxBytes : ℕ) (text lengths : List ℕ) → ltb maxLines (length lengths) ≡ false → lengthsFit maxBytes (length text) lengths ≡ true
+    → sized maxLines maxBytes text lengths ≡ linesSize (blockHeight (length lengths)) f0 (cut text lengths)
+unfolding sized lengthsFit linesSize
+sized-fit maxLines maxBytes text lengths e f =
+    by-bool (anyOver maxBytes lengths)
+    (λ a. let z : false ≡ true = rw a at f in absurd (subst T (sym z) tt))
+    (λ a. let g : eqb (length text) (total lengths) ≡ true = rw a at f in rw (e, a, g) (other (allFormed (cut text lengths))))
+  where
+    other : (t : Bool) → cond (not t) (Refused 6) (Size (over wider f0 (cut text lengths)) (blockHeight (length lengths))) ≡ cond t (Size (over wider f0 (cut text lengths)) (blockHeight (length lengths))) (Refused 6)
+    other true = refl
+    other false = refl

@@ -1,0 +1,133 @@
+// The size of a label block: its lines measured character by character.
+ghost use mathlib.Core.Path.{_≡_};
+ghost use Prim.Native.Nat.{_≤_};
+ghost use lib.ListN.{length, take, drop};
+ghost use Rattle.float.specs.Constants.{f0};
+ghost use Rattle.label.specs.Label as S;
+ghost use Rattle.label.specs.Measuring as M;
+
+// A line measured so far: the state of its UTF-8, the value of the character that has begun, and the width.
+pub struct Measure {
+    pub st: u8,
+    pub value: u32,
+    pub width: f64,
+}
+
+// The answer of `label_size`: width and height, or the number of a refusal.
+pub enum Sized {
+    Size(f64, f64),
+    Refused(u8),
+}
+
+// The width of a code point.
+pub fn char_width(c: u32) -> f64
+    ensures { λ r. ⌜ r ≡ S.charWidth c ⌝ }
+{
+    if c < 0x80 {
+        return 7.199999999999999;
+    }
+    12.0
+}
+
+// Before the first byte of a line.
+pub fn start() -> Measure
+    ensures { λ r. ⌜ r ≡ M.start ⌝ }
+{
+    Measure {
+        st: 0,
+        value: 0,
+        width: 0.0,
+    }
+}
+
+// One byte of a line.
+pub fn measure_byte(m: Measure, b: u8) -> Measure
+    ensures { λ r. ⌜ r ≡ M.measureOf m b ⌝ }
+{
+    let st = text::feed(m.st, b);
+    let value = text::gather(m.st, m.value, b);
+    if st == 0 {
+        let width = m.width + char_width(value);
+        return Measure { st, value, width };
+    }
+    Measure {
+        st,
+        value,
+        width: m.width,
+    }
+}
+
+// The n bytes of s from a on, or as many as there are.
+pub fn measure_part(s: &[u8], a: usize, n: usize, m: Measure) -> Measure
+    ensures { λ r. ⌜ r ≡ M.measureAll m (take n (drop a (now (s .entry)))) ⌝ }
+{
+    let mut t = m;
+    let mut i = a;
+    let mut left = n;
+    while 0 < left {
+        if s.len() <= i {
+            return t;
+        }
+        t = measure_byte(t, s[i]);
+        i += 1;
+        left -= 1;
+    }
+    t
+}
+
+// The height of so many lines.
+pub fn height(lines: usize) -> f64
+    ensures { λ r. ⌜ r ≡ S.blockHeight lines ⌝ }
+{
+    std::num::nearest_u64_to_f64(lines as u64) * 15.0
+}
+
+// No length is above max_bytes, and they add up to `bytes`.
+fn lengths_fit(lengths: &[usize], max_bytes: usize, bytes: usize) -> bool
+    ensures { λ r. ⌜ r ≡ M.lengthsFit «max_bytes» bytes (now (lengths .entry)) ⌝ }
+{
+    let mut left = bytes;
+    for i in 0..lengths.len() {
+        let n = lengths[i];
+        if max_bytes < n {
+            return false;
+        }
+        if left < n {
+            return false;
+        }
+        left -= n;
+    }
+    left == 0
+}
+
+// The size of the lines, one after the other in the text, or a refusal of the first that is not well-formed.
+fn lines_size(text: &[u8], lengths: &[usize]) -> Sized
+    requires { ⌜ S.total (now lengths) ≤ length (now text) ⌝ }
+    ensures { λ r. ⌜ r ≡ M.linesSize (S.blockHeight (length (now (lengths .entry)))) f0 (S.cut (now (text .entry)) (now (lengths .entry))) ⌝ }
+{
+    let mut at = 0;
+    let mut width = 0.0;
+    for i in 0..lengths.len() {
+        let n = lengths[i];
+        let m = measure_part(text, at, n, start());
+        if m.st != 0 {
+            return Sized::Refused(6);
+        }
+        width = float::max(width, m.width);
+        at += n;
+    }
+    Sized::Size(width, height(lengths.len()))
+}
+
+// The size of a label block of at most max_lines lines with at most max_bytes bytes each.
+pub fn label_size(text: &[u8], lengths: &[usize], max_lines: usize, max_bytes: usize) -> Sized
+    ensures { λ r. ⌜ r ≡ S.sized «max_lines» «max_bytes» (now (text .entry)) (now (lengths .entry)) ⌝ }
+{
+    if max_lines < lengths.len() {
+        return Sized::Refused(5);
+    }
+    if !lengths_fit(lengths, max_bytes, text.len()) {
+        return Sized::Refused(5);
+    }
+    lines_size(text, lengths)
+}
