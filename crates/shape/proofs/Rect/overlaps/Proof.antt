@@ -1,0 +1,23 @@
+-- `shape::Rect::overlaps` meets its contract.
+use Rattle.shape.specs.Plane.{overlaps}
+use Rattle.shape.proofs.Rect.overlaps.Statement.{statement}
+use Rattle.shape.proofs.Rect.overlaps.Tie as tie
+
+returns : tie.Need-returns
+unfolding overlaps
+returns c = rw (c .before .before .before .before .before .before .before .before .if1 .taken, c .before .before .before .before .before .if2 .taken, c .before .before .if3 .taken)
+
+returns-2 : tie.Need-returns-2
+unfolding overlaps
+returns-2 c = rw (c .before .before .before .before .before .before .if1 .taken, c .before .before .before .if2 .taken, c .if3 .left)
+
+returns-3 : tie.Need-returns-3
+unfolding overlaps
+returns-3 c = rw (c .before .before .before .if1 .taken, c .if2 .left)
+
+returns-4 : tie.Need-returns-4
+unfolding overlaps
+returns-4 c = rw (c .if1 .left)
+
+pub overlaps-spec : {M : Type 1} → statement M
+overlaps-spec = tie.close (tie.spec returns returns-2 returns-3 returns-4)

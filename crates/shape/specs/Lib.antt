@@ -1,0 +1,5 @@
+pub mod Plane
+pub mod Curves
+pub mod Clipping
+pub mod Steps
+pub mod Worked
