@@ -3,3 +3,4 @@ pub mod Constants
 pub mod Standins
 pub mod Signs
 pub mod Rounding
+pub mod Laws

@@ -1,4 +1,7 @@
 -- `float::quarter` meets its contract.
+use mathlib.Core.Path.{_≡_}
+use mathlib.Core.Bool.{true, false}
+use Rattle.float.specs.Ops.{lt}
 use Rattle.float.specs.Standins.{quarter}
 use borrow.Author.Needs.{needs}
 use Rattle.float.proofs.quarter.Statement.{statement}
@@ -12,7 +15,7 @@ arc-requires c κs = search needs
 
 returns : tie.Need-returns
 unfolding quarter
-returns c = rw (c .before .before .if1 .taken, ← (c .before .share .ensures), c .arc .ensures)
+returns c = let steep : lt (c .before .before .before .args .x) (c .before .before .before .args .y) ≡ true = c .before .before .if1 .taken in rw (steep, ← (c .before .share .ensures), c .arc .ensures)
 
 share-requires-2 : tie.Need-share-requires-2
 share-requires-2 c κs = search needs
@@ -22,7 +25,7 @@ arc-requires-2 c κs = search needs
 
 returns-2 : tie.Need-returns-2
 unfolding quarter
-returns-2 c = rw (c .before .before .if1 .left, ← (c .before .share2 .ensures), c .arc2 .ensures)
+returns-2 c = let flat : lt (c .before .before .before .args .x) (c .before .before .before .args .y) ≡ false = c .before .before .if1 .left in rw (flat, ← (c .before .share2 .ensures), c .arc2 .ensures)
 
 pub quarter-spec : {M : Type 1} → statement M
 quarter-spec =

@@ -1,0 +1,107 @@
+-- What later crates cite of the stand-ins: the larger and the smaller, the order of roots, and the arctangent at zeros. Assumes nothing.
+-- (`<` of floats is transitive and irreflexive, with NaN and the infinities: `lt-trans`, `lt-itself` of laws.)
+use mathlib.Core.Path.{_≡_, refl, sym, ap, _∙_, subst}
+use mathlib.Core.Bool.{Bool, true, false, not, cond}
+use Prim.Native.Nat.{ℕ, zero, suc, _+_, _-_, _*_, _/_, _%_, _^_, _≤_, _<_}
+use native.Mathlib.Nat.{mul-pos, zero-mul}
+use native.Mathlib.Omega.{arith}
+use borrow.Author.Tests.{ne-eqb, lt-leb, le-ltb}
+use lib.Dec.{T}
+use lib.IntN.{ℤ}
+use lib.Ieee.{Float, nan, inf, fin, up, down, binary64, isNan, toBits, ofBits}
+use lib.Ieee as Ieee
+use lib.Ieee.Scale.{round-same}
+use lib.Ieee.Fits.{up-pos}
+use lib.Ieee.Bits.{toBits-ofBits, nanBits-is, is-false}
+use Rattle.laws.specs.Cases.{by-bool, holds}
+use Rattle.laws.specs.Between.{below-num, above-num, self-num, self-inf}
+use Rattle.root.specs.Root.{rootBits}
+use Rattle.float.specs.Constants.{f0, π}
+use Rattle.float.specs.Ops.{_⊘_, neg, lt, eq, ne}
+use Rattle.float.specs.Standins.{negative, abs, min, max, root, rootOf, arc, share, quarter, atan2, arcSeries}
+use Rattle.float.specs.Signs.{no-nan-bits, abs-num}
+
+-- ---- the larger and the smaller
+pub max-second : (a b : Float) → lt a b ≡ true → max a b ≡ b
+max-second a b h = rw (below-num a b (holds h), h)
+
+pub max-first : (a b : Float) → ne a a ≡ false → lt a b ≡ false → max a b ≡ a
+max-first a b n h = rw (n, h)
+
+pub min-second : (a b : Float) → lt b a ≡ true → min a b ≡ b
+min-second a b h = rw (above-num b a (holds h), h)
+
+pub min-first : (a b : Float) → ne a a ≡ false → lt b a ≡ false → min a b ≡ a
+min-first a b n h = rw (n, h)
+
+-- "a NaN gives way to the other"
+pub max-nan : (a : Float) → (max nan a ≡ a) × (max a nan ≡ a)
+unfolding Ieee.ne Ieee.eq Ieee.lt
+max-nan nan = (refl, refl)
+max-nan (inf s) = (refl, rw (self-inf s))
+max-nan (fin s m e) = (refl, rw (self-num s m e))
+
+pub min-nan : (a : Float) → (min nan a ≡ a) × (min a nan ≡ a)
+unfolding Ieee.ne Ieee.eq Ieee.lt
+min-nan nan = (refl, refl)
+min-nan (inf s) = (refl, rw (self-inf s))
+min-nan (fin s m e) = (refl, rw (self-num s m e))
+
+-- ---- the root of a finite number above zero, by the bits
+pub root-at : (b : ℕ) → 0 < b → b < 2047 * 2 ^ 52 → root (ofBits binary64 b) ≡ ofBits binary64 (rootBits b)
+unfolding root rootOf
+root-at b z h =
+    let n : isNan (ofBits binary64 b) ≡ false = sym (nanBits-is binary64 b) ∙ is-false (Ieee.nanBits binary64 b) (no-nan-bits b h) in
+    let e : toBits binary64 (ofBits binary64 b) ≡ b = toBits-ofBits binary64 b (omega arith) (rw n tt) in
+    let x : b ≡ 0 → ⊥ = λ w. omega arith in
+    let y : b ≡ 2 ^ 63 → ⊥ = λ w. omega arith in
+    rw (n, e, ne-eqb _ _ x, ne-eqb _ _ y, lt-leb (2 ^ 63) b (omega arith), lt-leb (2047 * 2 ^ 52) b h)
+
+-- ---- the arctangent: its sign, and where y is zero
+pub atan2-down : (y x : Float) → negative y ≡ false → ne y y ≡ false → atan2 (neg y) x ≡ neg (atan2 y x)
+unfolding atan2 Ieee.neg Ieee.ne Ieee.eq
+atan2-down nan x s n = absurd (subst T n tt)
+atan2-down (inf t) x s n = rw s
+atan2-down (fin t m e) x s n = rw s
+
+zero-over : (m : ℕ) (e : ℤ) → f0 ⊘ fin false (suc m) e ≡ f0
+unfolding ofBits Ieee.div
+zero-over m e =
+    let n : suc m ≡ 0 → ⊥ = λ z. omega arith in
+    rw (ne-eqb _ _ n)
+    (round-same binary64 false (0 * 1 * down e) (suc m * up e * 1) 0 1 (mul-pos (mul-pos (omega arith) (up-pos e)) (omega arith)) (omega arith) (omega arith) ∙ unfold Ieee.round in refl)
+
+zero-share : (a : Float) → negative a ≡ false → ne a a ≡ false → share f0 a ≡ f0
+unfolding Ieee.eq Ieee.ne ofBits
+zero-share nan s n = absurd (subst T n tt)
+zero-share (inf t) s n = rw s (unfold Ieee.div in refl)
+zero-share (fin t zero e) s n = rw (zero-mul (up e), zero-mul (down e), s)
+zero-share (fin t (suc m) e) s n = by-bool (eq (fin t (suc m) e) f0) (λ w. rw w) (λ w. rw (w, s) (zero-over m e))
+
+arc-zero : arc f0 ≡ f0
+unfolding arc arcSeries root rootOf rootBits Rattle.root.specs.Root.nearestRoot Rattle.root.specs.Root.wholeRoot Rattle.root.specs.Root.digits Rattle.root.specs.Root.scale Rattle.laws.specs.Loops.down Ieee.add Ieee.sub Ieee.mul Ieee.div Ieee.round Ieee.ofInt ofBits Ieee.toBits isNan
+arc-zero = refl
+
+-- at y = 0 the quarter's angle is 0, so the answer is 0 for an x that is not negative and PI for one that is, with y's sign
+not-below : (x : Float) → negative x ≡ false → lt x f0 ≡ false
+unfolding Ieee.lt ofBits
+not-below nan s = refl
+not-below (inf t) s = s
+not-below (fin t m e) s = rw (s, zero-mul (down e)) (le-ltb (m * up e * 1) 0 (omega arith))
+
+quarter-zero : (x : Float) → negative x ≡ false → ne x x ≡ false → quarter f0 x ≡ f0
+unfolding quarter
+quarter-zero x s n = rw (not-below x s, zero-share x s n) arc-zero
+
+pub atan2-zero : (x : Float) → ne x x ≡ false → atan2 f0 x ≡ cond (negative x) π f0
+unfolding atan2 ofBits Ieee.sub Ieee.add Ieee.neg Ieee.sum Ieee.round
+atan2-zero x n = rw (quarter-zero (abs x) (unsigned x) (abs-num x (abs x) refl n)) (by-bool (negative x) (λ t. rw t) (λ t. rw t))
+  where
+    unsigned : (x : Float) → negative (abs x) ≡ false
+    unsigned nan = refl
+    unsigned (inf t) = refl
+    unsigned (fin t m e) = refl
+
+pub atan2-minus-zero : (x : Float) → ne x x ≡ false → atan2 (neg f0) x ≡ neg (cond (negative x) π f0)
+unfolding ofBits Ieee.ne Ieee.eq
+atan2-minus-zero x n = atan2-down f0 x refl refl ∙ ap Ieee.neg (atan2-zero x n)
