@@ -187,11 +187,3 @@ closest-unique b r z f = le-antisymm (closest-monotone b b r (rootBits b) (le-re
 -- The root never falls where the number rises.
 pub root-monotone : (b c : ℕ) → 0 < b → b ≤ c → rootBits b ≤ rootBits c
 root-monotone b c z h = closest-monotone b c (rootBits b) (rootBits c) h (root-closest b z) (root-closest c (omega arith))
-
--- A root is below the bits t just where its number is below the bits s, if s is the first number whose root is not.
-pub root-threshold : (s t b : ℕ) → 0 < b → 1 < s → rootBits (s - 1) < t → t ≤ rootBits s → ltb (rootBits b) t ≡ ltb b s
-root-threshold s t b z o l u = go (ltb b s) refl
-  where
-    go : (q : Bool) → ltb b s ≡ q → ltb (rootBits b) t ≡ ltb b s
-    go true e = lt-ltb (rootBits b) t (lt-of-le-of-lt (root-monotone b (s - 1) z (let h : b < s = ltb-true b s e in omega arith)) l) ∙ sym e
-    go false e = le-ltb (rootBits b) t (le-trans u (root-monotone s b (omega arith) (ltb-false b s e))) ∙ sym e

@@ -1,4 +1,4 @@
--- Finite numbers that are not negative are in the order of their bits, and their roots never fall where they rise. Assumes nothing.
+-- Finite numbers that are not negative are in the order of their bits. Assumes nothing.
 use mathlib.Core.Path.{_≡_, refl, sym, ap, ap₂, _∙_, subst}
 use mathlib.Core.Bool.{Bool, true, false, _&&_, _||_, true≢false}
 use Prim.Native.Nat.{ℕ, zero, suc, _+_, _-_, _*_, _^_, _≤_, _<_}
@@ -11,12 +11,11 @@ use lib.Ieee.{Float, nan, inf, fin, binary64, ofBits, lt, le, eq, up, down}
 use lib.Ieee.Exact.{HasValue}
 use lib.Ieee.Fits.{down-pos}
 use lib.Ieee.Order.{transfer}
-use Rattle.root.specs.Root.{rootBits}
-use Rattle.root.specs.Rounded.{magnitude, bits-value, root-under}
-use Rattle.root.specs.Closest.{magnitude-lt, magnitude-le, root-monotone, root-threshold}
+use Rattle.root.specs.Rounded.{magnitude, bits-value}
+use Rattle.root.specs.Closest.{magnitude-lt, magnitude-le}
 
 -- tests that agree both ways
-ltb-same : (x y a b : ℕ) → (a < b → x < y) → (b ≤ a → y ≤ x) → ltb x y ≡ ltb a b
+pub ltb-same : (x y a b : ℕ) → (a < b → x < y) → (b ≤ a → y ≤ x) → ltb x y ≡ ltb a b
 ltb-same x y a b f g = go (ltb a b) refl
   where
     go : (t : Bool) → ltb a b ≡ t → ltb x y ≡ ltb a b
@@ -30,7 +29,7 @@ eqb-same x y a b f g = go (eqb a b) refl
     go true e = eq-eqb x y (f (eqb-true a b e)) ∙ sym e
     go false e = ne-eqb x y (λ (h : x ≡ y). eqb-false a b e (g h)) ∙ sym e
 
-le-or : (a b : ℕ) → (ltb a b || eqb a b) ≡ leb a b
+pub le-or : (a b : ℕ) → (ltb a b || eqb a b) ≡ leb a b
 le-or a b = go (ltb a b) refl
   where
     go : (t : Bool) → ltb a b ≡ t → (ltb a b || eqb a b) ≡ leb a b
@@ -110,16 +109,3 @@ bits-order b c h k = record { less = l; equal = e; at-most = ap₂ _||_ l e ∙ 
 
     e : eq (ofBits binary64 b) (ofBits binary64 c) ≡ eqb b c
     e = v .1 ∙ eqb-same (magnitude b) (magnitude c) b c (ap magnitude) (magnitude-same b c)
-
--- The root of a finite number above zero is at most that of one that it is at most.
-pub root-rises : (b c : ℕ) → 0 < b → b < 2047 * 2 ^ 52 → c < 2047 * 2 ^ 52 → le (ofBits binary64 b) (ofBits binary64 c) ≡ true
-    → le (ofBits binary64 (rootBits b)) (ofBits binary64 (rootBits c)) ≡ true
-root-rises b c z h k e =
-    let l : b ≤ c = leb-true b c (sym (bits-order b c h k .at-most) ∙ e) in
-    bits-order (rootBits b) (rootBits c) (root-under b z h) (root-under c (omega arith) k) .at-most ∙ le-leb (rootBits b) (rootBits c) (root-monotone b c z l)
-
--- A root is below the number with the bits t just where its number is below the one with the bits s, if s is the first whose root is not.
-pub root-below : (s t b : ℕ) → 0 < b → 1 < s → b < 2047 * 2 ^ 52 → s < 2047 * 2 ^ 52 → t < 2047 * 2 ^ 52 → rootBits (s - 1) < t → t ≤ rootBits s
-    → lt (ofBits binary64 (rootBits b)) (ofBits binary64 t) ≡ lt (ofBits binary64 b) (ofBits binary64 s)
-root-below s t b z o h k m l u =
-    bits-order (rootBits b) t (root-under b z h) m .less ∙ root-threshold s t b z o l u ∙ sym (bits-order b s h k .less)

@@ -1,11 +1,8 @@
 -- Roots computed by the definition: the bits of x, and those of the binary64 nearest to its root.
-use mathlib.Core.Path.{_≡_, refl, sym}
-use Prim.Native.Nat.{ℕ, _-_, _*_, _^_, _≤_, _<_}
-use native.Mathlib.Nat.{le-of-eq}
+use mathlib.Core.Path.{_≡_, refl}
 use native.Mathlib.Omega.{arith}
-use lib.Ieee.{binary64, ofBits, lt}
 use Rattle.root.specs.Root.{digits, wholeRoot, nearestRoot, scale, rootBits}
-use Rattle.root.specs.Floats.{root-below}
+use Rattle.root.specs.Plain.{rootPlain, First}
 
 two : rootBits 0x4000000000000000 ≡ 0x3ff6a09e667f3bcd
 unfolding digits wholeRoot nearestRoot scale rootBits
@@ -43,26 +40,12 @@ below-four : rootBits 0x400fffffffffffff ≡ 0x3fffffffffffffff
 unfolding digits wholeRoot nearestRoot scale rootBits
 below-four = refl
 
-root-to-26 : rootBits 0x4085200000000000 ≡ 0x403a000000000000
-unfolding digits wholeRoot nearestRoot scale rootBits
-root-to-26 = refl
+-- ---- bounds on roots as bounds on their numbers: a root is below t where its number is below s
 
-root-under-26 : rootBits 0x40851fffffffffff ≡ 0x4039ffffffffffff
-unfolding digits wholeRoot nearestRoot scale rootBits
-root-under-26 = refl
+pub first-26 : First 0x4085200000000000 0x403a000000000000
+unfolding digits wholeRoot nearestRoot scale rootBits rootPlain
+first-26 = record { some = omega arith; number = omega arith; bound = omega arith; before = omega arith; from = omega arith }
 
--- a root is below 26 where its number is below 676
-pub below-26 : (b : ℕ) → 0 < b → b < 2047 * 2 ^ 52 → lt (ofBits binary64 (rootBits b)) (ofBits binary64 0x403a000000000000) ≡ lt (ofBits binary64 b) (ofBits binary64 0x4085200000000000)
-below-26 b z h = root-below 0x4085200000000000 0x403a000000000000 b z (omega arith) h (omega arith) (omega arith) (omega (arith, root-under-26)) (le-of-eq (sym root-to-26))
-
-root-to-24 : rootBits 0x4082000000000000 ≡ 0x4038000000000000
-unfolding digits wholeRoot nearestRoot scale rootBits
-root-to-24 = refl
-
-root-under-24 : rootBits 0x4081ffffffffffff ≡ 0x4037ffffffffffff
-unfolding digits wholeRoot nearestRoot scale rootBits
-root-under-24 = refl
-
--- a root is below 24 where its number is below 576
-pub below-24 : (b : ℕ) → 0 < b → b < 2047 * 2 ^ 52 → lt (ofBits binary64 (rootBits b)) (ofBits binary64 0x4038000000000000) ≡ lt (ofBits binary64 b) (ofBits binary64 0x4082000000000000)
-below-24 b z h = root-below 0x4082000000000000 0x4038000000000000 b z (omega arith) h (omega arith) (omega arith) (omega (arith, root-under-24)) (le-of-eq (sym root-to-24))
+pub first-24 : First 0x4082000000000000 0x4038000000000000
+unfolding digits wholeRoot nearestRoot scale rootBits rootPlain
+first-24 = record { some = omega arith; number = omega arith; bound = omega arith; before = omega arith; from = omega arith }
