@@ -10,7 +10,7 @@ use borrow.Author.Tests.{eqb-true, eqb-false, ltb-true, ltb-false, leb-true, leb
 use lib.Ieee.{Float, nan, inf, fin, Format, prec, emax, low, up, down, binary64, fits, isNan, nanBits, ofBits, toBits, ofFields, odd, units, round, sum, add, mul, lt, le, eq, ne}
 use lib.Ieee.Exact.{HasValue}
 use lib.Ieee.Fits.{round-is, add-fits}
-use lib.Ieee.Bits.{ofBits-toBits, toBits-lt, nanBits-is, nanBits-above}
+use lib.Ieee.Bits.{ofBits-toBits, toBits-lt, ofBits-fits, nanBits-is, nanBits-above}
 use Rattle.root.specs.Root.{rootBits}
 use Rattle.root.specs.Rounded.{magnitude, bits-value, root-under}
 use Rattle.root.specs.Closest.{root-monotone}
@@ -200,6 +200,32 @@ pub record Plain (x : Float) : Type 0 where
 pub squares-plain : (x y : Float) → isNan x ≡ false → isNan y ≡ false → Plain (add binary64 (mul binary64 x x) (mul binary64 y y))
 squares-plain x y h k = record { held = add-fits binary64 (mul binary64 x x) (mul binary64 y y); clear = sum-plain binary64 (mul binary64 x x) (mul binary64 y y) (square-plain binary64 x h) (square-plain binary64 y k) }
 
+-- a plain float is equal to itself
+pub plain-itself : (x : Float) → Plain x → ne x x ≡ false
+unfolding ne eq
+plain-itself nan p = absurd (true≢false (sym (p .clear)))
+plain-itself (inf true) p = absurd (true≢false (sym (p .clear)))
+plain-itself (inf false) p = refl
+plain-itself (fin true m e) p = absurd (true≢false (sym (p .clear)))
+plain-itself (fin false m e) p = let a = m * up e * down e in rw (eq-eqb a a refl)
+
+value-plain : (x : Float) (a n : ℕ) → HasValue x false a n → plain x ≡ true
+value-plain nan a n h = absurd h
+value-plain (inf s) a n h = absurd h
+value-plain (fin s m e) a n h = ap not (h .0)
+
+pub bits-plain : (b : ℕ) → b ≤ 2047 * 2 ^ 52 → Plain (ofBits binary64 b)
+bits-plain b h = record { held = ofBits-fits binary64 b; clear = go (ltb b (2047 * 2 ^ 52)) refl }
+  where
+    go : (t : Bool) → ltb b (2047 * 2 ^ 52) ≡ t → plain (ofBits binary64 b) ≡ true
+    go true e = let l : b < 2047 * 2 ^ 52 = ltb-true b (2047 * 2 ^ 52) e in value-plain (ofBits binary64 b) (magnitude b) (2 ^ 1074) (bits-value b l)
+    go false e = ap plain (ap (ofBits binary64) (le-antisymm h (ltb-false b (2047 * 2 ^ 52) e)) ∙ infinite)
+
+-- of two plain floats either is plain
+pub either-plain : (b : Bool) (x y : Float) → Plain x → Plain y → Plain (cond b x y)
+either-plain true x y p q = p
+either-plain false x y p q = q
+
 -- what a root is over plain floats
 pub record IsRoot (root : Float → Float) : Type 0 where
   pub at : (b : ℕ) → b ≤ 2047 * 2 ^ 52 → root (ofBits binary64 b) ≡ ofBits binary64 (rootPlain b)
@@ -270,6 +296,9 @@ module _ (root : Float → Float) (is : IsRoot root) where
   le-roots x y p q =
       ap₂ le (root-of x p) (root-of y q)
       ∙ plain-order (rootPlain (bits x)) (rootPlain (bits y)) (root-plain-under (bits x) (bits-low x p)) (root-plain-under (bits y) (bits-low y q)) .at-most
+
+  pub root-plain : (x : Float) → Plain x → Plain (root x)
+  root-plain x p = subst Plain (sym (root-of x p)) (bits-plain (rootPlain (bits x)) (root-plain-under (bits x) (bits-low x p)))
 
   -- it rises
   pub root-le : (x y : Float) → Plain x → Plain y → le x y ≡ true → le (root x) (root y) ≡ true
