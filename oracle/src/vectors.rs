@@ -59,7 +59,7 @@ pub mod kind {
 
 /// Whether the program `vectors` replays cases of this kind.
 fn replayed(kind: u8) -> bool {
-    matches!(kind, 0..=15 | kind::SPOILED)
+    matches!(kind, 0..=16 | kind::SPOILED)
 }
 
 /// A case's payload as it is put together.

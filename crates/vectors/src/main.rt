@@ -56,6 +56,9 @@ fn agrees(kind: u8, p: &[u8]) -> bool {
     if kind < 16 {
         return replay_float::agrees(kind, p);
     }
+    if kind == 16 {
+        return replay_sheet::agrees(p);
+    }
     false
 }
 

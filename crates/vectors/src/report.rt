@@ -27,6 +27,7 @@ fn name(kind: u8) {
         13 => say(b"signum"),
         14 => say(b"copysign"),
         15 => say(b"total_cmp"),
+        16 => say(b"check"),
         255 => say(b"spoiled"),
         _ => say(b"no such kind"),
     }
