@@ -127,3 +127,12 @@ ill-arrow s k f b e q = rw (← e, ← q)
 
 pub ill-line : (s : List ℕ) (k st : ℕ) → st ≡ feedAll 0 (lineOf s k) → not (eqb st 0) ≡ illLine (lineOf s k)
 ill-line s k st e = rw (well-formed-is (lineOf s k), ← e)
+
+-- ---- counts
+pub count-states : (s : List ℕ) (f n : ℕ) → f ≡ firstState s → n ≡ length (chain s f) → n ≡ length (statesOf s)
+unfolding statesOf
+count-states s f n e q = q ∙ ap (λ (j : ℕ). length (chain s j)) e ∙ sym (length-map (chain s (firstState s)) (byteOne s))
+
+pub count-arrows : (s : List ℕ) (f n : ℕ) → f ≡ firstArrow s → n ≡ length (chain s f) → n ≡ length (arrowsOf s)
+unfolding arrowsOf
+count-arrows s f n e q = q ∙ ap (λ (j : ℕ). length (chain s j)) e ∙ sym (length-map (chain s (firstArrow s)) (arrowOf s))

@@ -2,11 +2,12 @@
 ghost use mathlib.Core.Path.{_≡_};
 ghost use mathlib.Core.List.{map};
 ghost use Prim.Native.Nat.{_+_, _*_, _<_, _≤_};
-ghost use lib.ListN.{length};
+ghost use lib.ListN.{length, set};
 ghost use Rattle.laws.specs.Put.{put};
 ghost use Rattle.text.specs.Automaton.{feedAll};
 ghost use Rattle.sheet.specs.Sheet as S;
 ghost use Rattle.sheet.specs.Refusals as R;
+ghost use Rattle.meaning.specs.Read as M;
 use sheet::Limits;
 use sheet::first_line_at;
 use sheet::first_text_at;
@@ -195,4 +196,111 @@ pub fn ill_formed(s: &[u8]) -> bool
         left -= 1;
     }
     false
+}
+
+// The number of states and of arrows.
+pub fn state_count(s: &[u8]) -> usize
+    ensures { λ r. ⌜ r ≡ length (S.statesOf (now (s .entry))) ⌝ }
+{
+    chain_length(s, word_at(s, 4))
+}
+
+pub fn arrow_count(s: &[u8]) -> usize
+    ensures { λ r. ⌜ r ≡ length (S.arrowsOf (now (s .entry))) ⌝ }
+{
+    chain_length(s, word_at(s, 6))
+}
+
+// v at place k, where there is one.
+fn store_u8(out: &mut [u8], k: usize, v: u8)
+    ensures { λ _. ⌜ now (out .exit) ≡ set (now (out .entry)) k v ⌝ }
+{
+    if k < out.len() {
+        out[k] = v;
+    }
+}
+
+fn store_u16(out: &mut [u16], k: usize, v: u16)
+    ensures { λ _. ⌜ now (out .exit) ≡ set (now (out .entry)) k v ⌝ }
+{
+    if k < out.len() {
+        out[k] = v;
+    }
+}
+
+fn store(out: &mut [usize], k: usize, v: usize)
+    ensures { λ _. ⌜ now (out .exit) ≡ set (now (out .entry)) k v ⌝ }
+{
+    if k < out.len() {
+        out[k] = v;
+    }
+}
+
+// The flag byte of each state, into `out` as far as it reaches.
+pub fn flags_into(s: &[u8], out: &mut [u8])
+    ensures { λ _. ⌜ now (out .exit) ≡ put (now (out .entry)) 0 (S.statesOf (now (s .entry))) ⌝ }
+{
+    let mut i = word_at(s, 4);
+    let mut left = word_at(s, 2) + 1;
+    let mut k = 0;
+    while i != 0 {
+        if left == 0 {
+            return;
+        }
+        store_u8(out, k, one_at(s, i) as u8);
+        k += 1;
+        i = next_at(s, i);
+        left -= 1;
+    }
+}
+
+// The u16 at byte `b` of each arrow record, into `out` as far as it reaches.
+fn words_into(s: &[u8], b: usize, out: &mut [usize])
+    requires { ⌜ b < 16 ⌝ }
+    ensures { λ _. ⌜ now (out .exit) ≡ put (now (out .entry)) 0 (map (M.wordOf (now (s .entry)) b) (S.arrowChain (now (s .entry)))) ⌝ }
+{
+    let mut i = word_at(s, 6);
+    let mut left = word_at(s, 2) + 1;
+    let mut k = 0;
+    while i != 0 {
+        if left == 0 {
+            return;
+        }
+        store(out, k, word_at(s, 16 * i + b));
+        k += 1;
+        i = next_at(s, i);
+        left -= 1;
+    }
+}
+
+// The state that each arrow leaves, into `out` as far as it reaches.
+pub fn sources_into(s: &[u8], out: &mut [usize])
+    ensures { λ _. ⌜ now (out .exit) ≡ put (now (out .entry)) 0 (M.sources (S.meaning (now (s .entry)))) ⌝ }
+{
+    words_into(s, 4, out);
+}
+
+// The state that each arrow leads to, into `out` as far as it reaches.
+pub fn targets_into(s: &[u8], out: &mut [usize])
+    ensures { λ _. ⌜ now (out .exit) ≡ put (now (out .entry)) 0 (M.targets (S.meaning (now (s .entry)))) ⌝ }
+{
+    words_into(s, 6, out);
+}
+
+// The first line record of each arrow, into `out` as far as it reaches.
+pub fn heads_into(s: &[u8], out: &mut [u16])
+    ensures { λ _. ⌜ now (out .exit) ≡ put (now (out .entry)) 0 (M.heads (now (s .entry))) ⌝ }
+{
+    let mut i = word_at(s, 6);
+    let mut left = word_at(s, 2) + 1;
+    let mut k = 0;
+    while i != 0 {
+        if left == 0 {
+            return;
+        }
+        store_u16(out, k, first_line_at(s, i) as u16);
+        k += 1;
+        i = next_at(s, i);
+        left -= 1;
+    }
 }

@@ -5,15 +5,9 @@ use mathlib.Core.List.{List, [], _∷_, _++_, map, flatMap}
 use Prim.Native.Nat.{ℕ, zero, suc, _+_, _-_, _*_, _≤_, _<_}
 use lib.ListN.{length, getD, set, List·getD-eq-default}
 use native.Mathlib.Nat.{not-suc-le-zero, le-of-suc-le-suc}
-use borrow.Author.Tests.{lt-leb, le-leb, eq-eqb, ne-eqb, ltb-false, eqb-true, not-false}
-use native.Mathlib.Omega.{arith}
-use lib.Dec.{ltb}
+use borrow.Author.Tests.{lt-leb, le-leb, eq-eqb, ne-eqb}
 use Rattle.laws.specs.Cases.{by-bool}
-use Rattle.sheet.specs.Refusals.{wrongLength, wrongBytes, wrongChains, overLimits, illFormed, checkOf, decide}
-use Rattle.sheet.specs.declared.Checked.{Checked}
-use Rattle.sheet.specs.declared.Checked.the-variants.{Accepted, Refused}
-use Rattle.sheet.specs.declared.Limits.{Limits}
-use Rattle.sheet.specs.Sheet.{version, meaning, kindOf, chainBy, chain, next, count, Met, meet, metAlone, metLine, metArrow, met, firstText, firstLine, firstState, firstArrow}
+use Rattle.sheet.specs.Sheet.{kindOf, chainBy, chain, next, count, Met, meet, metAlone, metLine, metArrow, met, firstText, firstLine, firstState, firstArrow}
 use Rattle.sheet.specs.Chains.{chain-end, chain-cut, chain-turn}
 use Rattle.walk.specs.Walk.{At, at, fresh, walk}
 
@@ -115,50 +109,3 @@ module _ (s : List ℕ) (m m′ : List ℕ) (b : Bool) (f : ℕ) (e : f ≡ firs
   all-on g a t d r =
       r ∙ ap (λ (j : ℕ). walk s (flatMap (metArrow s) (chain s j)) m′) d
       ∙ walk-then s (flatMap (metAlone 1) (chain s (firstState s))) (flatMap (metArrow s) (chain s (firstArrow s))) m m′ (rw (t, e) at q)
-
--- ---- the refusals, in their order
-module _ (s : List ℕ) where
-  -- a sheet of right length has at most 4,095 records
-  pub few : wrongLength s ≡ false → count s < 4096
-  few e =
-      by-bool (ltb (length s) 16)
-      (λ t. absurd (true≢false (rw t at e)))
-      (λ t. by-bool (ltb 65536 (length s))
-      (λ q. absurd (true≢false (rw (t, q) at e)))
-      (λ q. let a : length s ≤ 65536 = ltb-false 65536 (length s) q in
-      let b : length s ≡ 16 * (1 + count s) = eqb-true (length s) (16 * (1 + count s)) (not-false _ (rw (t, q) at e)) in
-      omega arith))
-
-module _ (m : Limits) (s : List ℕ) where
-  pub refuse-1 : wrongLength s ≡ true → Refused 1 ≡ checkOf m s
-  unfolding checkOf decide
-  refuse-1 e = rw e
-
-  module _ (e1 : wrongLength s ≡ false) where
-    pub refuse-2 : (version s ≡ 1 → ⊥) → Refused 2 ≡ checkOf m s
-    unfolding checkOf decide
-    refuse-2 e = rw (e1, ne-eqb (version s) 1 e)
-
-    module _ (e2 : version s ≡ 1) where
-      pub refuse-4 : wrongBytes s ≡ true → Refused 4 ≡ checkOf m s
-      unfolding checkOf decide
-      refuse-4 e = rw (e1, eq-eqb (version s) 1 e2, e)
-
-      module _ (e4 : wrongBytes s ≡ false) where
-        pub refuse-3 : wrongChains s ≡ true → Refused 3 ≡ checkOf m s
-        unfolding checkOf decide
-        refuse-3 e = rw (e1, eq-eqb (version s) 1 e2, e4, e)
-
-        module _ (e3 : wrongChains s ≡ false) where
-          pub refuse-5 : overLimits m (meaning s) ≡ true → Refused 5 ≡ checkOf m s
-          unfolding checkOf decide
-          refuse-5 e = rw (e1, eq-eqb (version s) 1 e2, e4, e3, e)
-
-          module _ (e5 : overLimits m (meaning s) ≡ false) where
-            pub refuse-6 : illFormed (meaning s) ≡ true → Refused 6 ≡ checkOf m s
-            unfolding checkOf decide
-            refuse-6 e = rw (e1, eq-eqb (version s) 1 e2, e4, e3, e5, e)
-
-            pub accept : illFormed (meaning s) ≡ false → Accepted ≡ checkOf m s
-            unfolding checkOf decide
-            accept e = rw (e1, eq-eqb (version s) 1 e2, e4, e3, e5, e)

@@ -1,7 +1,7 @@
 -- What the walk finds is what the conditions on the records met say: it ends at a wrong record exactly where one is above the count, of another kind, or met twice,
 -- and else the marks show which were met. Assumes nothing.
 use mathlib.Core.Path.{_≡_, refl, sym, ap, _∙_, subst}
-use mathlib.Core.Bool.{Bool, true, false, cond, not, _&&_, _||_, true≢false}
+use mathlib.Core.Bool.{Bool, true, false, cond, not, _&&_, _||_}
 use mathlib.Core.List.{List, [], _∷_, map}
 use Prim.Native.Nat.{ℕ, zero, suc, _+_, _-_, _≤_, _<_}
 use native.Mathlib.Omega.{arith}
@@ -10,39 +10,11 @@ use lib.ListN.{length, getD, set, replicate, length-set, length-replicate, getD-
 use lib.Seq.{getD-set-same, getD-set-other}
 use borrow.Author.Tests.{leb-true, leb-false, eqb-true, eqb-false, lt-ltb, le-ltb, le-leb, eq-eqb, ne-eqb}
 use Rattle.laws.specs.Cases.{by-bool, by-lt}
-use Rattle.laws.specs.Loops.{anyFor, anyUp}
+use Rattle.laws.specs.Loops.{anyUp}
 use Rattle.sheet.specs.Sheet.{count, kindOf, Met, met}
 use Rattle.sheet.specs.Refusals.{any, isAmong, repeats, isAbove, isOther, isMissed, indices, wrongChains}
+use Rattle.sheet.specs.Any.{not-both, or-first, or-second, any-here, any-later, any-none, any-cases, any-wider, any-narrower, any-same}
 use Rattle.walk.specs.Walk.{At, at, fresh, walk, unmarked}
-
--- ---- some element
-any-here : {A : Type 0} (p : A → Bool) (x : A) (l : List A) → p x ≡ true → any p (x ∷ l) ≡ true
-unfolding any
-any-here p x l e = rw e
-
-any-later : {A : Type 0} (p : A → Bool) (x : A) (l : List A) → any p l ≡ true → any p (x ∷ l) ≡ true
-unfolding any
-any-later p x l e = by-bool (p x) (λ t. rw t) (λ t. rw (t, e))
-
-any-none : {A : Type 0} (p : A → Bool) (x : A) (l : List A) → p x ≡ false → any p l ≡ false → any p (x ∷ l) ≡ false
-unfolding any
-any-none p x l e q = rw (e, q)
-
-any-cases : {A : Type 0} {C : Type 0} (p : A → Bool) (x : A) (l : List A) → any p (x ∷ l) ≡ true → (p x ≡ true → C) → (any p l ≡ true → C) → C
-unfolding any
-any-cases p x l e f g = by-bool (p x) f (λ t. g (rw t at e))
-
--- where q holds wherever p does, some q where some p
-any-wider : {A : Type 0} (p q : A → Bool) (l : List A) → ((x : A) → p x ≡ true → q x ≡ true) → any p l ≡ true → any q l ≡ true
-unfolding any
-any-wider p q [] f e = e
-any-wider p q (x ∷ l) f e = any-cases p x l e (λ t. any-here q x l (f x t)) (λ t. any-later q x l (any-wider p q l f t))
-
-not-both : {C : Type 0} (b : Bool) → b ≡ true → b ≡ false → C
-not-both b e q = absurd (true≢false (sym e ∙ q))
-
-any-narrower : {A : Type 0} (p q : A → Bool) (l : List A) → ((x : A) → p x ≡ true → q x ≡ true) → any q l ≡ false → any p l ≡ false
-any-narrower p q l f e = by-bool (any p l) (λ t. not-both (any q l) (any-wider p q l f t) e) (λ t. t)
 
 -- ---- marks
 -- a record with a mark, or beyond the marks
@@ -168,17 +140,6 @@ noMarks = replicate 4096 0
 
 length-noMarks : length noMarks ≡ 4096
 length-noMarks = length-replicate {A = ℕ} 4096 0
-
-or-first : (a b : Bool) → a ≡ true → (a || b) ≡ true
-or-first a b e = rw e
-
-or-second : (a b : Bool) → b ≡ true → (a || b) ≡ true
-or-second a b e = by-bool a (λ t. rw t) (λ t. rw (t, e))
-
-any-same : (p q : ℕ → Bool) (n i : ℕ) → ((k : ℕ) → p k ≡ q k) → anyFor p n i ≡ anyFor q n i
-unfolding anyFor
-any-same p q zero i h = refl
-any-same p q (suc n) i h = rw (h i, any-same p q n (suc i) h)
 
 none-marked : (s : List ℕ) (x : Met) → count s < 4096 → marked noMarks x ≡ true → isAbove s x ≡ true
 none-marked s x h e =

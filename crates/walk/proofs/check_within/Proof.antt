@@ -1,8 +1,9 @@
 use mathlib.Core.Path.{_≡_, refl, sym, _∙_, ap}
-use native.Mathlib.Omega.{arith}
+use mathlib.Core.Bool.{not}
 use borrow.Author.Tests.{eq-eqb, ne-eqb}
 use denote.Ref.{now}
-use Rattle.walk.proofs.Laws.{few, refuse-1, refuse-2, refuse-4, refuse-3, refuse-5, refuse-6, accept}
+use Rattle.sheet.specs.Accepted.{few}
+use Rattle.sheet.specs.Order.{by-1, by-2, by-3, by-4, by-5, by-6, by-none, verdict-is}
 use borrow.Author.Needs.{needs}
 use Rattle.walk.proofs.check_within.Statement.{statement}
 use Rattle.walk.proofs.check_within.Tie as tie
@@ -15,57 +16,57 @@ use Rattle.sheet.proofs.wrong_bytes.Reads as wrong-bytes-reads
 use Rattle.walk.proofs.wrong_chains.Reads as wrong-chains-reads
 use Rattle.walk.proofs.wrong_length.Reads as wrong-length-reads
 
--- src/lib.rt:168:8
+-- src/lib.rt:173:8
 wrong-length-requires : tie.Need-wrong-length-requires
 wrong-length-requires c κs = search needs
 
--- src/lib.rt:169:9
+-- src/lib.rt:174:9
 returns : tie.Need-returns
-returns c = refuse-1 (c .before .before .before .args .m) (now (c .before .before .before .args .sheet)) (sym (c .before .wrong-length .ensures) ∙ c .if1 .taken)
+returns c = verdict-is (by-1 (sym (c .before .wrong-length .ensures) ∙ c .if1 .taken))
 
--- src/lib.rt:171:8
+-- src/lib.rt:176:8
 word-at-requires : tie.Need-word-at-requires
 word-at-requires c κs = search needs
 
--- src/lib.rt:172:9
+-- src/lib.rt:177:9
 returns-2 : tie.Need-returns-2
-returns-2 c = refuse-2 (c .before .before .before .before .before .args .m) (now (c .before .before .before .before .before .args .sheet)) (sym (c .before .before .before .wrong-length .ensures) ∙ c .before .before .if1 .left) (λ e. c .if2 .taken (c .before .word-at .ensures .0 ∙ e))
+returns-2 c = verdict-is (by-2 (sym (c .before .before .before .wrong-length .ensures) ∙ c .before .before .if1 .left) (ap not (ne-eqb _ _ (λ e. c .if2 .taken (c .before .word-at .ensures .0 ∙ e)))))
 
--- src/lib.rt:174:8
+-- src/lib.rt:179:8
 wrong-bytes-requires : tie.Need-wrong-bytes-requires
 wrong-bytes-requires c κs = search needs
 
--- src/lib.rt:175:9
+-- src/lib.rt:180:9
 returns-3 : tie.Need-returns-3
-returns-3 c = refuse-4 (c .before .before .before .before .before .before .before .args .m) (now (c .before .before .before .before .before .before .before .args .sheet)) (sym (c .before .before .before .before .before .wrong-length .ensures) ∙ c .before .before .before .before .if1 .left) (sym (c .before .before .before .word-at .ensures .0) ∙ c .before .before .if2 .left) (sym (c .before .wrong-bytes .ensures) ∙ c .if3 .taken)
+returns-3 c = verdict-is (by-4 (sym (c .before .before .before .before .before .wrong-length .ensures) ∙ c .before .before .before .before .if1 .left) (ap not (eq-eqb _ _ (sym (c .before .before .before .word-at .ensures .0) ∙ c .before .before .if2 .left))) (sym (c .before .wrong-bytes .ensures) ∙ c .if3 .taken))
 
--- src/lib.rt:177:8
+-- src/lib.rt:182:8
 wrong-chains-requires : tie.Need-wrong-chains-requires
 wrong-chains-requires c κs = few (now (c .before .before .before .before .before .before .before .args .sheet)) (sym (c .before .before .before .before .before .wrong-length .ensures) ∙ c .before .before .before .before .if1 .left)
 
--- src/lib.rt:178:9
+-- src/lib.rt:183:9
 returns-4 : tie.Need-returns-4
-returns-4 c = refuse-3 (c .before .before .before .before .before .before .before .before .before .args .m) (now (c .before .before .before .before .before .before .before .before .before .args .sheet)) (sym (c .before .before .before .before .before .before .before .wrong-length .ensures) ∙ c .before .before .before .before .before .before .if1 .left) (sym (c .before .before .before .before .before .word-at .ensures .0) ∙ c .before .before .before .before .if2 .left) (sym (c .before .before .before .wrong-bytes .ensures) ∙ c .before .before .if3 .left) (sym (c .before .wrong-chains .ensures) ∙ c .if4 .taken)
+returns-4 c = verdict-is (by-3 (sym (c .before .before .before .before .before .before .before .wrong-length .ensures) ∙ c .before .before .before .before .before .before .if1 .left) (ap not (eq-eqb _ _ (sym (c .before .before .before .before .before .word-at .ensures .0) ∙ c .before .before .before .before .if2 .left))) (sym (c .before .before .before .wrong-bytes .ensures) ∙ c .before .before .if3 .left) (sym (c .before .wrong-chains .ensures) ∙ c .if4 .taken))
 
--- src/lib.rt:180:8
+-- src/lib.rt:185:8
 over-limits-requires : tie.Need-over-limits-requires
 over-limits-requires c κs = search needs
 
--- src/lib.rt:181:9
+-- src/lib.rt:186:9
 returns-5 : tie.Need-returns-5
-returns-5 c = refuse-5 (c .before .before .before .before .before .before .before .before .before .before .before .args .m) (now (c .before .before .before .before .before .before .before .before .before .before .before .args .sheet)) (sym (c .before .before .before .before .before .before .before .before .before .wrong-length .ensures) ∙ c .before .before .before .before .before .before .before .before .if1 .left) (sym (c .before .before .before .before .before .before .before .word-at .ensures .0) ∙ c .before .before .before .before .before .before .if2 .left) (sym (c .before .before .before .before .before .wrong-bytes .ensures) ∙ c .before .before .before .before .if3 .left) (sym (c .before .before .before .wrong-chains .ensures) ∙ c .before .before .if4 .left) (sym (c .before .over-limits .ensures) ∙ c .if5 .taken)
+returns-5 c = verdict-is (by-5 (sym (c .before .before .before .before .before .before .before .before .before .wrong-length .ensures) ∙ c .before .before .before .before .before .before .before .before .if1 .left) (ap not (eq-eqb _ _ (sym (c .before .before .before .before .before .before .before .word-at .ensures .0) ∙ c .before .before .before .before .before .before .if2 .left))) (sym (c .before .before .before .before .before .wrong-bytes .ensures) ∙ c .before .before .before .before .if3 .left) (sym (c .before .before .before .wrong-chains .ensures) ∙ c .before .before .if4 .left) (sym (c .before .over-limits .ensures) ∙ c .if5 .taken))
 
--- src/lib.rt:183:8
+-- src/lib.rt:188:8
 ill-formed-requires : tie.Need-ill-formed-requires
 ill-formed-requires c κs = search needs
 
--- src/lib.rt:184:9
+-- src/lib.rt:189:9
 returns-6 : tie.Need-returns-6
-returns-6 c = refuse-6 (c .before .before .before .before .before .before .before .before .before .before .before .before .before .args .m) (now (c .before .before .before .before .before .before .before .before .before .before .before .before .before .args .sheet)) (sym (c .before .before .before .before .before .before .before .before .before .before .before .wrong-length .ensures) ∙ c .before .before .before .before .before .before .before .before .before .before .if1 .left) (sym (c .before .before .before .before .before .before .before .before .before .word-at .ensures .0) ∙ c .before .before .before .before .before .before .before .before .if2 .left) (sym (c .before .before .before .before .before .before .before .wrong-bytes .ensures) ∙ c .before .before .before .before .before .before .if3 .left) (sym (c .before .before .before .before .before .wrong-chains .ensures) ∙ c .before .before .before .before .if4 .left) (sym (c .before .before .before .over-limits .ensures) ∙ c .before .before .if5 .left) (sym (c .before .ill-formed .ensures) ∙ c .if6 .taken)
+returns-6 c = verdict-is (by-6 (sym (c .before .before .before .before .before .before .before .before .before .before .before .wrong-length .ensures) ∙ c .before .before .before .before .before .before .before .before .before .before .if1 .left) (ap not (eq-eqb _ _ (sym (c .before .before .before .before .before .before .before .before .before .word-at .ensures .0) ∙ c .before .before .before .before .before .before .before .before .if2 .left))) (sym (c .before .before .before .before .before .before .before .wrong-bytes .ensures) ∙ c .before .before .before .before .before .before .if3 .left) (sym (c .before .before .before .before .before .wrong-chains .ensures) ∙ c .before .before .before .before .if4 .left) (sym (c .before .before .before .over-limits .ensures) ∙ c .before .before .if5 .left) (sym (c .before .ill-formed .ensures) ∙ c .if6 .taken))
 
--- src/lib.rt:165:1
+-- src/lib.rt:170:1
 returns-7 : tie.Need-returns-7
-returns-7 c = accept (c .before .before .before .before .before .before .before .before .before .before .before .before .before .args .m) (now (c .before .before .before .before .before .before .before .before .before .before .before .before .before .args .sheet)) (sym (c .before .before .before .before .before .before .before .before .before .before .before .wrong-length .ensures) ∙ c .before .before .before .before .before .before .before .before .before .before .if1 .left) (sym (c .before .before .before .before .before .before .before .before .before .word-at .ensures .0) ∙ c .before .before .before .before .before .before .before .before .if2 .left) (sym (c .before .before .before .before .before .before .before .wrong-bytes .ensures) ∙ c .before .before .before .before .before .before .if3 .left) (sym (c .before .before .before .before .before .wrong-chains .ensures) ∙ c .before .before .before .before .if4 .left) (sym (c .before .before .before .over-limits .ensures) ∙ c .before .before .if5 .left) (sym (c .before .ill-formed .ensures) ∙ c .if6 .left)
+returns-7 c = verdict-is (by-none (sym (c .before .before .before .before .before .before .before .before .before .before .before .wrong-length .ensures) ∙ c .before .before .before .before .before .before .before .before .before .before .if1 .left) (ap not (eq-eqb _ _ (sym (c .before .before .before .before .before .before .before .before .before .word-at .ensures .0) ∙ c .before .before .before .before .before .before .before .before .if2 .left))) (sym (c .before .before .before .before .before .before .before .wrong-bytes .ensures) ∙ c .before .before .before .before .before .before .if3 .left) (sym (c .before .before .before .before .before .wrong-chains .ensures) ∙ c .before .before .before .before .if4 .left) (sym (c .before .before .before .over-limits .ensures) ∙ c .before .before .if5 .left) (sym (c .before .ill-formed .ensures) ∙ c .if6 .left))
 
 pub check-within-spec : {M : Type 1} → statement M
 check-within-spec =

@@ -1,0 +1,124 @@
+use mathlib.Core.Path.{_≡_, refl, sym, _∙_, ap, ap₂}
+use mathlib.Core.List.{List, map}
+use Prim.Native.Nat.{ℕ, _+_, _-_, _*_, _<_, _≤_}
+use native.Mathlib.Omega.{arith}
+use lib.ListN.{length, set}
+use denote.Ref.{now}
+use Rattle.laws.specs.Put.{put}
+use Rattle.sheet.specs.Sheet.{chainBy, count, byteOne, firstLine, firstState, firstArrow, statesOf, arrowChain}
+use Rattle.sheet.specs.Chains.{put-end, put-cut, put-turn}
+use Rattle.meaning.specs.Read.{wordOf, heads}
+use borrow.Author.Needs.{needs}
+use Rattle.meaning.proofs.flags_into.Statement.{statement}
+use Rattle.meaning.proofs.flags_into.Tie as tie
+use Rattle.meaning.proofs.flags_into.Reads as reads
+use Rattle.meaning.proofs.flags_into.Lts as lts
+use Rattle.meaning.proofs.store_u8.Reads as store-u8-reads
+use Rattle.sheet.proofs.next_at.Reads as next-at-reads
+use Rattle.sheet.proofs.one_at.Reads as one-at-reads
+use Rattle.sheet.proofs.word_at.Reads as word-at-reads
+
+abbrev Inv-loop : tie.InvT-loop
+Inv-loop s out₀ i₀ left₀ k₀ out i left k = (put out k (map (byteOne s) (chainBy s left i)) ≡ put out₀ 0 (statesOf s)) × (k + left ≡ count s + 1) × (i < 65536) × (count s < 65536) × (length out ≡ length out₀)
+
+abbrev μ-loop : tie.MeasureT-loop
+μ-loop s out₀ i₀ left₀ k₀ out i left k = left
+
+-- src/lib.rt:243:9
+word-at-requires : tie.Need-word-at-requires Inv-loop μ-loop
+word-at-requires c κs = search needs
+
+-- src/lib.rt:244:20
+word-at-requires-2 : tie.Need-word-at-requires-2 Inv-loop μ-loop
+word-at-requires-2 c κs = search needs
+
+-- src/lib.rt:244:20
+add-left : tie.Need-add-left Inv-loop μ-loop
+add-left c = search needs
+
+-- src/lib.rt:246:5
+loop-holds : tie.Need-loop-holds Inv-loop μ-loop
+unfolding statesOf
+loop-holds c =
+    let s = now (c .before .before .before .before .args .s) in
+    (ap₂ (λ (i : ℕ) (m : ℕ). put (now (c .before .before .before .before .args .out)) 0 (map (byteOne s) (chainBy s (m + 1) i))) (c .before .word-at .ensures .0) (c .word-at2 .ensures .0), omega arith, omega arith, omega arith, refl)
+
+-- src/lib.rt:248:13
+same-length : tie.Need-same-length Inv-loop μ-loop
+same-length c = c .before .before .loop .inv .4
+
+-- src/lib.rt:248:13
+returns : tie.Need-returns Inv-loop μ-loop
+returns c = put-cut (now (c .before .before .before .before .before .before .before .args .s)) (byteOne (now (c .before .before .before .before .before .before .before .args .s))) (c .before .before .loop .left) (c .before .before .loop .i) (c .before .before .loop .k) (c .before .before .loop .out) (c .if1 .taken) ∙ c .before .before .loop .inv .0
+
+-- src/lib.rt:250:26
+one-at-requires : tie.Need-one-at-requires Inv-loop μ-loop
+one-at-requires c κs = search needs
+
+-- src/lib.rt:250:26
+cast-store-u8 : tie.Need-cast-store-u8 Inv-loop μ-loop
+cast-store-u8 c = search needs
+
+-- src/lib.rt:250:9
+store-u8-requires : tie.Need-store-u8-requires Inv-loop μ-loop
+store-u8-requires c κs = search needs
+
+-- src/lib.rt:251:9
+add-k : tie.Need-add-k Inv-loop μ-loop
+add-k c = search needs
+
+-- src/lib.rt:252:9
+next-at-requires : tie.Need-next-at-requires Inv-loop μ-loop
+next-at-requires c κs = search needs
+
+-- src/lib.rt:253:9
+sub-left : tie.Need-sub-left Inv-loop μ-loop
+sub-left c = search needs
+
+-- src/lib.rt:246:5
+loop-less : tie.Need-loop-less Inv-loop μ-loop
+loop-less c = search needs
+
+-- src/lib.rt:246:5
+loop-again : tie.Need-loop-again Inv-loop μ-loop
+loop-again c =
+    let s = now (c .before .before .before .before .before .before .before .before .before .before .before .before .before .args .s) in (
+      ap₂ (λ (l : List ℕ) (j : ℕ). put l (c .before .before .before .before .before .before .before .before .loop .k + 1) (map (byteOne s) (chainBy s (c .before .before .before .before .before .before .before .before .loop .left - 1) j))) (c .before .before .before .store-u8 .ensures ∙ ap (set (c .before .before .before .before .before .before .before .before .loop .out) (c .before .before .before .before .before .before .before .before .loop .k)) (c .before .before .before .before .one-at .ensures .0)) (c .next-at .ensures .0)
+          ∙ put-turn s (byteOne s) (c .before .before .before .before .before .before .before .before .loop .left) (c .before .before .before .before .before .before .before .before .loop .i) (c .before .before .before .before .before .before .before .before .loop .k) (c .before .before .before .before .before .before .before .before .loop .out) (c .before .before .before .before .before .before .if1 .left) (c .before .before .before .before .before .before .before .loop-test .taken)
+          ∙ c .before .before .before .before .before .before .before .before .loop .inv .0,
+      omega arith,
+      omega arith,
+      omega arith,
+      c .before .before .before .store-u8 .kept .0 ∙ c .before .before .before .before .before .before .before .before .loop .inv .4,
+    )
+
+-- src/lib.rt:240:1
+same-length-2 : tie.Need-same-length-2 Inv-loop μ-loop
+same-length-2 c = c .before .loop .inv .4
+
+-- src/lib.rt:240:1
+returns-2 : tie.Need-returns-2 Inv-loop μ-loop
+returns-2 c = put-end (now (c .before .before .before .before .before .before .args .s)) (byteOne (now (c .before .before .before .before .before .before .args .s))) (c .before .loop .left) (c .before .loop .i) (c .before .loop .k) (c .before .loop .out) (c .loop-test .left) ∙ c .before .loop .inv .0
+
+pub flags-into-spec : {M : Type 1} → statement M
+flags-into-spec =
+    tie.close
+    (tie.spec
+    Inv-loop
+    μ-loop
+    word-at-requires
+    word-at-requires-2
+    add-left
+    loop-holds
+    same-length
+    returns
+    one-at-requires
+    cast-store-u8
+    store-u8-requires
+    add-k
+    next-at-requires
+    sub-left
+    loop-less
+    loop-again
+    same-length-2
+    returns-2)

@@ -1,0 +1,59 @@
+-- The lists that are read out of a sheet for the layers above, and how an arrow's lines are found from them. Assumes nothing.
+use mathlib.Core.Path.{_≡_, refl, sym, ap, _∙_}
+use mathlib.Core.List.{List, [], _∷_, map}
+use Prim.Native.Nat.{ℕ, zero, suc, _+_, _*_, _<_}
+use native.Mathlib.Nat.{not-suc-le-zero, le-of-suc-le-suc}
+use lib.ListN.{length, getD, length-map}
+use Rattle.sheet.specs.Sheet.{le16, firstLine, Arrow, Graph, chain, arrowChain, fromOf, toOf, arrowOf, arrowsOf, linesFrom, meaning}
+
+-- the u16 at byte b of record k
+abbrev pub wordOf : List ℕ → ℕ → ℕ → ℕ
+wordOf s b k = le16 s (16 * k + b)
+
+-- the ends of the arrows, in their order
+abbrev pub sources : Graph → List ℕ
+sources g = map (λ a. a .source) (g .arrows)
+
+abbrev pub targets : Graph → List ℕ
+targets g = map (λ a. a .target) (g .arrows)
+
+-- the first line record of each arrow, in their order
+unfoldable pub heads : List ℕ → List ℕ
+heads s = map (firstLine s) (arrowChain s)
+
+sources-go : (s l : List ℕ) → map (λ a. a .source) (map (arrowOf s) l) ≡ map (fromOf s) l
+unfolding arrowOf
+sources-go s [] = refl
+sources-go s (k ∷ l) = ap (λ (r : List ℕ). fromOf s k ∷ r) (sources-go s l)
+
+targets-go : (s l : List ℕ) → map (λ a. a .target) (map (arrowOf s) l) ≡ map (toOf s) l
+unfolding arrowOf
+targets-go s [] = refl
+targets-go s (k ∷ l) = ap (λ (r : List ℕ). toOf s k ∷ r) (targets-go s l)
+
+pub sources-are : (s : List ℕ) → sources (meaning s) ≡ map (wordOf s 4) (arrowChain s)
+unfolding arrowsOf
+sources-are s = sources-go s (arrowChain s)
+
+pub targets-are : (s : List ℕ) → targets (meaning s) ≡ map (wordOf s 6) (arrowChain s)
+unfolding arrowsOf
+targets-are s = targets-go s (arrowChain s)
+
+pub heads-length : (s : List ℕ) → length (heads s) ≡ length (arrowsOf s)
+unfolding heads arrowsOf
+heads-length s = length-map (arrowChain s) (firstLine s) ∙ sym (length-map (arrowChain s) (arrowOf s))
+
+lines-go : (s l : List ℕ) (d : Arrow) (k : ℕ) → k < length l → getD (map (arrowOf s) l) k d .lines ≡ linesFrom s (getD (map (firstLine s) l) k 0)
+unfolding arrowOf
+lines-go s [] d k h = absurd (not-suc-le-zero h)
+lines-go s (x ∷ l) d zero h = refl
+lines-go s (x ∷ l) d (suc k) h = lines-go s l d k (le-of-suc-le-suc h)
+
+length-arrows : (s : List ℕ) → length (arrowsOf s) ≡ length (arrowChain s)
+unfolding arrowsOf
+length-arrows s = length-map (arrowChain s) (arrowOf s)
+
+-- The lines of arrow k are those of the chain from its first line record on.
+pub lines-at : (s : List ℕ) (d : Arrow) (k : ℕ) → k < length (arrowsOf s) → getD (arrowsOf s) k d .lines ≡ linesFrom s (getD (heads s) k 0)
+unfolding heads arrowsOf
+lines-at s d k h = lines-go s (arrowChain s) d k (rw (length-arrows s) at h)
