@@ -1,25 +1,24 @@
--- What later crates cite of the stand-ins: the larger and the smaller, the order of roots, and the arctangent at zeros. Assumes nothing.
+-- What later crates cite of the stand-ins: the larger and the smaller, and the arctangent at zeros (roots: RootLaws). Assumes nothing.
 -- (`<` of floats is transitive and irreflexive, with NaN and the infinities: `lt-trans`, `lt-itself` of laws.)
 use mathlib.Core.Path.{_≡_, refl, sym, ap, _∙_, subst}
 use mathlib.Core.Bool.{Bool, true, false, not, cond}
 use Prim.Native.Nat.{ℕ, zero, suc, _+_, _-_, _*_, _/_, _%_, _^_, _≤_, _<_}
 use native.Mathlib.Nat.{mul-pos, zero-mul}
 use native.Mathlib.Omega.{arith}
-use borrow.Author.Tests.{ne-eqb, lt-leb, le-ltb}
+use borrow.Author.Tests.{ne-eqb, le-ltb}
 use lib.Dec.{T}
 use lib.IntN.{ℤ}
 use lib.Ieee.{Float, nan, inf, fin, up, down, binary64, isNan, toBits, ofBits}
 use lib.Ieee as Ieee
 use lib.Ieee.Scale.{round-same}
 use lib.Ieee.Fits.{up-pos}
-use lib.Ieee.Bits.{toBits-ofBits, nanBits-is, is-false}
 use Rattle.laws.specs.Cases.{by-bool, holds}
 use Rattle.laws.specs.Between.{below-num, above-num, self-num, self-inf}
 use Rattle.root.specs.Root.{rootBits}
 use Rattle.float.specs.Constants.{f0, π}
 use Rattle.float.specs.Ops.{_⊘_, neg, lt, eq, ne}
 use Rattle.float.specs.Standins.{negative, abs, min, max, root, rootOf, arc, share, quarter, atan2, arcSeries}
-use Rattle.float.specs.Signs.{no-nan-bits, abs-num}
+use Rattle.float.specs.Signs.{abs-num}
 
 -- ---- the larger and the smaller
 pub max-second : (a b : Float) → lt a b ≡ true → max a b ≡ b
@@ -46,16 +45,6 @@ unfolding Ieee.ne Ieee.eq Ieee.lt
 min-nan nan = (refl, refl)
 min-nan (inf s) = (refl, rw (self-inf s))
 min-nan (fin s m e) = (refl, rw (self-num s m e))
-
--- ---- the root of a finite number above zero, by the bits
-pub root-at : (b : ℕ) → 0 < b → b < 2047 * 2 ^ 52 → root (ofBits binary64 b) ≡ ofBits binary64 (rootBits b)
-unfolding root rootOf
-root-at b z h =
-    let n : isNan (ofBits binary64 b) ≡ false = sym (nanBits-is binary64 b) ∙ is-false (Ieee.nanBits binary64 b) (no-nan-bits b h) in
-    let e : toBits binary64 (ofBits binary64 b) ≡ b = toBits-ofBits binary64 b (omega arith) (rw n tt) in
-    let x : b ≡ 0 → ⊥ = λ w. omega arith in
-    let y : b ≡ 2 ^ 63 → ⊥ = λ w. omega arith in
-    rw (n, e, ne-eqb _ _ x, ne-eqb _ _ y, lt-leb (2 ^ 63) b (omega arith), lt-leb (2047 * 2 ^ 52) b h)
 
 -- ---- the arctangent: its sign, and where y is zero
 pub atan2-down : (y x : Float) → negative y ≡ false → ne y y ≡ false → atan2 (neg y) x ≡ neg (atan2 y x)

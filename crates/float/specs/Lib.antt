@@ -4,3 +4,4 @@ pub mod Standins
 pub mod Signs
 pub mod Rounding
 pub mod Laws
+pub mod RootLaws
