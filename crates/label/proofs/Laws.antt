@@ -5,7 +5,7 @@ use mathlib.Core.List.{List, [], _∷_}
 use Prim.Native.Nat.{ℕ, suc, _+_, _-_, _≤_, _<_}
 use native.Mathlib.Numerals.{add-one}
 use native.Mathlib.Omega.{arith}
-use lib.Dec.{T, eqb}
+use lib.Dec.{T, eqb, ltb}
 use lib.Ieee.{Float}
 use lib.ListN.{length, getD, take, drop, drop-of-length-le}
 use lib.Seq.{drop-cons, drop-drop}
@@ -15,11 +15,12 @@ use Rattle.laws.specs.Loops.{over}
 use Rattle.float.specs.Ops.{_⊕_}
 use Rattle.float.specs.Standins.{max}
 use Rattle.text.specs.Utf8.{wellFormed}
+use Rattle.sheet.specs.Refusals.{any}
 use Rattle.text.specs.Automaton.{feedOf, gatherOf}
 use Rattle.label.specs.declared.Measure.{Measure}
 use Rattle.label.specs.declared.Sized.{Sized}
 use Rattle.label.specs.declared.Sized.the-variants.{Size, Refused}
-use Rattle.label.specs.Label.{charWidth, lineWidth, wider, cut, total, anyOver, allFormed}
+use Rattle.label.specs.Label.{charWidth, lineWidth, wider, cut, total}
 use Rattle.label.specs.Measuring.{measure, measureOf, measureAll, start, measured-formed, measured-width, lengthsFit, linesSize}
 
 pub step-done : (m : Measure) (b st v : ℕ) (w : Float) → st ≡ feedOf (m .st) b → v ≡ gatherOf (m .st) (m .value) b → st ≡ 0 → w ≡ charWidth v → measure st v (m .width ⊕ w) ≡ measureOf m b
@@ -42,7 +43,7 @@ same-test a b c d f g =
     (λ e. e ∙ sym (ne-eqb c d (λ h. eqb-false a b e (g h))))
 
 fit-over : (most bytes n : ℕ) (ns : List ℕ) → most < n → false ≡ lengthsFit most bytes (n ∷ ns)
-unfolding lengthsFit anyOver
+unfolding lengthsFit any
 fit-over most bytes n ns h = rw (lt-ltb most n h)
 
 fit-short : (most bytes n : ℕ) (ns : List ℕ) → bytes < n → false ≡ lengthsFit most bytes (n ∷ ns)
@@ -50,7 +51,7 @@ unfolding lengthsFit total
 fit-short most bytes n ns h = let z : bytes ≡ n + total ns → ⊥ = λ e. omega arith in rw (ne-eqb bytes (n + total ns) z, and-no)
 
 fit-turn : (most bytes n : ℕ) (ns : List ℕ) → n ≤ most → n ≤ bytes → lengthsFit most (bytes - n) ns ≡ lengthsFit most bytes (n ∷ ns)
-unfolding lengthsFit anyOver total
+unfolding lengthsFit any total
 fit-turn most bytes n ns h k = rw (le-ltb most n h, same-test (bytes - n) (total ns) bytes (n + total ns) (λ e. omega arith) (λ e. omega arith))
 
 module _ (most left : ℕ) (l : List ℕ) (i : ℕ) (h : i < length l) where
@@ -74,7 +75,7 @@ module _ (most left : ℕ) (l : List ℕ) (i : ℕ) (h : i < length l) where
   total-at = ap total here ∙ ap (λ (n : ℕ). getD l i 0 + total (drop n l)) (sym (add-one i))
 
 pub fit-end-at : (most left : ℕ) (l : List ℕ) (i : ℕ) → length l ≤ i → eqb left 0 ≡ lengthsFit most left (drop i l)
-unfolding lengthsFit anyOver total
+unfolding lengthsFit any total
 fit-end-at most left l i h = rw (drop-of-length-le l h)
 
 -- ---- the lines from i on, which begin at `at`
@@ -94,24 +95,24 @@ module _ (h w : Float) (text lengths : List ℕ) (at i : ℕ) where
 
   -- a line that is not well-formed, and one that is
   pub line-ill : i < length lengths → (m : ℕ) → m ≡ measureAll start line .st → (m ≡ 0 → ⊥) → Refused 6 ≡ linesSize h w linesFrom
-  unfolding linesSize allFormed
+  unfolding linesSize any
   line-ill k m e z = let f : wellFormed line ≡ false = measured-formed line ∙ sym (ap (λ (n : ℕ). eqb n 0) e) ∙ ne-eqb m 0 z in rw (cut-at k, f)
 
   pub line-well : i < length lengths → (m : ℕ) (v : Float) → m ≡ measureAll start line .st → v ≡ measureAll start line .width → m ≡ 0
       → linesSize h (max w v) later ≡ linesSize h w linesFrom
-  unfolding linesSize allFormed over wider
+  unfolding linesSize any over wider
   line-well k m v e d z =
       let f : wellFormed line ≡ true = measured-formed line ∙ sym (ap (λ (n : ℕ). eqb n 0) e) ∙ eq-eqb m 0 z in
       let u : v ≡ lineWidth line = d ∙ measured-width line in
       rw (cut-at k, f, u)
 
   pub lines-end : length lengths ≤ i → Size w h ≡ linesSize h w linesFrom
-  unfolding linesSize allFormed over cut
+  unfolding linesSize any over cut
   lines-end k = rw (drop-of-length-le lengths k)
 
 pub fit-total : (most bytes : ℕ) (l : List ℕ) → lengthsFit most bytes l ≡ true → bytes ≡ total l
 unfolding lengthsFit
-fit-total most bytes l e = eqb-true bytes (total l) (go (not (anyOver most l)) (eqb bytes (total l)) e)
+fit-total most bytes l e = eqb-true bytes (total l) (go (not (any (ltb most) l)) (eqb bytes (total l)) e)
   where
     go : (a b : Bool) → (a && b) ≡ true → b ≡ true
     go true b h = h

@@ -1,17 +1,18 @@
 -- The size of a label block, and the answer of the call that gives it.
 use mathlib.Core.Path.{_≡_, refl}
-use mathlib.Core.Bool.{Bool, true, false, cond, not, _&&_, _||_}
+use mathlib.Core.Bool.{Bool, cond, not}
 use mathlib.Core.List.{List, [], _∷_}
 use Prim.Native.Nat.{ℕ, _+_}
 use lib.Dec.{ltb, eqb}
 use lib.ListN.{length, take, drop}
 use lib.Ieee.{Float, binary64, ofBits, round, mul}
 use Rattle.laws.specs.Loops.{over}
-use Rattle.laws.specs.Refusals.{firstOf}
 use Rattle.float.specs.Ops.{_⊕_, _⊗_, count}
 use Rattle.float.specs.Constants.{f0, f12, f15, f0-6}
 use Rattle.float.specs.Standins.{max}
-use Rattle.text.specs.Utf8.{wellFormed, codePoints}
+use Rattle.text.specs.Utf8.{codePoints}
+use Rattle.sheet.specs.declared.Limits.{Limits}
+use Rattle.sheet.specs.Refusals.{any, refusal, decide, illLine}
 use Rattle.label.specs.declared.Sized.{Sized}
 use Rattle.label.specs.declared.Sized.the-variants.{Size, Refused}
 
@@ -54,27 +55,19 @@ unfoldable pub total : List ℕ → ℕ
 total [] = 0
 total (n ∷ ns) = n + total ns
 
--- some length is above the limit
-unfoldable pub anyOver : ℕ → List ℕ → Bool
-anyOver limit [] = false
-anyOver limit (n ∷ ns) = ltb limit n || anyOver limit ns
-
-unfoldable pub allFormed : List (List ℕ) → Bool
-allFormed [] = true
-allFormed (l ∷ ls) = wellFormed l && allFormed ls
-
--- 'It meets only 5 (also where the lengths do not add up to the text) and 6': more lines than maxLines, a line of more than maxBytes bytes,
+-- 'It meets only 5 (also where the lengths do not add up to the text) and 6': more lines, or more bytes in a line, than the limits;
 -- lengths that do not add up; then a line that is not well-formed UTF-8
-unfoldable pub sized : ℕ → ℕ → List ℕ → List ℕ → Sized
-sized maxLines maxBytes text lengths =
-    firstOf
+unfoldable pub sized : Limits → List ℕ → List ℕ → Sized
+sized m text lengths =
+    decide
     (
-    (ltb maxLines (length lengths), Refused 5)
-    ∷ (anyOver maxBytes lengths, Refused 5)
-    ∷ (not (eqb (length text) (total lengths)), Refused 5)
-    ∷ (not (allFormed (cut text lengths)), Refused 6)
+    refusal 5 (ltb (m .lines) (length lengths))
+    ∷ refusal 5 (any (ltb (m .bytes)) lengths)
+    ∷ refusal 5 (not (eqb (length text) (total lengths)))
+    ∷ refusal 6 (any illLine (cut text lengths))
     ∷ []
     )
+    Refused
     (Size (blockWidth (cut text lengths)) (blockHeight (length lengths)))
 
 -- document 01's number and values for each case of the answer: 0 and the width and height, or the number of the refusal

@@ -1,11 +1,12 @@
 -- A line measured a byte at a time, so that it can come in pieces. Assumes nothing.
 use mathlib.Core.Path.{_≡_, refl, sym, ap, _∙_, subst}
-use mathlib.Core.Bool.{Bool, true, false, cond, not, _&&_, _||_}
+use mathlib.Core.Bool.{Bool, true, false, cond, not, _&&_}
 use mathlib.Core.List.{List, [], _∷_, _++_}
-use Prim.Native.Nat.{ℕ, _+_}
+use Prim.Native.Nat.{ℕ, _≤_, _<_}
 use lib.Dec.{T, ltb, eqb}
 use lib.ListN.{length}
 use lib.Ieee.{Float}
+use borrow.Author.Tests.{lt-ltb, le-ltb}
 use Rattle.laws.specs.Cases.{by-bool}
 use Rattle.laws.specs.Loops.{over, over-join}
 use Rattle.float.specs.Constants.{f0}
@@ -13,10 +14,12 @@ use Rattle.text.specs.Utf8.{wellFormed, codePoints}
 use Rattle.text.specs.Automaton.{feedOf, gatherOf, feedAll, readBy}
 use Rattle.text.specs.Table.{well-formed-is}
 use Rattle.text.specs.Codes.{read-codes}
+use Rattle.sheet.specs.declared.Limits.{Limits}
+use Rattle.sheet.specs.Refusals.{any, decide, illLine}
 use Rattle.label.specs.declared.Measure.{Measure}
 use Rattle.label.specs.declared.Sized.{Sized}
 use Rattle.label.specs.declared.Sized.the-variants.{Size, Refused}
-use Rattle.label.specs.Label.{widened, lineWidth, wider, blockHeight, cut, total, anyOver, allFormed, sized}
+use Rattle.label.specs.Label.{widened, lineWidth, wider, blockHeight, cut, total, sized}
 
 abbrev pub measure : ℕ → ℕ → Float → Measure
 measure st value width = record { st = st; value = value; width = width }
@@ -62,32 +65,26 @@ measure-join m p q = over-join measureOf 0 m p q
 -- ---- the parts of the call
 -- no length is above the limit, and they add up to so many bytes
 unfoldable pub lengthsFit : ℕ → ℕ → List ℕ → Bool
-lengthsFit maxBytes bytes lengths = not (anyOver maxBytes lengths) && eqb bytes (total lengths)
+lengthsFit most bytes lengths = not (any (ltb most) lengths) && eqb bytes (total lengths)
 
 -- the size of lines that come after some of width w, where the whole block has height h
 unfoldable pub linesSize : Float → Float → List (List ℕ) → Sized
-linesSize h w lines = cond (allFormed lines) (Size (over wider w lines) h) (Refused 6)
+linesSize h w lines = cond (any illLine lines) (Refused 6) (Size (over wider w lines) h)
 
-pub sized-many : (maxLines maxBytes : ℕ) (text lengths : List ℕ) → ltb maxLines (length lengths) ≡ true → sized maxLines maxBytes text lengths ≡ Refused 5
-unfolding sized
-sized-many maxLines maxBytes text lengths e = rw e
+module _ (m : Limits) (text lengths : List ℕ) where
+  pub sized-many : m .lines < length lengths → sized m text lengths ≡ Refused 5
+  unfolding sized decide
+  sized-many h = rw (lt-ltb (m .lines) (length lengths) h)
 
-pub sized-unfit : (maxLines maxBytes : ℕ) (text lengths : List ℕ) → ltb maxLines (length lengths) ≡ false → lengthsFit maxBytes (length text) lengths ≡ false
-    → sized maxLines maxBytes text lengths ≡ Refused 5
-unfolding sized lengthsFit
-sized-unfit maxLines maxBytes text lengths e f =
-    by-bool (anyOver maxBytes lengths)
-    (λ a. rw (e, a))
-    (λ a. let g : eqb (length text) (total lengths) ≡ false = rw a at f in rw (e, a, g))
+  pub sized-unfit : length lengths ≤ m .lines → lengthsFit (m .bytes) (length text) lengths ≡ false → sized m text lengths ≡ Refused 5
+  unfolding sized decide lengthsFit
+  sized-unfit h f =
+      by-bool (any (ltb (m .bytes)) lengths) (λ a. rw (le-ltb (m .lines) (length lengths) h, a))
+      (λ a. let g : eqb (length text) (total lengths) ≡ false = rw a at f in rw (le-ltb (m .lines) (length lengths) h, a, g))
 
-pub sized-fit : (maxLines maxBytes : ℕ) (text lengths : List ℕ) → ltb maxLines (length lengths) ≡ false → lengthsFit maxBytes (length text) lengths ≡ true
-    → sized maxLines maxBytes text lengths ≡ linesSize (blockHeight (length lengths)) f0 (cut text lengths)
-unfolding sized lengthsFit linesSize
-sized-fit maxLines maxBytes text lengths e f =
-    by-bool (anyOver maxBytes lengths)
-    (λ a. let z : false ≡ true = rw a at f in absurd (subst T (sym z) tt))
-    (λ a. let g : eqb (length text) (total lengths) ≡ true = rw a at f in rw (e, a, g) (other (allFormed (cut text lengths))))
-  where
-    other : (t : Bool) → cond (not t) (Refused 6) (Size (over wider f0 (cut text lengths)) (blockHeight (length lengths))) ≡ cond t (Size (over wider f0 (cut text lengths)) (blockHeight (length lengths))) (Refused 6)
-    other true = refl
-    other false = refl
+  pub sized-fit : length lengths ≤ m .lines → lengthsFit (m .bytes) (length text) lengths ≡ true
+      → sized m text lengths ≡ linesSize (blockHeight (length lengths)) f0 (cut text lengths)
+  unfolding sized decide lengthsFit linesSize
+  sized-fit h f =
+      by-bool (any (ltb (m .bytes)) lengths) (λ a. let z : false ≡ true = rw a at f in absurd (subst T (sym z) tt))
+      (λ a. let g : eqb (length text) (total lengths) ≡ true = rw a at f in rw (le-ltb (m .lines) (length lengths) h, a, g))

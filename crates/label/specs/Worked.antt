@@ -7,7 +7,8 @@ use lib.ListN.{replicate}
 use lib.Ieee.{Float, binary64, toBits, ofBits, ofFields, ofInt, round, add, mul, lt, eq, ne, size, span, climb, units, odd, sum, isNan}
 use Rattle.laws.specs.Loops.{over}
 use Rattle.text.specs.Utf8.{payload, codesFrom}
-use Rattle.label.specs.Label.{charWidth, lineWidth, wider, cut, total, anyOver, allFormed, sized, number, values}
+use Rattle.sheet.specs.Refusals.{mainScreen, any, decide}
+use Rattle.label.specs.Label.{charWidth, lineWidth, wider, cut, total, sized, number, values}
 
 abbrev same : List Float → List ℕ → Bool
 same [] [] = true
@@ -17,7 +18,7 @@ same (v ∷ vs) (b ∷ bs) = eqb (toBits binary64 v) b && same vs bs
 
 -- at document 01's limits the answer has this number, and values with these bits
 abbrev gives : List ℕ → List ℕ → ℕ → List ℕ → Bool
-gives text lengths n bits = eqb (number (sized 8 96 text lengths)) n && same (values (sized 8 96 text lengths)) bits
+gives text lengths n bits = eqb (number (sized mainScreen text lengths)) n && same (values (sized mainScreen text lengths)) bits
 
 -- `a ↦ b, R` and `␣ ↦ ␣, L`
 abbrev first : List ℕ
@@ -40,5 +41,5 @@ pub worked : T (
     && gives (0xed ∷ 0xa0 ∷ 0x80 ∷ []) (3 ∷ []) 6 []
     && gives (0xff ∷ []) (2 ∷ []) 5 []
     )
-unfolding sized cut total anyOver allFormed lineWidth wider charWidth payload codesFrom over add mul lt eq ne ofInt round size span climb units odd sum ofBits ofFields toBits isNan
+unfolding sized decide any cut total lineWidth wider charWidth payload codesFrom over add mul lt eq ne ofInt round size span climb units odd sum ofBits ofFields toBits isNan
 worked = tt

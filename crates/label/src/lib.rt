@@ -82,14 +82,14 @@ pub fn height(lines: usize) -> f64
     std::num::nearest_u64_to_f64(lines as u64) * 15.0
 }
 
-// No length is above max_bytes, and they add up to `bytes`.
-fn lengths_fit(lengths: &[usize], max_bytes: usize, bytes: usize) -> bool
-    ensures { λ r. ⌜ r ≡ M.lengthsFit «max_bytes» bytes (now (lengths .entry)) ⌝ }
+// No length is above `most`, and they add up to `bytes`.
+fn lengths_fit(lengths: &[usize], most: usize, bytes: usize) -> bool
+    ensures { λ r. ⌜ r ≡ M.lengthsFit most bytes (now (lengths .entry)) ⌝ }
 {
     let mut left = bytes;
     for i in 0..lengths.len() {
         let n = lengths[i];
-        if max_bytes < n {
+        if most < n {
             return false;
         }
         if left < n {
@@ -119,14 +119,14 @@ fn lines_size(text: &[u8], lengths: &[usize]) -> Sized
     Sized::Size(width, height(lengths.len()))
 }
 
-// The size of a label block of at most max_lines lines with at most max_bytes bytes each.
-pub fn label_size(text: &[u8], lengths: &[usize], max_lines: usize, max_bytes: usize) -> Sized
-    ensures { λ r. ⌜ r ≡ S.sized «max_lines» «max_bytes» (now (text .entry)) (now (lengths .entry)) ⌝ }
+// The size of a label block within the limits m.
+pub fn label_size(text: &[u8], lengths: &[usize], m: sheet::Limits) -> Sized
+    ensures { λ r. ⌜ r ≡ S.sized m (now (text .entry)) (now (lengths .entry)) ⌝ }
 {
-    if max_lines < lengths.len() {
+    if m.lines < lengths.len() {
         return Sized::Refused(5);
     }
-    if !lengths_fit(lengths, max_bytes, text.len()) {
+    if !lengths_fit(lengths, m.bytes, text.len()) {
         return Sized::Refused(5);
     }
     lines_size(text, lengths)

@@ -12,4 +12,3 @@ pub mod Sort
 pub mod Sorting
 pub mod Ordered
 pub mod Same
-pub mod Refusals

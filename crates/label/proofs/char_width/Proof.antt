@@ -9,12 +9,12 @@ use Rattle.label.proofs.char_width.Lts as lts
 -- src/lib.rt:26:9
 returns : tie.Need-returns
 unfolding charWidth
-returns c = rw (lt-ltb _ _ (c .if1 .taken))
+returns c = rw (lt-ltb (c .before .args .c) 0x80 (c .if1 .taken))
 
 -- src/lib.rt:22:1
 returns-2 : tie.Need-returns-2
 unfolding charWidth
-returns-2 c = rw (le-ltb _ _ (c .if1 .left))
+returns-2 c = rw (le-ltb (c .before .args .c) 0x80 (c .if1 .left))
 
 pub char-width-spec : {M : Type 1} → statement M
 char-width-spec = tie.close (tie.spec returns returns-2)

@@ -1,9 +1,8 @@
 -- `label::label_size` meets its contract.
 use mathlib.Core.Path.{_≡_, sym, _∙_}
-use Prim.Native.Nat.{_≤_}
 use native.Mathlib.Omega.{arith}
 use lib.ListN.{length}
-use borrow.Author.Tests.{lt-ltb, le-ltb, not-true, not-false}
+use borrow.Author.Tests.{not-true, not-false}
 use denote.Ref.{now}
 use Rattle.label.specs.Measuring.{sized-many, sized-unfit, sized-fit}
 use Rattle.label.proofs.Laws.{fit-total}
@@ -14,31 +13,29 @@ use Rattle.label.proofs.label_size.Lts as lts
 use Rattle.label.proofs.lengths_fit.Reads as lengths-fit-reads
 use Rattle.label.proofs.lines_size.Reads as lines-size-reads
 
--- src/lib.rt:119:9
+-- src/lib.rt:127:9
 returns : tie.Need-returns
-returns c = sym (sized-many (c .before .before .before .args .max-lines) (c .before .before .before .args .max-bytes) (now (c .before .before .before .args .text)) (now (c .before .before .before .args .lengths)) (lt-ltb _ _ (c .if1 .taken)))
+returns c = sym (sized-many (c .before .before .before .before .args .m) (now (c .before .before .before .before .args .text)) (now (c .before .before .before .before .args .lengths)) (c .if1 .taken))
 
--- src/lib.rt:121:9
+-- src/lib.rt:129:9
 lengths-fit-requires : tie.Need-lengths-fit-requires
 lengths-fit-requires c κs = tt
 
--- src/lib.rt:122:9
+-- src/lib.rt:130:9
 returns-2 : tie.Need-returns-2
 returns-2 c =
-    sym (sized-unfit (c .before .before .before .before .before .args .max-lines) (c .before .before .before .before .before .args .max-bytes) (now (c .before .before .before .before .before .args .text)) (now (c .before .before .before .before .before .args .lengths)) (le-ltb _ _ (c .before .before .if1 .left))
-    (sym (c .before .lengths-fit .ensures) ∙ not-true _ (c .if2 .taken)))
+    sym (sized-unfit (c .before .before .before .before .before .before .args .m) (now (c .before .before .before .before .before .before .args .text)) (now (c .before .before .before .before .before .before .args .lengths)) (c .before .before .if1 .left) (sym (c .before .lengths-fit .ensures) ∙ not-true _ (c .if2 .taken)))
 
--- src/lib.rt:124:5
+-- src/lib.rt:132:5
 lines-size-requires : tie.Need-lines-size-requires
 lines-size-requires c κs =
-    omega (arith, fit-total (c .before .before .before .before .before .args .max-bytes) (length (now (c .before .before .before .before .before .args .text))) (now (c .before .before .before .before .before .args .lengths)) (sym (c .before .lengths-fit .ensures) ∙ not-false _ (c .if2 .left)))
+    omega (arith, fit-total (c .before .before .before .before .before .before .args .m .bytes) (length (now (c .before .before .before .before .before .before .args .text))) (now (c .before .before .before .before .before .before .args .lengths)) (sym (c .before .lengths-fit .ensures) ∙ not-false _ (c .if2 .left)))
 
--- src/lib.rt:115:1
+-- src/lib.rt:123:1
 returns-3 : tie.Need-returns-3
 returns-3 c =
     c .lines-size .ensures
-    ∙ sym (sized-fit (c .before .before .before .before .before .before .args .max-lines) (c .before .before .before .before .before .before .args .max-bytes) (now (c .before .before .before .before .before .before .args .text)) (now (c .before .before .before .before .before .before .args .lengths)) (le-ltb _ _ (c .before .before .before .if1 .left))
-    (sym (c .before .before .lengths-fit .ensures) ∙ not-false _ (c .before .if2 .left)))
+    ∙ sym (sized-fit (c .before .before .before .before .before .before .before .args .m) (now (c .before .before .before .before .before .before .before .args .text)) (now (c .before .before .before .before .before .before .before .args .lengths)) (c .before .before .before .if1 .left) (sym (c .before .before .lengths-fit .ensures) ∙ not-false _ (c .before .if2 .left)))
 
 pub label-size-spec : {M : Type 1} → statement M
 label-size-spec =
