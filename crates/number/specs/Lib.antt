@@ -1,0 +1,4 @@
+pub mod Number
+pub mod Rounded
+pub mod Reading
+pub mod Worked
