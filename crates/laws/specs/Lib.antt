@@ -12,3 +12,5 @@ pub mod Sort
 pub mod Sorting
 pub mod Ordered
 pub mod Same
+pub mod Refusals
+pub mod Zip
