@@ -12,5 +12,4 @@ pub mod Sort
 pub mod Sorting
 pub mod Ordered
 pub mod Same
-pub mod Refusals
 pub mod Zip
