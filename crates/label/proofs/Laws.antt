@@ -1,26 +1,30 @@
--- One byte measured, one length tested, one line measured: each from what the calls give. Assumes nothing.
+-- One turn of each loop and where it begins, from what the calls give. Assumes nothing.
 use mathlib.Core.Path.{_≡_, refl, sym, ap, _∙_, subst}
 use mathlib.Core.Bool.{Bool, true, false, cond, not, _&&_, _||_}
-use mathlib.Core.List.{List, [], _∷_}
+use mathlib.Core.List.{List, [], _∷_, map, flatMap}
 use Prim.Native.Nat.{ℕ, suc, _+_, _-_, _≤_, _<_}
 use native.Mathlib.Numerals.{add-one}
 use native.Mathlib.Omega.{arith}
 use lib.Dec.{T, eqb, ltb}
 use lib.Ieee.{Float}
-use lib.ListN.{length, getD, take, drop, drop-of-length-le}
+use lib.ListN.{length, length-map, getD, take, drop, drop-of-length-le}
 use lib.Seq.{drop-cons, drop-drop}
 use borrow.Author.Tests.{eq-eqb, ne-eqb, lt-ltb, le-ltb, eqb-true, eqb-false}
 use Rattle.laws.specs.Cases.{by-bool}
-use Rattle.laws.specs.Loops.{over}
+use Rattle.laws.specs.Loops.{over, over-join}
 use Rattle.float.specs.Ops.{_⊕_}
+use Rattle.float.specs.Constants.{f0}
 use Rattle.float.specs.Standins.{max}
 use Rattle.text.specs.Utf8.{wellFormed}
+use Rattle.sheet.specs.Sheet.{chain, chainBy, next, count, piece, firstText, lineOf, linesFrom}
+use Rattle.sheet.specs.Chains.{chain-end, chain-cut, chain-turn}
 use Rattle.sheet.specs.Refusals.{any}
 use Rattle.text.specs.Automaton.{feedOf, gatherOf}
 use Rattle.label.specs.declared.Measure.{Measure}
+use Rattle.label.specs.declared.Block.{Block}
 use Rattle.label.specs.declared.Sized.{Sized}
 use Rattle.label.specs.declared.Sized.the-variants.{Size, Refused}
-use Rattle.label.specs.Label.{charWidth, lineWidth, wider, cut, total}
+use Rattle.label.specs.Label.{charWidth, lineWidth, wider, blockHeight, block, cut, total}
 use Rattle.label.specs.Measuring.{measure, measureOf, measureAll, start, measured-formed, measured-width, lengthsFit, linesSize}
 
 pub step-done : (m : Measure) (b st v : ℕ) (w : Float) → st ≡ feedOf (m .st) b → v ≡ gatherOf (m .st) (m .value) b → st ≡ 0 → w ≡ charWidth v → measure st v (m .width ⊕ w) ≡ measureOf m b
@@ -80,8 +84,8 @@ fit-end-at most left l i h = rw (drop-of-length-le l h)
 
 -- ---- the lines from i on, which begin at `at`
 module _ (h w : Float) (text lengths : List ℕ) (at i : ℕ) where
-  abbrev linesFrom : List (List ℕ)
-  linesFrom = cut (drop at text) (drop i lengths)
+  abbrev rest : List (List ℕ)
+  rest = cut (drop at text) (drop i lengths)
 
   abbrev line : List ℕ
   line = take (getD lengths i 0) (drop at text)
@@ -89,24 +93,24 @@ module _ (h w : Float) (text lengths : List ℕ) (at i : ℕ) where
   abbrev later : List (List ℕ)
   later = cut (drop (at + getD lengths i 0) text) (drop (i + 1) lengths)
 
-  cut-at : i < length lengths → linesFrom ≡ line ∷ later
+  cut-at : i < length lengths → rest ≡ line ∷ later
   unfolding cut
   cut-at k = rw (drop-cons lengths i 0 k, add-one i, drop-drop (getD lengths i 0) at text)
 
   -- a line that is not well-formed, and one that is
-  pub line-ill : i < length lengths → (m : ℕ) → m ≡ measureAll start line .st → (m ≡ 0 → ⊥) → Refused 6 ≡ linesSize h w linesFrom
+  pub line-ill : i < length lengths → (m : ℕ) → m ≡ measureAll start line .st → (m ≡ 0 → ⊥) → Refused 6 ≡ linesSize h w rest
   unfolding linesSize any
   line-ill k m e z = let f : wellFormed line ≡ false = measured-formed line ∙ sym (ap (λ (n : ℕ). eqb n 0) e) ∙ ne-eqb m 0 z in rw (cut-at k, f)
 
   pub line-well : i < length lengths → (m : ℕ) (v : Float) → m ≡ measureAll start line .st → v ≡ measureAll start line .width → m ≡ 0
-      → linesSize h (max w v) later ≡ linesSize h w linesFrom
+      → linesSize h (max w v) later ≡ linesSize h w rest
   unfolding linesSize any over wider
   line-well k m v e d z =
       let f : wellFormed line ≡ true = measured-formed line ∙ sym (ap (λ (n : ℕ). eqb n 0) e) ∙ eq-eqb m 0 z in
       let u : v ≡ lineWidth line = d ∙ measured-width line in
       rw (cut-at k, f, u)
 
-  pub lines-end : length lengths ≤ i → Size w h ≡ linesSize h w linesFrom
+  pub lines-end : length lengths ≤ i → Size w h ≡ linesSize h w rest
   unfolding linesSize any over cut
   lines-end k = rw (drop-of-length-le lengths k)
 
@@ -117,3 +121,52 @@ fit-total most bytes l e = eqb-true bytes (total l) (go (not (any (ltb most) l))
     go : (a b : Bool) → (a && b) ≡ true → b ≡ true
     go true b h = h
     go false b h = absurd (subst T (sym h) tt)
+
+-- ---- a fold along a chain: over the bytes that each record brings, and over what each record is
+module _ {A B : Type 0} (g : A → B → A) (s : List ℕ) (f : ℕ → List B) (n i : ℕ) (a : A) where
+  pub bytes-end : i ≡ 0 → a ≡ over g a (flatMap f (chainBy s n i))
+  unfolding flatMap over
+  bytes-end e = rw (chain-end s n i e)
+
+  pub bytes-cut : n ≡ 0 → a ≡ over g a (flatMap f (chainBy s n i))
+  unfolding flatMap over
+  bytes-cut e = rw (chain-cut s n i e)
+
+  pub bytes-turn : (b : A) → b ≡ over g a (f i) → (n ≡ 0 → ⊥) → (i ≡ 0 → ⊥) → over g b (flatMap f (chainBy s (n - 1) (next s i))) ≡ over g a (flatMap f (chainBy s n i))
+  unfolding flatMap
+  bytes-turn b r h e = rw (chain-turn s n i h e, r) (sym (over-join g a (f i) (flatMap f (chainBy s (n - 1) (next s i)))))
+
+module _ {A B : Type 0} (g : A → B → A) (s : List ℕ) (f : ℕ → B) (n i : ℕ) (a : A) where
+  pub things-end : i ≡ 0 → a ≡ over g a (map f (chainBy s n i))
+  unfolding over
+  things-end e = rw (chain-end s n i e)
+
+  pub things-cut : n ≡ 0 → a ≡ over g a (map f (chainBy s n i))
+  unfolding over
+  things-cut e = rw (chain-cut s n i e)
+
+  pub things-turn : (b : A) → b ≡ g a (f i) → (n ≡ 0 → ⊥) → (i ≡ 0 → ⊥) → over g b (map f (chainBy s (n - 1) (next s i))) ≡ over g a (map f (chainBy s n i))
+  unfolding over
+  things-turn b r h e = rw (chain-turn s n i h e, r)
+
+-- ---- where the walks of a line and of a block begin
+pub line-start : (s : List ℕ) (k i n : ℕ) (m : Measure) → m ≡ start → i ≡ firstText s k → n ≡ count s → measureAll m (flatMap (piece s) (chainBy s (n + 1) i)) ≡ measureAll start (lineOf s k)
+unfolding lineOf
+line-start s k i n m e f g = rw (e, f, g)
+
+pub block-start : (s : List ℕ) (first n : ℕ) → n ≡ count s → over wider f0 (map (lineOf s) (chainBy s (n + 1) first)) ≡ over wider f0 (linesFrom s first)
+unfolding linesFrom
+block-start s first n g = rw g
+
+-- a line's measure widens the block as the line does
+pub wider-measured : (w v : Float) (line : List ℕ) (m : Measure) → m ≡ measureAll start line → v ≡ max w (m .width) → v ≡ wider w line
+unfolding wider
+wider-measured w v line m e f = f ∙ ap (max w) (ap (λ (m : Measure). m .width) e ∙ measured-width line)
+
+abbrev pub sized-block : Float → Float → Block
+sized-block w h = record { width = w; height = h }
+
+pub block-is : (s : List ℕ) (first n : ℕ) (w h : Float) → w ≡ over wider f0 (linesFrom s first) → n ≡ length (chain s first) → h ≡ blockHeight n
+    → sized-block w h ≡ block (linesFrom s first)
+unfolding linesFrom
+block-is s first n w h e f g = rw (e, g, f, length-map)

@@ -13,6 +13,7 @@ use Rattle.float.specs.Standins.{max}
 use Rattle.text.specs.Utf8.{codePoints}
 use Rattle.sheet.specs.declared.Limits.{Limits}
 use Rattle.sheet.specs.Refusals.{any, refusal, decide, illLine}
+use Rattle.label.specs.declared.Block.{Block}
 use Rattle.label.specs.declared.Sized.{Sized}
 use Rattle.label.specs.declared.Sized.the-variants.{Size, Refused}
 
@@ -44,6 +45,10 @@ blockWidth lines = over wider f0 lines
 
 abbrev pub blockHeight : ℕ → Float
 blockHeight n = count n ⊗ f15
+
+-- the size of a block with these lines
+abbrev pub block : List (List ℕ) → Block
+block lines = record { width = blockWidth lines; height = blockHeight (length lines) }
 
 -- ---- 'A label block is given text bytes and a list of line lengths'
 -- the lines, one after the other

@@ -60,7 +60,7 @@ measured-width line = measure-width start line ∙ read-codes widened f0 line
 
 -- a line in two pieces is measured one piece after the other
 pub measure-join : (m : Measure) (p q : List ℕ) → measureAll m (p ++ q) ≡ measureAll (measureAll m p) q
-measure-join m p q = over-join measureOf 0 m p q
+measure-join m p q = over-join measureOf m p q
 
 -- ---- the parts of the call
 -- no length is above the limit, and they add up to so many bytes

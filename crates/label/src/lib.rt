@@ -1,8 +1,9 @@
 // The size of a label block: its lines measured character by character.
 ghost use mathlib.Core.Path.{_≡_};
-ghost use Prim.Native.Nat.{_≤_};
+ghost use Prim.Native.Nat.{_≤_, _<_};
 ghost use lib.ListN.{length, take, drop};
 ghost use Rattle.float.specs.Constants.{f0};
+ghost use Rattle.sheet.specs.Sheet.{lineOf, linesFrom};
 ghost use Rattle.label.specs.Label as S;
 ghost use Rattle.label.specs.Measuring as M;
 
@@ -11,6 +12,12 @@ pub struct Measure {
     pub st: u8,
     pub value: u32,
     pub width: f64,
+}
+
+// The size of a label block.
+pub struct Block {
+    pub width: f64,
+    pub height: f64,
 }
 
 // The answer of `label_size`: width and height, or the number of a refusal.
@@ -80,6 +87,55 @@ pub fn height(lines: usize) -> f64
     ensures { λ r. ⌜ r ≡ S.blockHeight lines ⌝ }
 {
     std::num::nearest_u64_to_f64(lines as u64) * 15.0
+}
+
+// The line of record k, measured piece by piece.
+fn measure_line(s: &[u8], k: usize) -> Measure
+    requires { ⌜ k < 65536 ⌝ }
+    ensures { λ r. ⌜ r ≡ M.measureAll M.start (lineOf (now (s .entry)) k) ⌝ }
+{
+    let mut m = start();
+    let mut i = sheet::first_text_at(s, k);
+    let mut left = sheet::word_at(s, 2) + 1;
+    while i != 0 {
+        if left == 0 {
+            return m;
+        }
+        m = measure_part(s, 16 * i + 4, sheet::one_at(s, i), m);
+        i = sheet::next_at(s, i);
+        left -= 1;
+    }
+    m
+}
+
+// The width of the widest line of the chain from `first` on.
+fn widest(s: &[u8], first: usize) -> f64
+    requires { ⌜ first < 65536 ⌝ }
+    ensures { λ r. ⌜ r ≡ S.blockWidth (linesFrom (now (s .entry)) first) ⌝ }
+{
+    let mut w = 0.0;
+    let mut i = first;
+    let mut left = sheet::word_at(s, 2) + 1;
+    while i != 0 {
+        if left == 0 {
+            return w;
+        }
+        let m = measure_line(s, i);
+        w = float::max(w, m.width);
+        i = sheet::next_at(s, i);
+        left -= 1;
+    }
+    w
+}
+
+// The size of the label block whose lines are the chain from `first` on.
+pub fn block_at(s: &[u8], first: usize) -> Block
+    requires { ⌜ first < 65536 ⌝ }
+    ensures { λ r. ⌜ r ≡ S.block (linesFrom (now (s .entry)) first) ⌝ }
+{
+    let width = widest(s, first);
+    let height = height(meaning::chain_length(s, first));
+    Block { width, height }
 }
 
 // No length is above `most`, and they add up to `bytes`.

@@ -71,6 +71,12 @@ unfoldable pub over : {A B : Type 0} → (A → B → A) → A → List B → A
 over g a [] = a
 over g a (x ∷ l) = over g (g a x) l
 
+-- a fold over two lists joined is one fold after the other
+pub over-join : {A B : Type 0} (g : A → B → A) (a : A) (p q : List B) → over g a (p ++ q) ≡ over g (over g a p) q
+unfolding over
+over-join g a [] q = refl
+over-join g a (x ∷ p) q = over-join g (g a x) p q
+
 module _ {A B : Type 0} (g : A → B → A) (d : B) where
   shift : (x : B) (l : List B) (m i : ℕ) (a : A) → turns (λ j b. g b (getD (x ∷ l) j d)) m (suc i) a ≡ turns (λ j b. g b (getD l j d)) m i a
   unfolding turns
@@ -85,12 +91,6 @@ module _ {A B : Type 0} (g : A → B → A) (d : B) where
   pub up-over : (l : List B) (a : A) → up (λ j b. g b (getD l j d)) 0 (length l) a ≡ over g a l
   unfolding up
   up-over l a = rw (sub-zero (length l)) (turns-over l a)
-
-  -- a fold over two lists joined is one fold after the other
-  pub over-join : (a : A) (p q : List B) → over g a (p ++ q) ≡ over g (over g a p) q
-  unfolding over
-  over-join a [] q = refl
-  over-join a (x ∷ p) q = over-join (g a x) p q
 
   -- A fold over the n elements of l from i on, or as many as there are: one turn, and the two ends.
   pub over-part-turn : (l : List B) (i n : ℕ) (a : A) → i < length l → 0 < n → over g (g a (getD l i d)) (take (n - 1) (drop (i + 1) l)) ≡ over g a (take n (drop i l))

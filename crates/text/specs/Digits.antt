@@ -58,7 +58,7 @@ value-by (suc f) n h = go (ltb n 10) refl (value-by f (n / 10))
     go true e ih = omega arith
     go false e ih =
         let w : 10 ≤ n = ltb-false n 10 e in
-        over-join placed 0 0 (digitsBy f (n / 10)) ((48 + n % 10) ∷ []) ∙ omega (arith, ih (omega arith))
+        over-join placed 0 (digitsBy f (n / 10)) ((48 + n % 10) ∷ []) ∙ omega (arith, ih (omega arith))
 
 pub value-digits : (n : ℕ) → value (digits n) ≡ n
 unfolding digits

@@ -172,4 +172,4 @@ codes-encode c rest q = ends-codes rest (encode-ends 0 c q) ∙ ap (λ (l : List
 
 -- It is well-formed, and leaves what follows it as it was.
 pub formed-encode : (c : ℕ) (rest : List ℕ) → Scalar c → wellFormed (encode c ++ rest) ≡ wellFormed rest
-formed-encode c rest q = ap isDone (over-join byTable 0 (some []) (encode c) rest ∙ ap (λ (w : Awaited). over byTable w rest) (ends-formed (encode-ends 0 c q)))
+formed-encode c rest q = ap isDone (over-join byTable (some []) (encode c) rest ∙ ap (λ (w : Awaited). over byTable w rest) (ends-formed (encode-ends 0 c q)))

@@ -217,4 +217,4 @@ well-formed-is s = ap isDone (sym (feedAll-table 0 s)) ∙ done-is (feedAll 0 s)
 
 -- a text in two pieces is fed one piece after the other
 pub feedAll-join : (st : ℕ) (p q : List ℕ) → feedAll st (p ++ q) ≡ feedAll (feedAll st p) q
-feedAll-join st p q = over-join feedOf 0 st p q
+feedAll-join st p q = over-join feedOf st p q

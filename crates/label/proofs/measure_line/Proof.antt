@@ -1,0 +1,117 @@
+-- `label::measure_line` meets its contract. The invariant: the measure continued from this piece is the measure of the line.
+use mathlib.Core.Path.{_≡_, refl, sym, ap, ap₂, _∙_}
+use mathlib.Core.List.{List, flatMap}
+use Prim.Native.Nat.{ℕ, _+_, _-_, _*_, _<_, _≤_}
+use native.Mathlib.Omega.{arith}
+use lib.ListN.{take, drop}
+use denote.Ref.{now}
+use Rattle.sheet.specs.Sheet.{chainBy, next, piece, lineOf}
+use Rattle.label.specs.declared.Measure.{Measure}
+use Rattle.label.specs.Measuring.{measureOf, measureAll, start}
+use Rattle.label.proofs.Laws.{bytes-end, bytes-cut, bytes-turn, line-start}
+use borrow.Author.Needs.{needs}
+use Rattle.label.proofs.measure_line.Statement.{statement}
+use Rattle.label.proofs.measure_line.Tie as tie
+use Rattle.label.proofs.measure_line.Reads as reads
+use Rattle.label.proofs.measure_line.Lts as lts
+use Rattle.label.proofs.measure_part.Reads as measure-part-reads
+use Rattle.label.proofs.start.Reads as start-reads
+use Rattle.sheet.proofs.first_text_at.Reads as first-text-at-reads
+use Rattle.sheet.proofs.next_at.Reads as next-at-reads
+use Rattle.sheet.proofs.one_at.Reads as one-at-reads
+use Rattle.sheet.proofs.word_at.Reads as word-at-reads
+
+abbrev Inv-loop : tie.InvT-loop
+Inv-loop s k m₀ i₀ left₀ m i left = (measureAll m (flatMap (piece s) (chainBy s left i)) ≡ measureAll start (lineOf s k)) × (i < 65536)
+
+abbrev μ-loop : tie.MeasureT-loop
+μ-loop s k m₀ i₀ left₀ m i left = left
+
+-- src/lib.rt:97:9
+start-requires : tie.Need-start-requires Inv-loop μ-loop
+start-requires c κs = tt
+
+-- src/lib.rt:98:9
+first-text-at-requires : tie.Need-first-text-at-requires Inv-loop μ-loop
+first-text-at-requires c κs = search needs
+
+-- src/lib.rt:99:20
+word-at-requires : tie.Need-word-at-requires Inv-loop μ-loop
+word-at-requires c κs = search needs
+
+-- src/lib.rt:99:20
+add-left : tie.Need-add-left Inv-loop μ-loop
+add-left c = search needs
+
+-- src/lib.rt:100:5
+loop-holds : tie.Need-loop-holds Inv-loop μ-loop
+loop-holds c = (line-start (now (c .before .before .before .before .args .s)) (c .before .before .before .before .args .k) (c .before .first-text-at .result) (c .word-at .result) (c .before .before .start .result) (c .before .before .start .ensures) (c .before .first-text-at .ensures .0) (c .word-at .ensures .0), omega arith)
+
+-- src/lib.rt:102:13
+returns : tie.Need-returns Inv-loop μ-loop
+returns c = bytes-cut measureOf (now (c .before .before .before .before .before .before .before .args .s)) (piece (now (c .before .before .before .before .before .before .before .args .s))) (c .before .before .loop .left) (c .before .before .loop .i) (c .before .before .loop .m) (c .if1 .taken) ∙ c .before .before .loop .inv .0
+
+-- src/lib.rt:104:29
+mul-measure-part : tie.Need-mul-measure-part Inv-loop μ-loop
+mul-measure-part c = search needs
+
+-- src/lib.rt:104:29
+add-measure-part : tie.Need-add-measure-part Inv-loop μ-loop
+add-measure-part c = search needs
+
+-- src/lib.rt:104:41
+one-at-requires : tie.Need-one-at-requires Inv-loop μ-loop
+one-at-requires c κs = search needs
+
+-- src/lib.rt:104:9
+measure-part-requires : tie.Need-measure-part-requires Inv-loop μ-loop
+measure-part-requires c κs = tt
+
+-- src/lib.rt:105:9
+next-at-requires : tie.Need-next-at-requires Inv-loop μ-loop
+next-at-requires c κs = search needs
+
+-- src/lib.rt:106:9
+sub-left : tie.Need-sub-left Inv-loop μ-loop
+sub-left c = search needs
+
+-- src/lib.rt:100:5
+loop-less : tie.Need-loop-less Inv-loop μ-loop
+loop-less c = search needs
+
+-- src/lib.rt:100:5
+loop-again : tie.Need-loop-again Inv-loop μ-loop
+loop-again c =
+    let s = now (c .before .before .before .before .before .before .before .before .before .before .args .s) in (
+      ap (λ (j : ℕ). measureAll (c .before .measure-part .result) (flatMap (piece s) (chainBy s (c .before .before .before .before .before .loop .left - 1) j))) (c .next-at .ensures .0)
+          ∙ bytes-turn measureOf s (piece s) (c .before .before .before .before .before .loop .left) (c .before .before .before .before .before .loop .i) (c .before .before .before .before .before .loop .m) (c .before .measure-part .result)
+          (c .before .measure-part .ensures ∙ ap (λ (b : ℕ). measureAll (c .before .before .before .before .before .loop .m) (take b (drop (16 * c .before .before .before .before .before .loop .i + 4) s))) (c .before .before .one-at .ensures .0)) (c .before .before .before .if1 .left) (c .before .before .before .before .loop-test .taken)
+          ∙ c .before .before .before .before .before .loop .inv .0,
+      omega arith,
+    )
+
+-- src/lib.rt:93:1
+returns-2 : tie.Need-returns-2 Inv-loop μ-loop
+returns-2 c = bytes-end measureOf (now (c .before .before .before .before .before .before .args .s)) (piece (now (c .before .before .before .before .before .before .args .s))) (c .before .loop .left) (c .before .loop .i) (c .before .loop .m) (c .loop-test .left) ∙ c .before .loop .inv .0
+
+pub measure-line-spec : {M : Type 1} → statement M
+measure-line-spec =
+    tie.close
+    (tie.spec
+    Inv-loop
+    μ-loop
+    start-requires
+    first-text-at-requires
+    word-at-requires
+    add-left
+    loop-holds
+    returns
+    mul-measure-part
+    add-measure-part
+    one-at-requires
+    measure-part-requires
+    next-at-requires
+    sub-left
+    loop-less
+    loop-again
+    returns-2)
