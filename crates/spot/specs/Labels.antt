@@ -1,0 +1,67 @@
+-- Where the label block of an arrow stands beside a spot, and the drawing of the arrow with it.
+use mathlib.Core.Bool.{Bool, cond}
+use lib.Ieee.{Float}
+use Rattle.float.specs.Ops.{_⊕_, _⊖_, _⊗_, _⊘_, lt, le}
+use Rattle.float.specs.Constants.{f0, f2, f4, f0-2}
+use Rattle.float.specs.Standins.{abs}
+use Rattle.shape.specs.declared.«V».{«V»}
+use Rattle.shape.specs.declared.Rect.{Rect}
+use Rattle.shape.specs.Plane.{vec, add, mul, rect}
+use Rattle.shape.specs.Curves.{end}
+use Rattle.spot.specs.declared.Spot.{Spot}
+use Rattle.spot.specs.declared.Anchor.{Anchor}
+use Rattle.spot.specs.declared.Anchor.the-variants.{Start, Middle, End}
+use Rattle.spot.specs.declared.Placed.{Placed}
+use Rattle.spot.specs.declared.Routed.{Routed}
+use Rattle.spot.specs.declared.Geometry.{Geometry}
+
+abbrev pub placed : Float → Float → Anchor → Placed
+placed x y a = record { label = vec x y; anchor = a }
+
+-- a block to the right starts at its anchor, one to the left ends there
+unfoldable pub sideOf : «V» → Anchor
+sideOf dir = cond (lt f0 (dir .x)) Start End
+
+-- A block of this size beyond the apex in direction dir, 4 away from the line through the apex normal to dir: centred above or below a
+-- nearly horizontal arrow, beside a nearly vertical one, and from its nearest corner on diagonal ones.
+unfoldable pub placeLabel : «V» → «V» → Float → Float → Placed
+placeLabel apex dir width height =
+    let reach = f4 ⊕ width ⊘ f2 ⊗ abs (dir .x) ⊕ height ⊘ f2 ⊗ abs (dir .y) in
+    let centre = add apex (mul dir reach) in
+    let corner = add apex (mul dir f4) in
+    cond (le (abs (dir .x)) f0-2)
+    (placed (centre .x) (centre .y ⊖ height ⊘ f2) Middle)
+    (cond (le (abs (dir .y)) f0-2)
+    (placed
+    (apex .x ⊕ (f4 ⊗ dir .x ⊗ dir .x ⊕ abs (dir .y) ⊗ height ⊘ f2) ⊘ dir .x)
+    (apex .y ⊕ dir .y ⊗ f4 ⊖ height ⊘ f2)
+    (sideOf dir))
+    (cond (lt (dir .y) f0)
+    (placed (corner .x) (corner .y ⊖ height) (sideOf dir))
+    (placed (corner .x) (corner .y) (sideOf dir))))
+
+-- the left edge of a block of width w anchored at x
+abbrev pub leftOf : Anchor → Float → Float → Float
+leftOf Start x w = x
+leftOf Middle x w = x ⊖ w ⊘ f2
+leftOf End x w = x ⊖ w
+
+-- the box of a block with this left edge and top
+abbrev pub boxOf : Float → Float → Float → Float → Rect
+boxOf x0 y0 w h = rect x0 y0 (x0 ⊕ w) (y0 ⊕ h)
+
+abbrev pub drawn : Routed → Placed → Geometry
+drawn r p =
+    record {
+      edge = r .edge;
+      curve = r .curve;
+      tip = end (r .curve);
+      angle = r .angle;
+      label = p .label;
+      anchor = p .anchor;
+      bounds = boxOf (leftOf (p .anchor) (p .label .x) (r .width)) (p .label .y) (r .width) (r .height);
+    }
+
+-- the drawing of an arrow with its label beside a spot
+unfoldable pub labelled : Routed → Spot → Geometry
+labelled r s = drawn r (placeLabel (s .at) (s .side) (r .width) (r .height))

@@ -1,0 +1,247 @@
+// Where the label of an arrow may go, and the drawing of the arrow with its label there.
+use shape::Curve;
+use shape::Rect;
+use shape::V;
+ghost use mathlib.Core.Path.{_≡_};
+ghost use Prim.Native.Nat.{_<_};
+ghost use lib.ListN.{getD, length};
+ghost use Rattle.spot.specs.Spots as S;
+ghost use Rattle.spot.specs.Labels as L;
+
+// Which way the label of an arrow may go: on either side of a straight one, mostly to the outside of an arc (outer is 1 where
+// it is bent to the left, -1 to the right), outwards from a loop.
+pub enum Shape {
+    Line,
+    Arc(f64),
+    Loop(V),
+}
+
+// A point on the curve, and the side to put the label on.
+pub struct Spot {
+    pub at: V,
+    pub side: V,
+}
+
+// How a label block is aligned at its anchor: it starts there, is centred on it, or ends there.
+pub enum Anchor {
+    Start,
+    Middle,
+    End,
+}
+
+pub struct Placed {
+    pub label: V,
+    pub anchor: Anchor,
+}
+
+// An arrow whose curve is fixed and whose label, of this size, is still to be placed.
+pub struct Routed {
+    pub edge: usize,
+    pub curve: Curve,
+    pub angle: f64,
+    pub shape: Shape,
+    pub width: f64,
+    pub height: f64,
+}
+
+// The drawing of one arrow.
+pub struct Geometry {
+    pub edge: usize,
+    pub curve: Curve,
+    pub tip: V,
+    pub angle: f64,
+    pub label: V,
+    pub anchor: Anchor,
+    pub bounds: Rect,
+}
+
+// Along a straight arrow, and whether above it; best first.
+const LINE_AT: [f64; 10] = [0.5, 0.5, 0.36, 0.64, 0.36, 0.64, 0.24, 0.76, 0.24, 0.76];
+
+const LINE_UP: [bool; 10] = [
+    true,
+    false,
+    true,
+    true,
+    false,
+    false,
+    true,
+    true,
+    false,
+    false,
+];
+
+// Along an arc, and whether outside the bend; best first.
+const ARC_AT: [f64; 6] = [0.5, 0.38, 0.62, 0.28, 0.72, 0.5];
+
+const ARC_OUT: [bool; 6] = [true, true, true, true, true, false];
+
+// 90 degrees to the left of the curve's direction.
+fn normal(curve: Curve, t: f64) -> V
+    ensures { λ r. ⌜ r ≡ S.normal curve t ⌝ }
+{
+    curve.tangent(t).unit_or(V::new(1.0, 0.0)).left()
+}
+
+// Whether a side is above a horizontal arrow, or right of a vertical one.
+fn is_up(v: V) -> bool
+    ensures { λ r. ⌜ r ≡ S.isUp v ⌝ }
+{
+    if v.y < -1e-9 {
+        return true;
+    }
+    if float::abs(v.y) <= 1e-9 {
+        return v.x > 0.0;
+    }
+    false
+}
+
+// The side of a straight arrow that is tried first.
+pub fn upper(curve: Curve) -> V
+    ensures { λ r. ⌜ r ≡ S.upper curve ⌝ }
+{
+    let left = normal(curve, 0.5);
+    if is_up(left) {
+        return left;
+    }
+    left.neg()
+}
+
+fn line_spot(curve: Curve, up: V, j: usize) -> Spot
+    requires { ⌜ j < 10 ⌝ }
+    ensures { λ r. ⌜ r ≡ S.lineSpot curve up (getD S.lineListed j S.unlisted) ⌝ }
+{
+    let at = curve.at(LINE_AT[j]);
+    if LINE_UP[j] {
+        return Spot { at, side: up };
+    }
+    Spot { at, side: up.neg() }
+}
+
+fn arc_spot(curve: Curve, outer: f64, j: usize) -> Spot
+    requires { ⌜ j < 6 ⌝ }
+    ensures { λ r. ⌜ r ≡ S.arcSpot curve outer (getD S.arcListed j S.unlisted) ⌝ }
+{
+    let t = ARC_AT[j];
+    let at = curve.at(t);
+    let left = normal(curve, t);
+    if ARC_OUT[j] {
+        return Spot {
+            at,
+            side: left.mul(outer),
+        };
+    }
+    Spot {
+        at,
+        side: left.mul(-outer),
+    }
+}
+
+// How many spots an arrow has.
+pub fn spot_count(shape: Shape) -> usize
+    ensures { λ r. ⌜ r ≡ S.spotCount shape ⌝ }
+{
+    match shape {
+        Shape::Line => 10,
+        Shape::Arc(_) => 6,
+        Shape::Loop(_) => 1,
+    }
+}
+
+// Spot j of an arrow, with the upper side of its curve.
+pub fn spot_at(curve: Curve, shape: Shape, up: V, j: usize) -> Spot
+    requires { ⌜ (up ≡ S.upper curve) × (j < S.spotCount shape) ⌝ }
+    ensures { λ r. ⌜ r ≡ S.spotAt curve shape j ⌝ }
+{
+    match shape {
+        Shape::Line => line_spot(curve, up, j),
+        Shape::Arc(outer) => arc_spot(curve, outer, j),
+        Shape::Loop(out) => Spot {
+            at: curve.at(0.5),
+            side: out,
+        },
+    }
+}
+
+fn side_of(dir: V) -> Anchor
+    ensures { λ r. ⌜ r ≡ L.sideOf dir ⌝ }
+{
+    if dir.x > 0.0 {
+        Anchor::Start
+    } else {
+        Anchor::End
+    }
+}
+
+// The anchor and alignment of a block that lies beyond `apex` in direction `dir`, at least 4 away from the line through `apex`
+// normal to `dir`.
+pub fn place_label(apex: V, dir: V, width: f64, height: f64) -> Placed
+    ensures { λ r. ⌜ r ≡ L.placeLabel apex dir width height ⌝ }
+{
+    let across = float::abs(dir.x);
+    let along = float::abs(dir.y);
+    if across <= 0.2 {
+        let reach = 4.0 + width / 2.0 * across + height / 2.0 * along;
+        let centre = apex.add(dir.mul(reach));
+        return Placed {
+            label: V::new(centre.x, centre.y - height / 2.0),
+            anchor: Anchor::Middle,
+        };
+    }
+    let anchor = side_of(dir);
+    if along <= 0.2 {
+        let x = apex.x + (4.0 * dir.x * dir.x + along * height / 2.0) / dir.x;
+        let middle = apex.y + dir.y * 4.0;
+        return Placed {
+            label: V::new(x, middle - height / 2.0),
+            anchor,
+        };
+    }
+    let corner = apex.add(dir.mul(4.0));
+    if dir.y < 0.0 {
+        return Placed {
+            label: V::new(corner.x, corner.y - height),
+            anchor,
+        };
+    }
+    Placed {
+        label: V::new(corner.x, corner.y),
+        anchor,
+    }
+}
+
+// The left edge of a block of width `w` anchored at `x`.
+fn left_of(anchor: Anchor, x: f64, w: f64) -> f64
+    ensures { λ r. ⌜ r ≡ L.leftOf anchor x w ⌝ }
+{
+    match anchor {
+        Anchor::Start => x,
+        Anchor::Middle => x - w / 2.0,
+        Anchor::End => x - w,
+    }
+}
+
+// The drawing of an arrow with its label beside a spot.
+pub fn labelled(r: Routed, spot: Spot) -> Geometry
+    ensures { λ g. ⌜ g ≡ L.labelled r spot ⌝ }
+{
+    let p = place_label(spot.at, spot.side, r.width, r.height);
+    let curve = r.curve;
+    let label = p.label;
+    let anchor = p.anchor;
+    let x0 = left_of(anchor, label.x, r.width);
+    Geometry {
+        edge: r.edge,
+        curve,
+        tip: curve.end(),
+        angle: r.angle,
+        label,
+        anchor,
+        bounds: Rect {
+            x0,
+            y0: label.y,
+            x1: x0 + r.width,
+            y1: label.y + r.height,
+        },
+    }
+}
