@@ -13,3 +13,4 @@ pub mod Sorting
 pub mod Ordered
 pub mod Same
 pub mod Zip
+pub mod Counting

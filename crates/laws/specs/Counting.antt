@@ -1,0 +1,96 @@
+-- How many of a list pass a test, and sums with a weight for each that does: whole, and cut at a limit; a turn of a loop over such a sum, and its end. Assumes nothing.
+use mathlib.Core.Path.{_≡_, refl, sym, ap, _∙_}
+use mathlib.Core.Bool.{Bool, true, false, cond}
+use mathlib.Core.List.{List, [], _∷_, _++_, map}
+use Prim.Native.Nat.{ℕ, zero, suc, _+_, _-_, _*_, _≤_, _<_}
+use native.Mathlib.Nat.{not-suc-le-zero}
+use native.Mathlib.Numerals.{add-one}
+use native.Mathlib.Omega.{arith}
+use borrow.Author.Tests.{le-leb, lt-leb}
+use lib.ListN.{length}
+use Rattle.laws.specs.Cases.{by-lt}
+use Rattle.laws.specs.Best.{total, cut-total}
+use Rattle.laws.specs.Flat.{table}
+
+-- ---- counting
+
+unfoldable pub number : {A : Type 0} → (A → Bool) → List A → ℕ
+number p [] = 0
+number p (x ∷ l) = cond (p x) 1 0 + number p l
+
+-- m for a thing that passes, else 0
+abbrev pub worth : {A : Type 0} → (A → Bool) → ℕ → A → ℕ
+worth p m x = cond (p x) m 0
+
+pub worth-le : {A : Type 0} (p : A → Bool) (m : ℕ) (x : A) → worth p m x ≤ m
+worth-le p m x = go (p x)
+  where
+    go : (b : Bool) → cond b m 0 ≤ m
+    go true = omega arith
+    go false = omega arith
+
+pub number-le : {A : Type 0} (p : A → Bool) (l : List A) → number p l ≤ length l
+unfolding number
+number-le p [] = omega arith
+number-le p (x ∷ l) = omega (arith, worth-le p 1 x, number-le p l)
+
+-- a list's first thing, as a loop meets it
+pub number-turn : {A : Type 0} (p : A → Bool) (m a b : ℕ) (x : A) (l r : List A) → l ≡ x ∷ r → b ≡ worth p m x → (a + b) + m * number p r ≡ a + m * number p l
+unfolding number
+number-turn p m a b x l r e f = rw (e, f) (go (p x))
+  where
+    go : (t : Bool) → (a + cond t m 0) + m * number p r ≡ a + m * (cond t 1 0 + number p r)
+    go true = omega arith
+    go false = omega arith
+
+pub number-none : {A : Type 0} (p : A → Bool) (m a : ℕ) (l : List A) → l ≡ [] → a ≡ a + m * number p l
+unfolding number
+number-none p m a l e = rw e (omega arith)
+
+-- the sum of the weights
+pub total-worth : {A : Type 0} (p : A → Bool) (m a : ℕ) (l : List A) → total a (map (worth p m) l) ≡ a + m * number p l
+unfolding total number
+total-worth p m a [] = omega arith
+total-worth p m a (x ∷ l) = total-worth p m (a + worth p m x) l ∙ number-turn p m a (worth p m x) x (x ∷ l) l refl refl
+
+-- ---- one run of items after another
+
+pub total-append : (a : ℕ) (xs ys : List ℕ) → total a (xs ++ ys) ≡ total (total a xs) ys
+unfolding total
+total-append a [] ys = refl
+total-append a (x ∷ xs) ys = total-append (a + x) xs ys
+
+cut-over : (l a : ℕ) (xs : List ℕ) → l ≤ a → cut-total l a xs ≡ a
+unfolding cut-total
+cut-over l a [] h = refl
+cut-over l a (x ∷ xs) h = rw (le-leb _ _ h)
+
+pub cut-append : (l a : ℕ) (xs ys : List ℕ) → cut-total l (cut-total l a xs) ys ≡ cut-total l a (xs ++ ys)
+unfolding cut-total
+cut-append l a [] ys = refl
+cut-append l a (x ∷ xs) ys = by-lt a l (λ (h : a < l). rw (lt-leb _ _ h) (cut-append l (a + x) xs ys)) (λ (h : l ≤ a). rw (le-leb _ _ h) (cut-over l a ys h))
+
+-- ---- a loop over n things from k on, that stops at the limit
+
+pub table-length : {A : Type 0} (g : ℕ → A) (k n : ℕ) → length (table g k n) ≡ n
+unfolding table
+table-length g k zero = refl
+table-length g k (suc n) = ap suc (table-length g (suc k) n)
+
+down : (k : ℕ) → suc k - 1 ≡ k
+down k = omega arith
+
+module _ {A : Type 0} (f : A → ℕ) (g : ℕ → A) where
+  -- b is what thing k adds
+  pub cut-turn : (l a b k n : ℕ) → 0 < n → a < l → b ≡ f (g k) → cut-total l (a + b) (map f (table g (k + 1) (n - 1))) ≡ cut-total l a (map f (table g k n))
+  unfolding cut-total table
+  cut-turn l a b k zero h e q = absurd (not-suc-le-zero h)
+  cut-turn l a b k (suc n) h e q = rw (q, down, add-one, lt-leb _ _ e)
+
+  pub cut-stop : (l a k n : ℕ) → l ≤ a → a ≡ cut-total l a (map f (table g k n))
+  cut-stop l a k n e = sym (cut-over l a (map f (table g k n)) e)
+
+  pub cut-end : (l a k n : ℕ) → n ≤ 0 → a ≡ cut-total l a (map f (table g k n))
+  unfolding cut-total table
+  cut-end l a k zero h = refl
+  cut-end l a k (suc n) h = absurd (not-suc-le-zero h)
