@@ -194,6 +194,33 @@ pub num-back : (v : Float) (rest : List ℕ) → Ends rest → readNumber (numTe
 unfolding numText
 num-back v rest h = decimal-back (hundredths v) rest h
 
+-- ---- a written number begins with a byte from `-` on: no white space
+abbrev pub Begins : List ℕ → Type 0
+Begins [] = ⊥
+Begins (b ∷ l) = leb 45 b ≡ true
+
+digit-low : (b : ℕ) → isDigit b ≡ true → 48 ≤ b
+digit-low b h = by-bool (leb 48 b) (λ (e : leb 48 b ≡ true). leb-true 48 b e) (λ (e : leb 48 b ≡ false). absurd (true≢false (sym h ∙ rw e)))
+
+digits-begin : (ds l : List ℕ) → AllDigits ds → 0 < length ds → Begins (ds ++ l)
+digits-begin [] l p h = absurd (omega arith)
+digits-begin (d ∷ ds) l p h = le-leb 45 d (omega (arith, digit-low d (p .0)))
+
+sign-begins : (minus : Bool) (l : List ℕ) → Begins l → Begins (minusText minus ++ l)
+unfolding minusText
+sign-begins true l h = refl
+sign-begins false l h = h
+
+pub num-begins : (v : Float) (rest : List ℕ) → Begins (numText v ++ rest)
+unfolding numText decimal
+num-begins v rest =
+    let h = hundredths v in
+    let m = minusText (h .minus) in
+    let ds = digits (h .size / 100) in
+    let f = fraction (h .size % 100) in
+    let e : m ++ ds ++ f ++ rest ≡ m ++ (ds ++ (f ++ rest)) = simp append-assoc in
+    rw e (sign-begins (h .minus) (ds ++ (f ++ rest)) (digits-begin ds (f ++ rest) (all (h .size / 100)) (some-digit (h .size / 100))))
+
 -- ---- what stands after the first point: nothing, as there is none; or one or two digits of which the last is not `0`
 unfoldable pub afterPoint : List ℕ → Option (List ℕ)
 afterPoint [] = none

@@ -1,0 +1,4 @@
+pub mod Paths
+pub mod Grammar
+pub mod Reading
+pub mod Worked
