@@ -4,3 +4,7 @@ pub mod Chains
 pub mod Any
 pub mod Order
 pub mod Accepted
+pub mod Once
+pub mod Whole
+pub mod Renumber
+pub mod Examples
