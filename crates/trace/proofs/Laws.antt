@@ -1,0 +1,182 @@
+-- A turn of each loop and its end, and what the calls come to. Assumes nothing.
+use mathlib.Core.Path.{_≡_, refl, sym, ap, ap₂, _∙_}
+use mathlib.Core.Bool.{Bool, true, false, not, _&&_}
+use mathlib.Core.List.{List, [], _∷_, _++_, append-nil, append-assoc}
+use Prim.Native.Nat.{ℕ, zero, suc, _+_, _-_, _*_, _≤_, _<_}
+use native.Mathlib.Nat.{not-suc-le-zero, add-zero}
+use native.Mathlib.Numerals.{add-one}
+use native.Mathlib.Omega.{arith}
+use lib.Dec.{eqb}
+use lib.ListN.{length, getD, take, drop, length-append}
+use lib.Seq.{getD-take, getD-drop, drop-at, length-take-le}
+use lib.Ieee.{Float, nan}
+use Rattle.laws.specs.Flat.{table, part, table-more}
+use Rattle.laws.specs.Put.{put, put-eq}
+use Rattle.laws.specs.Loops.{over, over-join}
+use Rattle.float.specs.Ops.{lt}
+use Rattle.shape.specs.declared.«V».{«V»}
+use Rattle.shape.specs.declared.Rect.{Rect}
+use Rattle.shape.specs.declared.Curve.{Curve}
+use Rattle.shape.specs.declared.Curve.the-variants.{Quad, Cubic}
+use Rattle.shape.specs.Plane.{vec, touches, spanning, dist}
+use Rattle.trace.specs.Traces.{Trace, sample, ownerOf, isArrow, foreign, samples, extended, noBounds, boundsOf, traceOf, anySegment, anyPoint, segmentHits, hitsRect, pairCross, segmentCrosses, crosses, pointNear, near}
+use Rattle.trace.specs.Form.{wholeOf, pointsIn, boundsIn, decodePoint, decodePoints, pointIn, pointsOf, decodeTrace, header, samplesIn, sampleAt}
+use Rattle.trace.specs.Forms.{whole-back, samples-at, points-in}
+
+down : (k : ℕ) → suc k - 1 ≡ k
+down k = omega arith
+
+-- ---- reading
+
+-- number i of record k, of records that begin at m
+part-read : {A : Type 0} (m w k i : ℕ) (l : List A) (d : A) → i < w → getD (part w k (drop m l)) i d ≡ getD l (m + w * k + i) d
+part-read m w k i l d h =
+    let e : m + (w * k + i) ≡ m + w * k + i = omega arith in
+    getD-take w (drop (w * k) (drop m l)) i d h ∙ getD-drop (w * k) (drop m l) i d ∙ getD-drop m l (w * k + i) d ∙ ap (λ (j : ℕ). getD l j d) e
+
+pub point-read : (l : List Float) (k : ℕ) → vec (getD l (6 + 2 * k) nan) (getD l (6 + 2 * k + 1) nan) ≡ pointIn l k
+point-read l k =
+    ap₂ vec (sym (part-read 6 2 k 0 l nan (omega arith) ∙ ap (λ (j : ℕ). getD l j nan) (add-zero (6 + 2 * k)))) (sym (part-read 6 2 k 1 l nan (omega arith)))
+
+-- w is the owner's number as the code reads it
+module _ (l : List Float) (own w : ℕ) (e : w ≡ wholeOf (getD l 0 nan)) where
+  pub foreign-none : w ≡ 0 → true ≡ foreign own (decodeTrace l)
+  unfolding foreign decodeTrace
+  foreign-none z = rw (← e, z)
+
+  pub foreign-arrow : (w ≡ 0 → ⊥) → not (eqb (w - 1) own) ≡ foreign own (decodeTrace l)
+  unfolding foreign decodeTrace
+  foreign-arrow z = rw (← e) (go w z)
+    where
+      go : (w : ℕ) → (w ≡ 0 → ⊥) → not (eqb (w - 1) own) ≡ not (isArrow own (ownerOf w))
+      go zero z = absurd (z refl)
+      go (suc n) z = rw (down n)
+
+-- ---- loops over the points of a trace
+
+module _ (p : «V» → «V» → Bool) (g : ℕ → «V») where
+  pub seg-hit : (k n : ℕ) → 1 < n → p (g k) (g (k + 1)) ≡ true → true ≡ anySegment p (table g k n)
+  unfolding anySegment table
+  seg-hit k zero h e = absurd (not-suc-le-zero h)
+  seg-hit k (suc zero) h e = absurd (omega arith)
+  seg-hit k (suc (suc n)) h e = let f : p (g k) (g (suc k)) ≡ true = rw add-one at e in rw f
+
+  pub seg-miss : (k n : ℕ) → 1 < n → p (g k) (g (k + 1)) ≡ false → anySegment p (table g (k + 1) (n - 1)) ≡ anySegment p (table g k n)
+  unfolding anySegment table
+  seg-miss k zero h e = absurd (not-suc-le-zero h)
+  seg-miss k (suc zero) h e = absurd (omega arith)
+  seg-miss k (suc (suc n)) h e = let f : p (g k) (g (suc k)) ≡ false = rw add-one at e in rw (down (suc n), add-one, f)
+
+  pub seg-end : (k n : ℕ) → n ≤ 1 → false ≡ anySegment p (table g k n)
+  unfolding anySegment table
+  seg-end k zero h = refl
+  seg-end k (suc zero) h = refl
+  seg-end k (suc (suc n)) h = absurd (omega arith)
+
+-- a and b are points k and k + 1 as the code reads them, x is what it found of them
+module _ (p : «V» → «V» → Bool) (l : List Float) (k n : ℕ) (a b : «V») (x : Bool) (h : 1 < n) (e : a ≡ pointIn l k) (f : b ≡ pointIn l (k + 1)) (g : x ≡ p a b) where
+  pub hit-at : x ≡ true → true ≡ anySegment p (table (pointIn l) k n)
+  hit-at t = seg-hit p (pointIn l) k n h (sym (ap₂ p e f) ∙ sym g ∙ t)
+
+  pub miss-at : x ≡ false → anySegment p (table (pointIn l) (k + 1) (n - 1)) ≡ anySegment p (table (pointIn l) k n)
+  miss-at t = seg-miss p (pointIn l) k n h (sym (ap₂ p e f) ∙ sym g ∙ t)
+
+module _ (p : «V» → Bool) (g : ℕ → «V») where
+  pub point-hit : (k n : ℕ) → 0 < n → p (g k) ≡ true → true ≡ anyPoint p (table g k n)
+  unfolding anyPoint table
+  point-hit k zero h e = absurd (not-suc-le-zero h)
+  point-hit k (suc n) h e = rw e
+
+  pub point-miss : (k n : ℕ) → 0 < n → p (g k) ≡ false → anyPoint p (table g (k + 1) (n - 1)) ≡ anyPoint p (table g k n)
+  unfolding anyPoint table
+  point-miss k zero h e = absurd (not-suc-le-zero h)
+  point-miss k (suc n) h e = rw (down n, add-one, e)
+
+  pub point-end : (k n : ℕ) → n ≤ 0 → false ≡ anyPoint p (table g k n)
+  unfolding anyPoint table
+  point-end k zero h = refl
+  point-end k (suc n) h = absurd (not-suc-le-zero h)
+
+-- a is point k as the code reads it, d its distance
+module _ (o : «V») (reach : Float) (l : List Float) (k n : ℕ) (a : «V») (d : Float) (h : 0 < n) (e : a ≡ pointIn l k) (g : d ≡ dist a o) where
+  found : {t : Bool} → lt d reach ≡ t → pointNear o reach (pointIn l k) ≡ t
+  found f = sym (ap (pointNear o reach) e) ∙ sym (ap (λ (q : Float). lt q reach) g) ∙ f
+
+  pub near-hit : lt d reach ≡ true → true ≡ anyPoint (pointNear o reach) (table (pointIn l) k n)
+  near-hit t = point-hit (pointNear o reach) (pointIn l) k n h (found t)
+
+  pub near-miss : lt d reach ≡ false → anyPoint (pointNear o reach) (table (pointIn l) (k + 1) (n - 1)) ≡ anyPoint (pointNear o reach) (table (pointIn l) k n)
+  near-miss t = point-miss (pointNear o reach) (pointIn l) k n h (found t)
+
+-- ---- the tests on the bounds; b is the bounds as the code reads them
+
+and-on : (s t x : Bool) → s ≡ t → s ≡ true → x ≡ t && x
+and-on s t x e h = sym (ap (λ (q : Bool). q && x) (sym e ∙ h))
+
+and-off : (s t x : Bool) → s ≡ t → s ≡ false → false ≡ t && x
+and-off s t x e h = sym (ap (λ (q : Bool). q && x) (sym e ∙ h))
+
+module _ (l : List Float) (r b : Rect) (s : Bool) (e : b ≡ boundsIn l) (f : s ≡ touches b r) where
+  pub hits-on : (n : ℕ) (x : Bool) → s ≡ true → n ≡ pointsIn (getD l 1 nan) → x ≡ anySegment (segmentHits r) (pointsOf n l) → x ≡ hitsRect (decodeTrace l) r
+  unfolding hitsRect decodeTrace
+  hits-on n x h g k =
+      k ∙ ap (λ (m : ℕ). anySegment (segmentHits r) (pointsOf m l)) g
+      ∙ and-on s (touches (boundsIn l) r) _ (f ∙ ap (λ (q : Rect). touches q r) e) h
+
+  pub hits-off : s ≡ false → false ≡ hitsRect (decodeTrace l) r
+  unfolding hitsRect decodeTrace
+  hits-off h = and-off s (touches (boundsIn l) r) _ (f ∙ ap (λ (q : Rect). touches q r) e) h
+
+module _ (l : List Float) (a b : «V») (ab q : Rect) (s : Bool) (i : ab ≡ spanning a b) (e : q ≡ boundsIn l) (f : s ≡ touches ab q) where
+  pub segment-on : (n : ℕ) (x : Bool) → s ≡ true → n ≡ pointsIn (getD l 1 nan) → x ≡ anySegment (pairCross ab a b) (pointsOf n l) → x ≡ segmentCrosses (decodeTrace l) a b
+  unfolding segmentCrosses decodeTrace
+  segment-on n x h g k =
+      k ∙ ap₂ (λ (m : ℕ) (w : Rect). anySegment (pairCross w a b) (pointsOf m l)) g i
+      ∙ and-on s (touches (spanning a b) (boundsIn l)) _ (f ∙ ap₂ touches i e) h
+
+  pub segment-off : s ≡ false → false ≡ segmentCrosses (decodeTrace l) a b
+  unfolding segmentCrosses decodeTrace
+  segment-off h = and-off s (touches (spanning a b) (boundsIn l)) _ (f ∙ ap₂ touches i e) h
+
+module _ (l m : List Float) (p q : Rect) (s : Bool) (d : p ≡ boundsIn l) (e : q ≡ boundsIn m) (f : s ≡ touches p q) where
+  pub crosses-on : (n : ℕ) (x : Bool) → s ≡ true → n ≡ pointsIn (getD l 1 nan) → x ≡ anySegment (segmentCrosses (decodeTrace m)) (pointsOf n l) → x ≡ crosses (decodeTrace l) (decodeTrace m)
+  unfolding crosses decodeTrace
+  crosses-on n x h g k =
+      k ∙ ap (λ (j : ℕ). anySegment (segmentCrosses (decodeTrace m)) (pointsOf j l)) g
+      ∙ and-on s (touches (boundsIn l) (boundsIn m)) _ (f ∙ ap₂ touches d e) h
+
+  pub crosses-off : s ≡ false → false ≡ crosses (decodeTrace l) (decodeTrace m)
+  unfolding crosses decodeTrace
+  crosses-off h = and-off s (touches (boundsIn l) (boundsIn m)) _ (f ∙ ap₂ touches d e) h
+
+pub near-is : (l : List Float) (o : «V») (reach : Float) (n : ℕ) (x : Bool) → n ≡ pointsIn (getD l 1 nan) → x ≡ anyPoint (pointNear o reach) (pointsOf n l) → x ≡ near (decodeTrace l) o reach
+unfolding near decodeTrace
+near-is l o reach n x g k = k ∙ ap (λ (m : ℕ). anyPoint (pointNear o reach) (pointsOf m l)) g
+
+-- ---- a trace written
+
+-- a curve that is no line
+pub quad-sample : (c : Curve) (k : ℕ) {p d q : «V»} → c ≡ Quad p d q → sample c k ≡ sampleAt c k
+unfolding sampleAt
+quad-sample c k e = rw e
+
+pub cubic-sample : (c : Curve) (k : ℕ) {p d f q : «V»} → c ≡ Cubic p d f q → sample c k ≡ sampleAt c k
+unfolding sampleAt
+cubic-sample c k e = rw e
+
+-- the bounds with one point more
+pub bounds-more : (f : ℕ → «V») (k : ℕ) → extended (boundsOf (table f 0 k)) (f k) ≡ boundsOf (table f 0 (k + 1))
+unfolding boundsOf over
+bounds-more f k = sym (over-join extended (f k) noBounds (table f 0 k) (f k ∷ [])) ∙ ap boundsOf (table-more f k)
+
+-- the points in the part after the header, then the header
+pub trace-written : (l pts rest : List Float) (owner n : ℕ) (c : Curve) (b : Rect) → owner ≤ 65536 → 6 ≤ length l → rest ≡ [] → n ≡ samplesIn c
+    → decodePoints n pts ≡ table (sampleAt c) 0 n → b ≡ boundsOf (table (sampleAt c) 0 n)
+    → decodeTrace (put (take 6 l ++ (pts ++ rest)) 0 (header owner n b)) ≡ traceOf (ownerOf owner) c
+unfolding decodeTrace traceOf
+trace-written l pts rest owner n c b ho hl er en ep eb =
+    let six : length (take 6 l) ≡ 6 = length-take-le 6 l hl in
+    let long : 6 ≤ length (take 6 l ++ (pts ++ rest)) = omega (arith, length-append (take 6 l) (pts ++ rest)) in
+    ap decodeTrace (put-eq (take 6 l ++ (pts ++ rest)) 0 (header owner n b) long)
+    ∙ ap (λ (m : List Float). decodeTrace (header owner n b ++ m)) (drop-at (take 6 l) (pts ++ rest) 6 six ∙ ap (λ (m : List Float). pts ++ m) er ∙ append-nil pts)
+    ∙ rw (whole-back owner ho, en, points-in c, ← en, ep, eb, en, samples-at c)

@@ -1,0 +1,3 @@
+pub mod Traces
+pub mod Form
+pub mod Forms

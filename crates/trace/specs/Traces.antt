@@ -1,0 +1,108 @@
+-- A trace: a curve sampled as lines from point to point, with its bounds and its owner, and what it collides with.
+use mathlib.Core.Bool.{Bool, true, false, not, _&&_, _||_}
+use mathlib.Core.List.{List, [], _∷_}
+use Prim.Native.Nat.{ℕ, zero, suc}
+use lib.Dec.{eqb}
+use lib.Ieee.{Float}
+use Rattle.laws.specs.Loops.{over}
+use Rattle.laws.specs.Flat.{table}
+use Rattle.float.specs.Ops.{_⊘_, lt, neg, count}
+use Rattle.float.specs.Constants.{f16, infinity}
+use Rattle.float.specs.Standins.{min, max}
+use Rattle.shape.specs.declared.«V».{«V»}
+use Rattle.shape.specs.declared.Rect.{Rect}
+use Rattle.shape.specs.declared.Curve.{Curve}
+use Rattle.shape.specs.declared.Curve.the-variants.{Line, Quad, Cubic}
+use Rattle.shape.specs.Plane.{rect, touches, spanning, dist}
+use Rattle.shape.specs.Curves.{at}
+use Rattle.shape.specs.Clipping.{segmentHitsRect, segmentsCross}
+
+-- "A start arrow is a trace owned by no arrow."
+pub data Owner : Type 0 where
+  nobody : Owner
+  arrow : ℕ → Owner
+
+pub record Trace : Type 0 where
+  pub owner : Owner
+  pub points : List «V»
+  pub bounds : Rect
+
+-- ---- the trace of a curve
+
+-- point k of sixteen parts
+unfoldable pub sample : Curve → ℕ → «V»
+sample c k = at c (count k ⊘ f16)
+
+-- a line's ends; of any other curve the points at k / 16, for k = 0 to 16
+unfoldable pub samples : Curve → List «V»
+samples (Line p q) = p ∷ q ∷ []
+samples (Quad p c q) = table (sample (Quad p c q)) 0 17
+samples (Cubic p c d q) = table (sample (Cubic p c d q)) 0 17
+
+-- the box of no points, and a box with one point more
+abbrev pub noBounds : Rect
+noBounds = rect infinity infinity (neg infinity) (neg infinity)
+
+unfoldable pub extended : Rect → «V» → Rect
+extended r p = rect (min (r .x0) (p .x)) (min (r .y0) (p .y)) (max (r .x1) (p .x)) (max (r .y1) (p .y))
+
+-- the smallest box that contains the points
+unfoldable pub boundsOf : List «V» → Rect
+boundsOf l = over extended noBounds l
+
+unfoldable pub traceOf : Owner → Curve → Trace
+traceOf o c = record { owner = o; points = samples c; bounds = boundsOf (samples c) }
+
+-- ---- owners
+
+-- owners by number: 0 is nobody, n + 1 is arrow n
+abbrev pub ownerOf : ℕ → Owner
+ownerOf zero = nobody
+ownerOf (suc n) = arrow n
+
+abbrev pub isArrow : ℕ → Owner → Bool
+isArrow n nobody = false
+isArrow n (arrow m) = eqb m n
+
+-- "A foreign trace is one that the turn's arrow does not own."
+unfoldable pub foreign : ℕ → Trace → Bool
+foreign n t = not (isArrow n (t .owner))
+
+-- ---- collisions; each is tested on the bounds first
+
+-- whether p holds of some point and the next
+unfoldable pub anySegment : («V» → «V» → Bool) → List «V» → Bool
+anySegment p [] = false
+anySegment p (a ∷ []) = false
+anySegment p (a ∷ b ∷ l) = p a b || anySegment p (b ∷ l)
+
+abbrev pub segmentHits : Rect → «V» → «V» → Bool
+segmentHits r a b = segmentHitsRect a b r
+
+-- some segment meets the box
+unfoldable pub hitsRect : Trace → Rect → Bool
+hitsRect t r = touches (t .bounds) r && anySegment (segmentHits r) (t .points)
+
+-- the segment from a to b, in the box ab, and the one from c to d cross
+unfoldable pub pairCross : Rect → «V» → «V» → «V» → «V» → Bool
+pairCross ab a b c d = touches ab (spanning c d) && segmentsCross a b c d
+
+-- the segment from a to b crosses one of the trace
+unfoldable pub segmentCrosses : Trace → «V» → «V» → Bool
+segmentCrosses t a b = touches (spanning a b) (t .bounds) && anySegment (pairCross (spanning a b) a b) (t .points)
+
+-- some segment of one crosses one of the other
+unfoldable pub crosses : Trace → Trace → Bool
+crosses s t = touches (s .bounds) (t .bounds) && anySegment (segmentCrosses t) (s .points)
+
+-- whether p holds of some point
+unfoldable pub anyPoint : («V» → Bool) → List «V» → Bool
+anyPoint p [] = false
+anyPoint p (a ∷ l) = p a || anyPoint p l
+
+abbrev pub pointNear : «V» → Float → «V» → Bool
+pointNear o reach p = lt (dist p o) reach
+
+-- some point is nearer to o than `reach`
+unfoldable pub near : Trace → «V» → Float → Bool
+near t o reach = anyPoint (pointNear o reach) (t .points)
