@@ -184,3 +184,11 @@ module _ (from to : «V») (r b : Rect) (t : Bool) (e : b ≡ spanning from to) 
 pub edge-on : (p q : Float) (c : Clip) → c .ok ≡ true → step p q c ≡ edge p q c
 unfolding edge
 edge-on p q c e = sym (ap (λ (t : Bool). cond t (step p q c) c) e)
+
+pub step-enters : (p q : Float) (c : Clip) → eq p f0 ≡ false → lt p f0 ≡ true → settled (max (c .enter) (q ⊘ p)) (c .leave) ≡ step p q c
+unfolding step
+step-enters p q c z b = rw (z, b)
+
+pub step-leaves : (p q : Float) (c : Clip) → eq p f0 ≡ false → lt p f0 ≡ false → settled (c .enter) (min (c .leave) (q ⊘ p)) ≡ step p q c
+unfolding step
+step-leaves p q c z b = rw (z, b)

@@ -1,5 +1,7 @@
 -- `shape::step` meets its contract.
-use Rattle.shape.specs.Steps.{step}
+use mathlib.Core.Path.{_∙_, ap}
+use lib.Ieee.{Float}
+use Rattle.shape.specs.Steps.{settled, step, step-enters, step-leaves}
 use borrow.Author.Needs.{needs}
 use Rattle.shape.proofs.step.Statement.{statement}
 use Rattle.shape.proofs.step.Tie as tie
@@ -19,8 +21,9 @@ settled-requires : tie.Need-settled-requires
 settled-requires c κs = search needs
 
 returns-3 : tie.Need-returns-3
-unfolding step
-returns-3 c = rw (c .before .before .before .if1 .left, c .before .before .if3 .taken, ← (c .before .max .ensures), ← (c .settled .ensures))
+returns-3 c =
+    let a = c .before .before .before .before .args in
+    c .settled .ensures ∙ ap (λ (m : Float). settled m (a .c .leave)) (c .before .max .ensures) ∙ step-enters (a .towards) (a .room) (a .c) (c .before .before .before .if1 .left) (c .before .before .if3 .taken)
 
 min-requires : tie.Need-min-requires
 min-requires c κs = search needs
@@ -29,8 +32,9 @@ settled-requires-2 : tie.Need-settled-requires-2
 settled-requires-2 c κs = search needs
 
 returns-4 : tie.Need-returns-4
-unfolding step
-returns-4 c = rw (c .before .before .before .if1 .left, c .before .before .if3 .left, ← (c .before .min .ensures), ← (c .settled2 .ensures))
+returns-4 c =
+    let a = c .before .before .before .before .args in
+    c .settled2 .ensures ∙ ap (settled (a .c .enter)) (c .before .min .ensures) ∙ step-leaves (a .towards) (a .room) (a .c) (c .before .before .before .if1 .left) (c .before .before .if3 .left)
 
 pub step-spec : {M : Type 1} → statement M
 step-spec =

@@ -1,11 +1,12 @@
 -- `shape::Rect::overlaps` meets its contract.
 use Rattle.shape.specs.Plane.{overlaps}
+use Rattle.shape.proofs.Laws.{last-of-four}
 use Rattle.shape.proofs.Rect.overlaps.Statement.{statement}
 use Rattle.shape.proofs.Rect.overlaps.Tie as tie
 
 returns : tie.Need-returns
 unfolding overlaps
-returns c = rw (c .before .before .before .before .before .before .before .before .if1 .taken, c .before .before .before .before .before .if2 .taken, c .before .before .if3 .taken)
+returns c = last-of-four _ (c .before .before .before .before .before .before .before .before .if1 .taken) (c .before .before .before .before .before .if2 .taken) (c .before .before .if3 .taken)
 
 returns-2 : tie.Need-returns-2
 unfolding overlaps
