@@ -167,7 +167,7 @@ cubic-sample c k e = rw e
 -- the bounds with one point more
 pub bounds-more : (f : ℕ → «V») (k : ℕ) → extended (boundsOf (table f 0 k)) (f k) ≡ boundsOf (table f 0 (k + 1))
 unfolding boundsOf over
-bounds-more f k = sym (over-join extended (f k) noBounds (table f 0 k) (f k ∷ [])) ∙ ap boundsOf (table-more f k)
+bounds-more f k = sym (over-join extended noBounds (table f 0 k) (f k ∷ [])) ∙ ap boundsOf (table-more f k)
 
 -- the points in the part after the header, then the header
 pub trace-written : (l pts rest : List Float) (owner n : ℕ) (c : Curve) (b : Rect) → owner ≤ 65536 → 6 ≤ length l → rest ≡ [] → n ≡ samplesIn c
