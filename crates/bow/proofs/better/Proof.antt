@@ -1,0 +1,15 @@
+-- `bow::better` meets its contract.
+use Rattle.bow.specs.Clear.{better}
+use Rattle.bow.proofs.better.Statement.{statement}
+use Rattle.bow.proofs.better.Tie as tie
+
+returns : tie.Need-returns
+unfolding better
+returns c = rw (c .if1 .taken)
+
+returns-2 : tie.Need-returns-2
+unfolding better
+returns-2 c = rw (c .if1 .left)
+
+pub better-spec : {M : Type 1} → statement M
+better-spec = tie.close (tie.spec returns returns-2)

@@ -1,0 +1,62 @@
+-- The clearance of an arc from the states that are not its ends, and which of some bows is taken by it. The search for a free bow looks at each
+-- state only straight across the chord, so arcs are checked again at 15 points.
+use mathlib.Core.Bool.{Bool, cond}
+use mathlib.Core.List.{List, [], _∷_}
+use Prim.Native.Nat.{ℕ}
+use lib.ListN.{getD}
+use lib.Ieee.{Float, nan}
+use Rattle.laws.specs.Loops.{up, over}
+use Rattle.float.specs.Ops.{_⊖_, _⊗_, _⊘_, lt, le, neg, count}
+use Rattle.float.specs.Constants.{f2, f10, f16, f22, f0-5, infinity}
+use Rattle.float.specs.Standins.{min}
+use Rattle.shape.specs.declared.«V».{«V»}
+use Rattle.shape.specs.declared.Curve.{Curve}
+use Rattle.shape.specs.declared.Curve.the-variants.{Quad}
+use Rattle.shape.specs.Plane.{add, div, mul, left, dist}
+use Rattle.shape.specs.Curves.{at}
+use Rattle.free.specs.declared.Chord.{Chord}
+use Rattle.free.specs.Centres.{isEnd, others}
+use Rattle.bow.specs.declared.Best.{Best}
+
+-- the control point of the arc with bow h: h to the left of the chord's middle
+abbrev pub control : Chord → Float → «V»
+control c h = add (div (add (c .a) (c .b)) f2) (mul (left (c .along)) h)
+
+-- from centre to centre
+abbrev pub arc : Chord → Float → Curve
+arc c h = Quad (c .a) (control c h) (c .b)
+
+-- the room between a point and the rim of a state, of radius 22, or m where that is less
+abbrev pub nearer : «V» → Float → «V» → Float
+nearer p m o = min m (dist p o ⊖ f22)
+
+-- the same over these states, in order
+unfoldable pub nearest : List «V» → «V» → Float → Float
+nearest os p m = over (nearer p) m os
+
+-- the least room at the points 1/16 .. 15/16 along a curve
+abbrev pub sampled : List «V» → Curve → ℕ → Float → Float
+sampled os r k m = nearest os (at r (count k ⊘ f16)) m
+
+unfoldable pub clearance : Chord → List «V» → Float → Float
+clearance c ps h = up (sampled (others c ps) (arc c h)) 1 16 infinity
+
+-- one state's turn in the code
+abbrev pub beside : Chord → ℕ → «V» → «V» → Float → Float
+beside c k o p m = cond (isEnd c k) m (nearer p m o)
+
+-- ---- the choice
+
+abbrev pub best : Float → Float → Best
+best m h = record { clearance = m; bow = h }
+
+unfoldable pub better : Best → Float → Float → Best
+better b m h = cond (lt (b .clearance) m) (best m h) b
+
+-- the first bow that keeps half the clearance 10, else the first of those that keep most
+unfoldable pub choose : (Float → Float) → Best → List Float → Float
+choose keeps b [] = b .bow
+choose keeps b (h ∷ hs) = let rest = choose keeps (better b (keeps h) h) hs in cond (le (f10 ⊗ f0-5) (keeps h)) h rest
+
+unfoldable pub verified : (Float → Float) → List Float → Float
+verified keeps hs = choose keeps (best (neg infinity) (getD hs 0 nan)) hs

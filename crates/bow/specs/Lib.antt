@@ -1,0 +1,4 @@
+pub mod Clear
+pub mod Turns
+pub mod Bend
+pub mod Between
