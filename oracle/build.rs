@@ -71,20 +71,23 @@ fn main() {
     }
 }
 
-/// Links the port, where `MURSHOGI_LIB` names its archive; what compares the two is built only then.
+/// Links the port's archives that `MURSHOGI_LIB` names, with a colon between two. What compares the
+/// calls is built with libmurshogi.a, what times a function below them with libprobes.a.
 fn link_port() {
     println!("cargo:rerun-if-env-changed=MURSHOGI_LIB");
-    println!("cargo:rustc-check-cfg=cfg(port)");
-    let Ok(archive) = env::var("MURSHOGI_LIB") else {
+    println!("cargo:rustc-check-cfg=cfg(port, values(\"murshogi\", \"probes\"))");
+    let Ok(archives) = env::var("MURSHOGI_LIB") else {
         return;
     };
-    let archive = fs::canonicalize(&archive).unwrap_or_else(|e| panic!("{archive}: {e}"));
-    let name = archive.file_stem().unwrap().to_str().unwrap();
-    println!("cargo:rerun-if-changed={}", archive.display());
-    println!("cargo:rustc-link-search=native={}", archive.parent().unwrap().display());
-    println!("cargo:rustc-link-lib=static={}", name.strip_prefix("lib").unwrap());
+    for archive in archives.split(':') {
+        let archive = fs::canonicalize(archive).unwrap_or_else(|e| panic!("{archive}: {e}"));
+        let name = archive.file_stem().unwrap().to_str().unwrap().strip_prefix("lib").unwrap();
+        println!("cargo:rerun-if-changed={}", archive.display());
+        println!("cargo:rustc-link-search=native={}", archive.parent().unwrap().display());
+        println!("cargo:rustc-link-lib=static={name}");
+        println!("cargo:rustc-cfg=port=\"{name}\"");
+    }
     println!("cargo:rustc-link-lib=m");
-    println!("cargo:rustc-cfg=port");
 }
 
 /// The item whose first line begins with `start`, with the comments and attributes above it.

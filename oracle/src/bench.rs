@@ -6,7 +6,7 @@ use std::time::Instant;
 use crate::random::Random;
 use crate::standin;
 
-#[cfg(port)]
+#[cfg(port = "probes")]
 unsafe extern "C" {
     safe fn murshogi_root(v: f64) -> f64;
 }
@@ -46,11 +46,11 @@ pub fn root() {
     row("nothing", &|v| v);
     row("hardware", &f64::sqrt);
     row("whole numbers, bit by bit", &standin::whole_root);
-    #[cfg(port)]
+    #[cfg(port = "probes")]
     row("port", &|v| murshogi_root(v));
-    #[cfg(not(port))]
-    println!("port                       not linked: MURSHOGI_LIB names no archive");
-    #[cfg(port)]
+    #[cfg(not(port = "probes"))]
+    println!("port                       not linked: MURSHOGI_LIB does not name libprobes.a");
+    #[cfg(port = "probes")]
     for v in squares.iter().chain(&whole).chain(&any) {
         assert!(murshogi_root(*v).to_bits() == standin::root(*v).to_bits(), "{v:e}");
     }

@@ -1,5 +1,6 @@
 //! Sheets and centres made at random, the same at every run.
 
+use crate::layout::{LayoutKind, layout};
 use crate::random::Random;
 use crate::sheet::{Arrow, Line, Sheet};
 
@@ -104,4 +105,60 @@ pub fn shuffled(rng: &mut Random, sheet: &Sheet) -> Vec<u8> {
 pub fn ordered(sheet: &Sheet) -> Vec<u8> {
     let order: Vec<usize> = (1..=sheet.records()).collect();
     sheet.bytes(&order)
+}
+
+/// Centres for a sheet: on a grid, spread, as laid out, close together, far apart, in a row, missing
+/// or not finite, beyond the limit, or such that a two-way pair finds no near bow.
+pub fn centres(rng: &mut Random, sheet: &Sheet) -> (Vec<f64>, Vec<f64>) {
+    let n = sheet.states.len();
+    let way = rng.below(14);
+    if way < 3 {
+        let kind = rng.pick(&[LayoutKind::Auto, LayoutKind::Layered, LayoutKind::Circular]);
+        let l = layout(&sheet.graph(), kind);
+        return (l.x, l.y);
+    }
+    let mut coordinate = |i: usize| match way {
+        3 | 4 => rng.below(7) as f64 * 70.0,
+        5 => rng.between(0.0, 800.0),
+        6 => rng.between(0.0, 60.0),
+        7 => rng.pick(&[0.0, -0.0, 100.0]),
+        8 => rng.pick(&[1_048_576.0, -1_048_576.0, 0.0, 5e5, -3.25]),
+        9 => i as f64 * 47.0,
+        10 => rng.pick(&[f64::NAN, f64::INFINITY, f64::NEG_INFINITY, 0.0, -0.0, 40.0, 1e-310]),
+        11 => rng.between(-1.0, 1.0) * rng.pick(&[1e-161, 1e-163, 1e-9, 1e-8, 1e-300]),
+        12 => rng.between(-300.0, 300.0).round(),
+        _ => rng.between(-1_048_576.0, 1_048_576.0),
+    };
+    let mut x: Vec<f64> = (0..n).map(&mut coordinate).collect();
+    let mut y: Vec<f64> = (0..n).map(&mut coordinate).collect();
+    if way == 9 {
+        y = vec![0.0; n];
+    }
+    if rng.once_in(12) && n > 0 {
+        x.truncate(rng.below(n));
+    }
+    if rng.once_in(12) {
+        y.extend([1e30, 5.0]);
+    }
+    if rng.once_in(25) && !x.is_empty() {
+        let k = rng.below(x.len());
+        x[k] = rng.pick(&[1_048_576.000_000_000_2, -1e7, 1e300]);
+    }
+    if rng.once_in(12) && n >= 3 && x.len() >= 3 {
+        // A third state beside an end of the pair 0, 1: the least bow past it is large.
+        let near = rng.pick(&[1e-9, 1e-7, 1e-5, 1e-12]);
+        (x[0], x[1], x[2]) = (0.0, 140.0, near);
+        (y[0], y[1], y[2]) = (0.0, 0.0, rng.pick(&[31.0, -31.0, 32.0, 20.0]));
+    }
+    (x, y)
+}
+
+/// A sheet for routing: many two-way pairs, parallel arrows and loops among few states.
+pub fn drawing(rng: &mut Random) -> Sheet {
+    let size = match rng.below(12) {
+        0 => Size { states: rng.below(65), arrows: rng.below(257), lines: 2, characters: 12 },
+        1 | 2 => Size { states: 1 + rng.below(30), arrows: rng.below(60), lines: 8, characters: 30 },
+        _ => Size { states: 1 + rng.below(8), arrows: rng.below(16), lines: 3, characters: 16 },
+    };
+    sheet(rng, size)
 }

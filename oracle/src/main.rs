@@ -2,7 +2,11 @@
 //! its answers. README.md says how each part is run.
 
 mod bench;
+#[cfg_attr(not(port = "murshogi"), allow(dead_code))]
 mod calls;
+#[cfg(port = "murshogi")]
+mod compare;
+#[cfg_attr(not(port = "murshogi"), allow(dead_code))]
 mod generate;
 mod random;
 mod sheet;
@@ -50,9 +54,24 @@ fn main() {
     match words.as_slice() {
         ["vectors", file] => vectors::write(file),
         ["bench", "root"] => bench::root(),
+        ["list", kind] => list(kind.parse().unwrap_or(255)),
+        #[cfg(port = "murshogi")]
+        ["compare", turns, seed] => compare::run(turns.parse().unwrap(), seed.parse().unwrap()),
         _ => {
-            eprintln!("usage: oracle vectors FILE | oracle bench root");
+            eprintln!("usage: oracle vectors FILE | bench root | list KIND < SHEET | compare TURNS SEED");
             std::process::exit(2);
         }
     }
+}
+
+/// The listing of the sheet in standard input.
+fn list(kind: u8) {
+    use std::io::{Read, Write};
+    let mut sheet = Vec::new();
+    std::io::stdin().read_to_end(&mut sheet).unwrap();
+    let text = match calls::list(&sheet, kind, 65_536) {
+        Ok(text) => text,
+        Err(n) => format!("refused {n}\n").into_bytes(),
+    };
+    std::io::stdout().write_all(&text).unwrap();
 }

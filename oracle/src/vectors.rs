@@ -11,6 +11,31 @@ mod texts;
 
 use std::collections::BTreeMap;
 
+#[cfg(port = "murshogi")]
+use crate::random::Random;
+
+#[cfg(port = "murshogi")]
+pub use sheets::damage;
+
+/// A text and the lengths of its lines.
+#[cfg(port = "murshogi")]
+pub fn label_lines(rng: &mut Random) -> (Vec<u8>, Vec<usize>) {
+    let i = rng.below(28);
+    sheets::lines(rng, i)
+}
+
+/// A number to be written.
+#[cfg(port = "murshogi")]
+pub fn number(rng: &mut Random) -> f64 {
+    match rng.below(6) {
+        0 => float::mixed(rng),
+        1 => (rng.below(1_000_000) as f64 + 0.5) / 100.0,
+        2 => rng.between(-1.1e13, 1.1e13),
+        3 => rng.between(-100.0, 100.0),
+        _ => float::ordinary(rng),
+    }
+}
+
 pub mod kind {
     pub const END: u8 = 0;
     pub const ROOT: u8 = 1;
@@ -59,7 +84,7 @@ pub mod kind {
 
 /// Whether the program `vectors` replays cases of this kind.
 fn replayed(kind: u8) -> bool {
-    matches!(kind, 0..=16 | kind::SPOILED)
+    matches!(kind, 0..=18 | 21..=37 | kind::SPOILED)
 }
 
 /// A case's payload as it is put together.

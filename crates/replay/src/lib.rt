@@ -1,6 +1,8 @@
 // Reading the cases that the program `vectors` replays. A case's payload is a slice of bytes; a
 // read past its end gives 0, so a payload that is too short is found by its length, not here.
 
+ghost use Prim.Native.Nat.{_<_};
+
 // The byte at a place.
 pub fn byte(p: &[u8], at: usize) -> u8 {
     if at < p.len() { p[at] } else { 0 }
@@ -23,6 +25,24 @@ pub fn long(p: &[u8], at: usize) -> u64 {
 // The number in the eight bytes from a place on.
 pub fn bits(p: &[u8], at: usize) -> u64 {
     long(p, at) | (long(p, std::num::wrapping_add_usize(at, 4)) << 32)
+}
+
+// The number in the two bytes from a place on, for a place in a slice.
+pub fn place(p: &[u8], at: usize) -> usize
+    ensures { λ r. ⌜ r < 65536 ⌝ }
+{
+    low(byte(p, at)) + 256 * low(byte(p, std::num::wrapping_add_usize(at, 1)))
+}
+
+fn low(b: u8) -> usize
+    ensures { λ r. ⌜ r < 256 ⌝ }
+{
+    b as usize
+}
+
+// The number in the eight bytes from a place on, for a length.
+pub fn size(p: &[u8], at: usize) -> usize {
+    bits(p, at) as usize
 }
 
 // The float that a pattern stands for; every pattern of a NaN is the one NaN.

@@ -5,7 +5,7 @@ pub fn agrees(p: &[u8]) -> bool {
     if p.len() == 0 {
         return false;
     }
-    number(walk::check(&p[1..])) == p[0]
+    number(diagram::check(&p[1..])) == p[0]
 }
 
 fn number(c: Checked) -> u8 {

@@ -59,6 +59,15 @@ fn agrees(kind: u8, p: &[u8]) -> bool {
     if kind == 16 {
         return replay_sheet::agrees(p);
     }
+    if kind == 17 {
+        return replay_label::agrees(p);
+    }
+    if kind == 18 {
+        return replay_text::number_agrees(p);
+    }
+    if kind > 20 {
+        return replay_shape::agrees(kind, p);
+    }
     false
 }
 

@@ -1,4 +1,5 @@
 // What the program prints.
+ghost use Prim.Native.Nat.{_<_};
 use libc::STDOUT_FILENO;
 
 pub fn say(text: &[u8]) {
@@ -9,28 +10,34 @@ pub fn number(n: u64) {
     io::print_decimal(STDOUT_FILENO, n);
 }
 
+// The twenty bytes of a table from a place on; nothing past its end.
+fn entry(table: &[u8], from: usize) {
+    let end = std::num::wrapping_add_usize(from, 20);
+    if from <= end {
+        if end <= table.len() {
+            say(&table[from..end]);
+        }
+    }
+}
+
+fn wide(b: u8) -> usize
+    ensures { λ r. ⌜ r < 256 ⌝ }
+{
+    b as usize
+}
+
 // The name of a kind of case.
 fn name(kind: u8) {
-    match kind {
-        1 => say(b"root"),
-        2 => say(b"hypot"),
-        3 => say(b"midpoint"),
-        4 => say(b"rem_euclid"),
-        5 => say(b"sin"),
-        6 => say(b"cos"),
-        7 => say(b"atan2"),
-        8 => say(b"min"),
-        9 => say(b"max"),
-        10 => say(b"round"),
-        11 => say(b"abs"),
-        12 => say(b"clamp"),
-        13 => say(b"signum"),
-        14 => say(b"copysign"),
-        15 => say(b"total_cmp"),
-        16 => say(b"check"),
-        255 => say(b"spoiled"),
-        _ => say(b"no such kind"),
+    if kind == 255 {
+        return say(b"spoiled             ");
     }
+    if kind > 40 {
+        return say(b"no such kind        ");
+    }
+    entry(
+        b"none                root                hypot               midpoint            rem_euclid          sin                 cos                 atan2               min                 max                 round               abs                 clamp               signum              copysign            total_cmp           check               label block         written number      path                arrowhead           polar               dot                 len                 angle               unit_or             left                dist                overlaps            spanning            grown               touches             dist to a box       at                  tangent             start and end       segment_hits_rect   segments_cross      trace               trace hits_rect     traces cross        ",
+        20 * wide(kind),
+    )
 }
 
 // One line; none where the stream has no such case.

@@ -246,7 +246,7 @@ fn of_kind(rng: &mut Random, bytes: &[u8], kind: u8) -> usize {
     if list.is_empty() { 0 } else { rng.pick(&list) }
 }
 
-fn damage(rng: &mut Random, bytes: &mut [u8]) {
+pub fn damage(rng: &mut Random, bytes: &mut [u8]) {
     let count = bytes.len() / 16 - 1;
     if count == 0 {
         let at = rng.below(16);
@@ -396,34 +396,40 @@ fn label_blocks(out: &mut Stream, rng: &mut Random) {
         add(out, ill, &[ill.len()]);
     }
     for i in 0..500 {
-        let mut bytes = Vec::new();
-        let mut lengths = Vec::new();
-        for _ in 0..rng.below(9) {
-            let n = rng.below(24);
-            let mut line = text(rng, n).into_bytes();
-            if i % 4 == 0 && rng.once_in(5) {
-                line.extend(rng.pick(&ILL));
-            }
-            line.truncate(96);
-            lengths.push(line.len());
-            bytes.extend(line);
-        }
-        if i % 7 == 0 && !lengths.is_empty() {
-            let k = rng.below(lengths.len());
-            match rng.below(4) {
-                0 => lengths[k] += 1,
-                1 => lengths[k] = lengths[k].wrapping_sub(1),
-                2 => lengths.push(1),
-                _ => {
-                    // The same sum, other lines: a character may be cut in two.
-                    let moved = rng.below(lengths[k] + 1);
-                    lengths[k] -= moved;
-                    let j = rng.below(lengths.len());
-                    lengths[j] += moved;
-                }
-            }
-        }
+        let (bytes, lengths) = lines(rng, i);
         add(out, &bytes, &lengths);
     }
     println!("label blocks, by answer: {answers:?}");
+}
+
+/// A text and the lengths of its lines, some of them damaged.
+pub fn lines(rng: &mut Random, i: usize) -> (Vec<u8>, Vec<usize>) {
+    let mut bytes = Vec::new();
+    let mut lengths: Vec<usize> = Vec::new();
+    for _ in 0..rng.below(9) {
+        let n = rng.below(24);
+        let mut line = text(rng, n).into_bytes();
+        if i % 4 == 0 && rng.once_in(5) {
+            line.extend(rng.pick(&ILL));
+        }
+        line.truncate(96);
+        lengths.push(line.len());
+        bytes.extend(line);
+    }
+    if i % 7 == 0 && !lengths.is_empty() {
+        let k = rng.below(lengths.len());
+        match rng.below(4) {
+            0 => lengths[k] += 1,
+            1 => lengths[k] = lengths[k].wrapping_sub(1),
+            2 => lengths.push(1),
+            _ => {
+                // The same sum, other lines: a character may be cut in two.
+                let moved = rng.below(lengths[k] + 1);
+                lengths[k] -= moved;
+                let j = rng.below(lengths.len());
+                lengths[j] += moved;
+            }
+        }
+    }
+    (bytes, lengths)
 }

@@ -4,23 +4,34 @@ use super::float::{any, beside, ordinary};
 use super::shapes::{curve, point};
 use super::{Payload, Stream, kind};
 use crate::random::Random;
+use crate::calls::write_num;
 use crate::route::probe;
 use crate::svg;
 
 pub fn cases(out: &mut Stream) {
     let rng = &mut Random::new(404);
     for (i, v) in numbers(rng).into_iter().enumerate() {
-        let head = Payload::new().float(v);
-        out.case(
-            kind::NUMBER,
-            match probe::number(v) {
-                Ok(text) => head.byte(0).bytes(text.as_bytes()),
-                Err(n) => head.byte(n),
-            },
-        );
-        if i % 200 == 13 {
-            out.spoiled(kind::NUMBER, Payload::new().float(v).byte(0).bytes(b"0.001"));
-            out.spoiled(kind::NUMBER, Payload::new().float(v).byte(7));
+        let length = probe::number(v).map_or(0, |t| t.len());
+        let rooms = match i % 40 {
+            0 => vec![32, 0],
+            1 => vec![length],
+            2 => vec![length.saturating_sub(1)],
+            3 => vec![rng.below(length + 1)],
+            _ => vec![32],
+        };
+        for room in rooms {
+            let head = || Payload::new().float(v).byte(room as u8);
+            out.case(
+                kind::NUMBER,
+                match write_num(v, room) {
+                    Ok(text) => head().byte(0).bytes(&text),
+                    Err(n) => head().byte(n),
+                },
+            );
+            if i % 200 == 13 {
+                out.spoiled(kind::NUMBER, head().byte(0).bytes(b"0.001"));
+                out.spoiled(kind::NUMBER, head().byte(9));
+            }
         }
     }
     for i in 0..250 {

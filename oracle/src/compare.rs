@@ -1,0 +1,244 @@
+//! The port's seven calls against the oracle's, through C: answers, every number and byte of each
+//! lent slice, and what must stay as it was.
+
+use std::collections::BTreeMap;
+
+use crate::calls;
+use crate::generate::{centres, drawing, shuffled};
+use crate::random::Random;
+use crate::sheet::label_block;
+use crate::vectors::damage;
+
+unsafe extern "C" {
+    fn murshogi_check(sheet: *const u8, sheet_len: usize) -> u8;
+    fn murshogi_label_size(
+        text: *const u8, text_len: usize, lengths: *const usize, lines: usize, size: *mut f64,
+    ) -> u8;
+    fn murshogi_layout(
+        sheet: *const u8, sheet_len: usize, kind: u8, x: *mut f64, x_len: usize, y: *mut f64,
+        y_len: usize, size: *mut f64, states: *mut usize,
+    ) -> u8;
+    fn murshogi_route(
+        sheet: *const u8, sheet_len: usize, x: *const f64, x_len: usize, y: *const f64,
+        y_len: usize, records: *mut f64, records_len: usize, text: *mut u8, text_len: usize,
+        lengths: *mut usize,
+    ) -> u8;
+    fn murshogi_clutter(
+        sheet: *const u8, sheet_len: usize, x: *const f64, x_len: usize, y: *const f64,
+        y_len: usize, count: *mut usize,
+    ) -> u8;
+    fn murshogi_write_num(v: f64, out: *mut u8, out_len: usize, length: *mut usize) -> u8;
+    fn murshogi_list(
+        sheet: *const u8, sheet_len: usize, kind: u8, out: *mut u8, out_len: usize,
+        length: *mut usize,
+    ) -> u8;
+}
+
+/// What a lent f64, byte or number holds before a call.
+const BEFORE: f64 = -7777.125;
+const BYTE: u8 = 170;
+const NUMBER: usize = 987_654_321;
+
+/// Bit for bit, but zeros of either sign are equal; NaN is NaN.
+fn same(a: f64, b: f64) -> bool {
+    a.to_bits() == b.to_bits() || a == b || (a.is_nan() && b.is_nan())
+}
+
+/// The lent numbers hold the wanted ones and after them what they held before.
+fn holds(lent: &[f64], wanted: &[f64]) -> bool {
+    lent.len() >= wanted.len()
+        && lent.iter().enumerate().all(|(i, &v)| same(v, wanted.get(i).copied().unwrap_or(BEFORE)))
+}
+
+fn holds_bytes(lent: &[u8], wanted: &[u8]) -> bool {
+    lent.len() >= wanted.len()
+        && lent.iter().enumerate().all(|(i, &b)| b == wanted.get(i).copied().unwrap_or(BYTE))
+}
+
+struct Runs {
+    counts: BTreeMap<(&'static str, u8), usize>,
+    differ: usize,
+}
+
+impl Runs {
+    /// Counts an answer; where the two differ, keeps the sheet and the centres in files.
+    fn note(&mut self, call: &'static str, answer: u8, ok: bool, sheet: &[u8], xs: &[f64], ys: &[f64]) {
+        *self.counts.entry((call, answer)).or_default() += 1;
+        if ok {
+            return;
+        }
+        self.differ += 1;
+        let name = format!("differs-{}-{call}", self.differ);
+        if self.differ <= 20 {
+            std::fs::write(format!("{name}.sheet"), sheet).unwrap();
+            std::fs::write(format!("{name}.centres"), format!("{xs:?}\n{ys:?}\n")).unwrap();
+        }
+        println!("{name}: the oracle says {answer}");
+    }
+}
+
+/// The room for an answer of n: plenty, just enough, one too few, or none.
+fn room(rng: &mut Random, n: usize) -> usize {
+    match rng.below(8) {
+        0 => n,
+        1 => n.saturating_sub(1),
+        2 => rng.below(n + 1),
+        3 => 0,
+        _ => n + 1 + rng.below(50),
+    }
+}
+
+pub fn run(turns: usize, seed: u64) {
+    let rng = &mut Random::new(seed);
+    let mut runs = Runs {
+        counts: BTreeMap::new(),
+        differ: 0,
+    };
+    for _ in 0..turns {
+        let drawing = drawing(rng);
+        let mut sheet = shuffled(rng, &drawing);
+        let (xs, ys) = centres(rng, &drawing);
+        if rng.once_in(5) {
+            damage(rng, &mut sheet);
+        }
+        checked(&mut runs, &sheet);
+        placed(&mut runs, rng, &sheet);
+        routed(&mut runs, rng, &sheet, &xs, &ys);
+        cluttered(&mut runs, &sheet, &xs, &ys);
+        listed(&mut runs, rng, &sheet);
+        numbered(&mut runs, rng);
+        measured(&mut runs, rng);
+    }
+    for ((call, answer), count) in &runs.counts {
+        println!("{call:<12} answer {answer:>2}: {count}");
+    }
+    let all: usize = runs.counts.values().sum();
+    println!("{all} calls, {} differ", runs.differ);
+    if runs.differ > 0 {
+        std::process::exit(1);
+    }
+}
+
+fn checked(runs: &mut Runs, sheet: &[u8]) {
+    let wanted = calls::check(sheet).err().unwrap_or(0);
+    let got = unsafe { murshogi_check(sheet.as_ptr(), sheet.len()) };
+    runs.note("check", wanted, got == wanted, sheet, &[], &[]);
+}
+
+fn placed(runs: &mut Runs, rng: &mut Random, sheet: &[u8]) {
+    let kind = if rng.once_in(12) { rng.pick(&[3, 4, 255]) } else { rng.below(3) as u8 };
+    let n = calls::layout(sheet, kind, usize::MAX, usize::MAX).map_or(3, |l| l.x.len());
+    let (mut x, mut y) = (vec![BEFORE; room(rng, n)], vec![BEFORE; room(rng, n)]);
+    let wanted = calls::layout(sheet, kind, x.len(), y.len());
+    let (mut size, mut states) = ([BEFORE; 2], NUMBER);
+    let got = unsafe {
+        murshogi_layout(
+            sheet.as_ptr(), sheet.len(), kind, x.as_mut_ptr(), x.len(), y.as_mut_ptr(), y.len(),
+            size.as_mut_ptr(), &mut states,
+        )
+    };
+    let answer = wanted.as_ref().err().copied().unwrap_or(0);
+    let ok = got == answer
+        && match wanted {
+            Ok(l) => {
+                holds(&x, &l.x)
+                    && holds(&y, &l.y)
+                    && holds(&size, &[l.width, l.height])
+                    && states == l.x.len()
+            }
+            Err(_) => holds(&x, &[]) && holds(&y, &[]) && holds(&size, &[]) && states == NUMBER,
+        };
+    runs.note("layout", answer, ok, sheet, &[f64::from(kind)], &[]);
+}
+
+fn routed(runs: &mut Runs, rng: &mut Random, sheet: &[u8], xs: &[f64], ys: &[f64]) {
+    let (n, m) = calls::route(sheet, xs, ys, (usize::MAX, usize::MAX))
+        .map_or((20, 20), |r| (r.records.len(), r.text.len()));
+    let mut records = vec![BEFORE; room(rng, n)];
+    let mut text = vec![BYTE; room(rng, m)];
+    let wanted = calls::route(sheet, xs, ys, (records.len(), text.len()));
+    let mut lengths = [NUMBER; 2];
+    let got = unsafe {
+        murshogi_route(
+            sheet.as_ptr(), sheet.len(), xs.as_ptr(), xs.len(), ys.as_ptr(), ys.len(),
+            records.as_mut_ptr(), records.len(), text.as_mut_ptr(), text.len(),
+            lengths.as_mut_ptr(),
+        )
+    };
+    let answer = wanted.as_ref().err().copied().unwrap_or(0);
+    let ok = got == answer
+        && match wanted {
+            Ok(r) => {
+                holds(&records, &r.records)
+                    && holds_bytes(&text, &r.text)
+                    && lengths == [r.records.len(), r.text.len()]
+            }
+            Err(_) => holds(&records, &[]) && holds_bytes(&text, &[]) && lengths == [NUMBER; 2],
+        };
+    runs.note("route", answer, ok, sheet, xs, ys);
+}
+
+fn cluttered(runs: &mut Runs, sheet: &[u8], xs: &[f64], ys: &[f64]) {
+    let wanted = calls::clutter(sheet, xs, ys);
+    let mut count = NUMBER;
+    let got = unsafe {
+        murshogi_clutter(
+            sheet.as_ptr(), sheet.len(), xs.as_ptr(), xs.len(), ys.as_ptr(), ys.len(), &mut count,
+        )
+    };
+    let answer = wanted.err().unwrap_or(0);
+    let ok = got == answer && count == wanted.unwrap_or(NUMBER);
+    runs.note("clutter", answer, ok, sheet, xs, ys);
+}
+
+fn listed(runs: &mut Runs, rng: &mut Random, sheet: &[u8]) {
+    let kind = if rng.once_in(12) { rng.pick(&[3, 200]) } else { rng.below(3) as u8 };
+    let n = calls::list(sheet, kind, usize::MAX).map_or(20, |t| t.len());
+    let mut out = vec![BYTE; room(rng, n)];
+    let wanted = calls::list(sheet, kind, out.len());
+    let mut length = NUMBER;
+    let got = unsafe {
+        murshogi_list(sheet.as_ptr(), sheet.len(), kind, out.as_mut_ptr(), out.len(), &mut length)
+    };
+    let answer = wanted.as_ref().err().copied().unwrap_or(0);
+    let ok = got == answer
+        && match wanted {
+            Ok(t) => holds_bytes(&out, &t) && length == t.len(),
+            Err(_) => holds_bytes(&out, &[]) && length == NUMBER,
+        };
+    runs.note("list", answer, ok, sheet, &[f64::from(kind)], &[]);
+}
+
+fn numbered(runs: &mut Runs, rng: &mut Random) {
+    let v = crate::vectors::number(rng);
+    let n = calls::write_num(v, usize::MAX).map_or(3, |t| t.len());
+    let mut out = vec![BYTE; room(rng, n)];
+    let wanted = calls::write_num(v, out.len());
+    let mut length = NUMBER;
+    let got = unsafe { murshogi_write_num(v, out.as_mut_ptr(), out.len(), &mut length) };
+    let answer = wanted.as_ref().err().copied().unwrap_or(0);
+    let ok = got == answer
+        && match wanted {
+            Ok(t) => holds_bytes(&out, &t) && length == t.len(),
+            Err(_) => holds_bytes(&out, &[]) && length == NUMBER,
+        };
+    runs.note("write_num", answer, ok, &[], &[v], &[]);
+}
+
+fn measured(runs: &mut Runs, rng: &mut Random) {
+    let (text, lengths) = crate::vectors::label_lines(rng);
+    let wanted = label_block(&text, &lengths);
+    let mut size = [BEFORE; 2];
+    let got = unsafe {
+        murshogi_label_size(
+            text.as_ptr(), text.len(), lengths.as_ptr(), lengths.len(), size.as_mut_ptr(),
+        )
+    };
+    let answer = wanted.err().unwrap_or(0);
+    let ok = got == answer
+        && match wanted {
+            Ok((w, h)) => holds(&size, &[w, h]),
+            Err(_) => holds(&size, &[]),
+        };
+    runs.note("label_size", answer, ok, &text, &[], &[]);
+}
