@@ -1,5 +1,5 @@
 -- The constants by their bits, as the code has them, and the list that reads each as the f64 nearest to a fraction. A name gives the decimal: f0-36 is 0.36.
--- What the Rust names is in the comment.
+-- f2e20, f2e52 and f2e64 are powers of two. What the Rust names is in the comment; `infinity` is read by `infinity-is`.
 use mathlib.Core.Path.{_≡_, refl}
 use mathlib.Core.Bool.{false}
 use mathlib.Core.List.{List, [], _∷_}
@@ -58,6 +58,9 @@ f24 = ofBits binary64 0x4038000000000000
 abbrev pub f25 : Float
 f25 = ofBits binary64 0x4039000000000000
 
+abbrev pub f26 : Float
+f26 = ofBits binary64 0x403a000000000000
+
 -- START_ARROW_LENGTH
 abbrev pub f28 : Float
 f28 = ofBits binary64 0x403c000000000000
@@ -93,6 +96,9 @@ f150 = ofBits binary64 0x4062c00000000000
 abbrev pub f160 : Float
 f160 = ofBits binary64 0x4064000000000000
 
+abbrev pub f676 : Float
+f676 = ofBits binary64 0x4085200000000000
+
 -- NEARLY
 abbrev pub f0-2 : Float
 f0-2 = ofBits binary64 0x3fc999999999999a
@@ -125,6 +131,7 @@ f0-28 = ofBits binary64 0x3fd1eb851eb851ec
 abbrev pub f0-36 : Float
 f0-36 = ofBits binary64 0x3fd70a3d70a3d70a
 
+-- SPREAD
 abbrev pub f0-38 : Float
 f0-38 = ofBits binary64 0x3fd851eb851eb852
 
@@ -215,6 +222,7 @@ readings =
     ∷ (f22, whole 22)
     ∷ (f24, whole 24)
     ∷ (f25, whole 25)
+    ∷ (f26, whole 26)
     ∷ (f28, whole 28)
     ∷ (f40, whole 40)
     ∷ (f48, whole 48)
@@ -225,6 +233,7 @@ readings =
     ∷ (f140, whole 140)
     ∷ (f150, whole 150)
     ∷ (f160, whole 160)
+    ∷ (f676, whole 676)
     ∷ (f0-2, tenths 2)
     ∷ (f0-3, tenths 3)
     ∷ (f0-5, tenths 5)
@@ -260,7 +269,7 @@ Same (p ∷ l) = (p .0 ≡ p .1) × Same l
 
 pub as-read : Same readings
 unfolding Same ofBits round
-as-read = (refl, (refl, (refl, (refl, (refl, (refl, (refl, (refl, (refl, (refl, (refl, (refl, (refl, (refl, (refl, (refl, (refl, (refl, (refl, (refl, (refl, (refl, (refl, (refl, (refl, (refl, (refl, (refl, (refl, (refl, (refl, (refl, (refl, (refl, (refl, (refl, (refl, (refl, (refl, (refl, (refl, (refl, (refl, (refl, (refl, (refl, (refl, (refl, (refl, (refl, (refl, tt)))))))))))))))))))))))))))))))))))))))))))))))))))
+as-read = (refl, (refl, (refl, (refl, (refl, (refl, (refl, (refl, (refl, (refl, (refl, (refl, (refl, (refl, (refl, (refl, (refl, (refl, (refl, (refl, (refl, (refl, (refl, (refl, (refl, (refl, (refl, (refl, (refl, (refl, (refl, (refl, (refl, (refl, (refl, (refl, (refl, (refl, (refl, (refl, (refl, (refl, (refl, (refl, (refl, (refl, (refl, (refl, (refl, (refl, (refl, (refl, (refl, tt)))))))))))))))))))))))))))))))))))))))))))))))))))))
 
 pub infinity-is : infinity ≡ inf false
 unfolding ofBits

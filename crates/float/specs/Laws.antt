@@ -5,8 +5,8 @@ use mathlib.Core.Bool.{Bool, true, false, not, cond}
 use Prim.Native.Nat.{ℕ, zero, suc, _+_, _-_, _*_, _/_, _%_, _^_, _≤_, _<_}
 use native.Mathlib.Nat.{mul-pos, zero-mul}
 use native.Mathlib.Omega.{arith}
-use borrow.Author.Tests.{ne-eqb, le-ltb}
-use lib.Dec.{T}
+use borrow.Author.Tests.{ne-eqb, le-ltb, ltb-false}
+use lib.Dec.{T, ltb}
 use lib.IntN.{ℤ}
 use lib.Ieee.{Float, nan, inf, fin, up, down, binary64, isNan, toBits, ofBits}
 use lib.Ieee as Ieee
@@ -78,9 +78,21 @@ not-below nan s = refl
 not-below (inf t) s = s
 not-below (fin t m e) s = rw (s, zero-mul (down e)) (le-ltb (m * up e * 1) 0 (omega arith))
 
+is-zero : (x : Float) → negative x ≡ false → ne x x ≡ false → lt f0 x ≡ false → eq x f0 ≡ true
+unfolding Ieee.lt Ieee.eq Ieee.ne ofBits
+is-zero nan s n l = absurd (subst T n tt)
+is-zero (inf t) s n l = absurd (subst T l (rw s tt))
+is-zero (fin t m e) s n l =
+    let k : ltb (0 * down e) (m * up e * 1) ≡ false = subst (λ (b : Bool). Ieee.below false (0 * down e) b (m * up e * 1) ≡ false) s l in
+    let w : m * up e * 1 ≡ 0 = omega (arith, ltb-false (0 * down e) (m * up e * 1) k) in
+    rw (s, w, zero-mul (down e))
+
 quarter-zero : (x : Float) → negative x ≡ false → ne x x ≡ false → quarter f0 x ≡ f0
 unfolding quarter
-quarter-zero x s n = rw (not-below x s, zero-share x s n) arc-zero
+quarter-zero x s n =
+    by-bool (lt f0 x)
+    (λ t. rw (min-second x f0 t, max-first x f0 n (not-below x s), not-below x s, zero-share x s n) arc-zero)
+    (λ t. rw (min-first x f0 n t, max-first x f0 n (not-below x s), not-below x s, is-zero x s n t) arc-zero)
 
 pub atan2-zero : (x : Float) → ne x x ≡ false → atan2 f0 x ≡ cond (negative x) π f0
 unfolding atan2 ofBits Ieee.sub Ieee.add Ieee.neg Ieee.sum Ieee.round

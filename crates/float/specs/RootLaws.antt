@@ -1,4 +1,4 @@
--- `root` is a root by the laws of crate `root`: it rises, it passes `min` and `max`, and a bound on it is a bound on its argument. Assumes nothing.
+-- `root` is a root by the laws of crate `root`: it rises, it passes `min` and `max`, and below 26 is below 676 under it. Assumes nothing.
 use mathlib.Core.Path.{_≡_, refl, sym, ap, _∙_}
 use mathlib.Core.Bool.{Bool, true, false, cond, not}
 use Prim.Native.Nat.{ℕ, _+_, _*_, _%_, _^_, _≤_, _<_}
@@ -8,9 +8,10 @@ use borrow.Author.Tests.{eqb-true, eqb-false, le-ltb, le-leb, lt-leb, ne-eqb}
 use lib.Ieee.{Float, binary64, isNan, nanBits, ofBits, toBits}
 use lib.Ieee.Bits.{toBits-ofBits, nanBits-is, nanBits-above}
 use Rattle.root.specs.Root.{rootBits}
-use Rattle.root.specs.Plain.{rootPlain, IsRoot, Plain, plain-itself, squares-plain, root-plain, root-min, root-max, root-lt-first}
+use Rattle.root.specs.Plain.{rootPlain, IsRoot, Plain, plain-itself, squares-plain, root-plain, root-le, root-min, root-max, root-lt-first}
 use Rattle.root.specs.Worked.{first-26}
-use Rattle.float.specs.Ops.{_⊕_, _⊗_, lt}
+use Rattle.float.specs.Constants.{f26, f676}
+use Rattle.float.specs.Ops.{_⊕_, _⊗_, lt, le}
 use Rattle.float.specs.Standins.{rootOf, root, min, max, hypot}
 
 not-nan : (b : ℕ) → b ≤ 2047 * 2 ^ 52 → isNan (ofBits binary64 b) ≡ false
@@ -41,6 +42,10 @@ root-is = record { at = at }
         let t : toBits binary64 (ofBits binary64 b) ≡ b = toBits-ofBits binary64 b (omega arith) (rw n tt) in
         rw (n, t) (by-bits (ofBits binary64 b) b h refl)
 
+-- the root rises
+pub root-rises : (x y : Float) → Plain x → Plain y → le x y ≡ true → le (root x) (root y) ≡ true
+root-rises x y p q h = root-le root root-is x y p q h
+
 -- the lesser of two roots is the root of the lesser, and so the greater
 pub min-roots : (x y : Float) → Plain x → Plain y → min (root x) (root y) ≡ root (min x y)
 min-roots x y p q = rw (plain-itself x p, plain-itself (root x) (root-plain root root-is x p)) (root-min root root-is x y p q)
@@ -49,5 +54,5 @@ pub max-roots : (x y : Float) → Plain x → Plain y → max (root x) (root y) 
 max-roots x y p q = rw (plain-itself x p, plain-itself (root x) (root-plain root root-is x p)) (root-max root root-is x y p q)
 
 -- a hypotenuse below 26 is a sum of squares below 676
-pub hypot-below-26 : (a b : Float) → isNan a ≡ false → isNan b ≡ false → lt (hypot a b) (ofBits binary64 0x403a000000000000) ≡ lt (a ⊗ a ⊕ b ⊗ b) (ofBits binary64 0x4085200000000000)
+pub hypot-below-26 : (a b : Float) → isNan a ≡ false → isNan b ≡ false → lt (hypot a b) f26 ≡ lt (a ⊗ a ⊕ b ⊗ b) f676
 hypot-below-26 a b h k = root-lt-first root root-is 0x4085200000000000 0x403a000000000000 (a ⊗ a ⊕ b ⊗ b) (squares-plain a b h k) first-26

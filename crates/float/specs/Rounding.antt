@@ -188,6 +188,6 @@ round-itself nan b h e l = refl
 round-itself (inf s) b h e l = refl
 round-itself (fin s m x) b h e l = unfold round in (round-large s m x h (omega arith))
 
--- at most 2 ^ 52 below 2 ^ 52
+-- the size rounded is at most 2 ^ 53
 pub half-small : (s j : ℕ) → s < 2 ^ 53 → (s / 2 ^ j + 1) / 2 ≤ 2 ^ 53
 half-small s j h = omega (arith, shr-le s j)

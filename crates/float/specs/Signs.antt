@@ -34,7 +34,7 @@ nan-test (fin s m x) = rw (level-self s (m * up x * down x))
 pub no-nan : (v : Float) → ne v v ≡ false → T (not (isNan v))
 no-nan v e = rw (is-num v e) tt
 
--- the bits of a finite number or of plus infinity are no NaN's
+-- the bits of a finite number with the sign clear are no NaN's
 pub no-nan-bits : (n : ℕ) → n < 2047 * 2 ^ 52 → T (not (Ieee.nanBits binary64 n))
 no-nan-bits n h = rw (nanBits-above binary64 n, le-ltb (2047 * 2 ^ 52) (n % 2 ^ 63) (omega arith)) tt
 

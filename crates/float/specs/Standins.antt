@@ -133,13 +133,13 @@ arcSeries z = countdown (arcTerm z) 12 (f1 ⊘ f25)
 unfoldable pub arc : Float → Float
 arc w = let u = halved (halved w) in f4 ⊗ (u ⊗ arcSeries (u ⊗ u))
 
--- "a the larger, b the smaller of |x|, |y|; u = b/a, or 0 where a = 0"
+-- "u = b/a, or 0 where a = 0"
 abbrev pub share : Float → Float → Float
 share b a = cond (eq a f0) f0 (b ⊘ a)
 
--- the angle of the upper right quarter, of sizes y and x: "Where |y| > |x| it becomes PI/2 minus it"
+-- the angle of the upper right quarter, of sizes y and x: "a the larger, b the smaller of |x|, |y|", "Where |y| > |x| it becomes PI/2 minus it"
 unfoldable pub quarter : Float → Float → Float
-quarter y x = cond (lt x y) (π ⊘ f2 ⊖ arc (share x y)) (arc (share y x))
+quarter y x = let angle = arc (share (min x y) (max x y)) in cond (lt x y) (π ⊘ f2 ⊖ angle) angle
 
 -- "then, if x's sign bit is set, PI minus it"
 abbrev pub turned : Bool → Float → Float
@@ -151,11 +151,15 @@ atan2 y x = let half = turned (negative x) (quarter (abs y) (abs x)) in cond (ne
 
 -- ---- total order
 
--- "total_cmp puts −0 before 0": whether a stands before b, by number, then −0 before 0; NaN stands last
+-- "total_cmp puts −0 before 0": of equals, the one whose sign bit alone is set
+abbrev pub minusFirst : Bool → Bool → Bool
+minusFirst first second = first && not second
+
+-- whether a stands before b: by number, then −0 before 0; NaN stands last
 unfoldable pub precedes : Float → Float → Bool
 precedes a b =
     cond (lt a b) true
-    (cond (eq a b) (negative a && not (negative b))
+    (cond (eq a b) (minusFirst (negative a) (negative b))
     (not (isNan a) && isNan b))
 
 abbrev pub totalCmp : Float → Float → Ordering

@@ -11,7 +11,7 @@ pub enum Ordering {
     Greater,
 }
 
-// Whether the sign bit is set.
+// Whether the sign bit is set; false for NaN.
 pub fn negative(v: f64) -> bool
     ensures { λ r. ⌜ r ≡ S.negative v ⌝ }
 {
@@ -232,10 +232,11 @@ fn share(b: f64, a: f64) -> f64
 fn quarter(y: f64, x: f64) -> f64
     ensures { λ r. ⌜ r ≡ S.quarter y x ⌝ }
 {
+    let angle = arc(share(min(x, y), max(x, y)));
     if x < y {
-        return 3.141592653589793 / 2.0 - arc(share(x, y));
+        return 3.141592653589793 / 2.0 - angle;
     }
-    arc(share(y, x))
+    angle
 }
 
 pub fn atan2(y: f64, x: f64) -> f64
@@ -256,6 +257,13 @@ fn turned(back: bool, angle: f64) -> f64
     }
 }
 
+// Of equals, -0 stands before 0: whether only the first has its sign bit set.
+fn minus_first(first: bool, second: bool) -> bool
+    ensures { λ r. ⌜ r ≡ S.minusFirst first second ⌝ }
+{
+    if first { !second } else { false }
+}
+
 // Whether a stands before b.
 fn precedes(a: f64, b: f64) -> bool
     ensures { λ r. ⌜ r ≡ S.precedes a b ⌝ }
@@ -264,10 +272,7 @@ fn precedes(a: f64, b: f64) -> bool
         return true;
     }
     if a == b {
-        if negative(a) {
-            return !negative(b);
-        }
-        return false;
+        return minus_first(negative(a), negative(b));
     }
     if a != a {
         return false;

@@ -97,7 +97,7 @@ between (fin s m e) (inf false) (fin u k g) h a = inl tt
 between (fin s m e) (fin t n d) (fin u k g) h a =
     beside (m * up e) (n * up d) (k * up g) (down e) (down d) (down g) (down-pos e) (down-pos d) (down-pos g) s t u a
 
--- what is above or below something is no NaN
+-- a number or an infinity equals itself
 pub level-self : (s : Bool) (a : ℕ) → level s a s a ≡ true
 level-self true a = rw (eq-eqb a a refl)
 level-self false a = rw (eq-eqb a a refl)
@@ -111,6 +111,7 @@ unfolding ne eq
 self-inf true = refl
 self-inf false = refl
 
+-- what is above or below something is no NaN
 pub above-num : (x y : Float) → T (lt x y) → ne y y ≡ false
 unfolding lt
 above-num nan nan a = absurd a

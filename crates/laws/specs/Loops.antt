@@ -1,4 +1,4 @@
--- What a loop computes, as a definition, with the two laws that the loop's proof needs: one turn, and the end.
+-- What a loop computes, as a definition, with the laws that the loop's proof needs: one turn, and the end.
 -- Assumes nothing.
 use mathlib.Core.Path.{_≡_, refl, _∙_}
 use mathlib.Core.List.{List, [], _∷_, _++_}
@@ -25,11 +25,12 @@ unfoldable pub down : {A : Type 0} → (ℕ → A → A) → ℕ → A → A
 down f zero a = a
 down f (suc k) a = down f k (f (suc k) a)
 
--- whether p holds of some i from i to n - 1
+-- whether p holds of one of m numbers from i on
 unfoldable pub anyFor : (ℕ → Bool) → ℕ → ℕ → Bool
 anyFor p zero i = false
 anyFor p (suc m) i = p i || anyFor p m (suc i)
 
+-- whether p holds of some number from i to n - 1
 unfoldable pub anyUp : (ℕ → Bool) → ℕ → ℕ → Bool
 unfolding anyFor
 anyUp p i n = anyFor p (n - i) i

@@ -1,4 +1,4 @@
-// The bits of the square root of a finite f64 above zero, nearest to the exact one, by whole numbers of 64 bits.
+// The bits of the square root of a finite f64 above zero, nearest to the exact one. Whole numbers of 64 bits decide; floats only guess.
 ghost use mathlib.Core.Path.{_≡_};
 ghost use mathlib.Core.Bool.{true};
 ghost use Prim.Native.Nat.{_+_, _*_, _^_, _≤_, _<_};
@@ -130,7 +130,7 @@ fn near_root(x: f64, y: f64) -> f64 {
     g + rest * h
 }
 
-// A guess at the significand of the root of x, from the bits b of x, by shifts and masks. Nothing is claimed of it but its size.
+// A guess at the significand of the root of x, from the bits b of x. Nothing is claimed of it but its size.
 fn guess(b: u64) -> u64
     requires { ⌜ b < 2047 * 2 ^ 52 ⌝ }
     ensures { λ r. ⌜ r < 2 ^ 53 ⌝ }
@@ -198,9 +198,9 @@ fn nearest(c: Scaled) -> u64
     by_digits(a)
 }
 
-// The bits of the f64 nearest to the exact square root of the one with the bits b.
+// The bits of the f64 nearest to the exact square root of the one with the bits b, which is finite and above zero.
 pub fn root_bits(b: u64) -> u64
-    requires { ⌜ b < 2047 * 2 ^ 52 ⌝ }
+    requires { ⌜ (0 < b) × (b < 2047 * 2 ^ 52) ⌝ }
     ensures { λ r. ⌜ (r ≡ rootBits b) × (r < 2047 * 2 ^ 52) ⌝ }
 {
     let c = split(b);

@@ -7,6 +7,12 @@ use borrow.Author.Needs.{needs}
 use Rattle.float.proofs.quarter.Statement.{statement}
 use Rattle.float.proofs.quarter.Tie as tie
 
+min-requires : tie.Need-min-requires
+min-requires c κs = search needs
+
+max-requires : tie.Need-max-requires
+max-requires c κs = search needs
+
 share-requires : tie.Need-share-requires
 share-requires c κs = search needs
 
@@ -15,19 +21,12 @@ arc-requires c κs = search needs
 
 returns : tie.Need-returns
 unfolding quarter
-returns c = let steep : lt (c .before .before .before .args .x) (c .before .before .before .args .y) ≡ true = c .before .before .if1 .taken in rw (steep, ← (c .before .share .ensures), c .arc .ensures)
-
-share-requires-2 : tie.Need-share-requires-2
-share-requires-2 c κs = search needs
-
-arc-requires-2 : tie.Need-arc-requires-2
-arc-requires-2 c κs = search needs
+returns c = let steep : lt (c .before .before .before .before .before .args .x) (c .before .before .before .before .before .args .y) ≡ true = c .if1 .taken in rw (← (c .before .before .before .before .min .ensures), ← (c .before .before .before .max .ensures), ← (c .before .before .share .ensures), steep, c .before .arc .ensures)
 
 returns-2 : tie.Need-returns-2
 unfolding quarter
-returns-2 c = let flat : lt (c .before .before .before .args .x) (c .before .before .before .args .y) ≡ false = c .before .before .if1 .left in rw (flat, ← (c .before .share2 .ensures), c .arc2 .ensures)
+returns-2 c = let flat : lt (c .before .before .before .before .before .args .x) (c .before .before .before .before .before .args .y) ≡ false = c .if1 .left in rw (← (c .before .before .before .before .min .ensures), ← (c .before .before .before .max .ensures), ← (c .before .before .share .ensures), flat) (c .before .arc .ensures)
 
 pub quarter-spec : {M : Type 1} → statement M
 quarter-spec =
-    tie.close
-    (tie.spec share-requires arc-requires returns share-requires-2 arc-requires-2 returns-2)
+    tie.close (tie.spec min-requires max-requires share-requires arc-requires returns returns-2)
