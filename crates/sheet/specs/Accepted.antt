@@ -5,23 +5,31 @@ use mathlib.Core.List.{List, [], _∷_}
 use Prim.Native.Nat.{ℕ, _+_, _*_, _≤_, _<_}
 use native.Mathlib.Omega.{arith}
 use lib.Dec.{ltb, eqb}
-use lib.ListN.{length, getD}
-use borrow.Author.Tests.{ltb-false, eqb-true, not-false}
+use lib.ListN.{length, getD, take, drop, length-take, length-drop}
+use Rattle.laws.specs.Loops.{anyUp}
+use borrow.Author.Tests.{ltb-false, le-ltb, eqb-true, not-false}
 use Rattle.text.specs.Utf8.{wellFormed}
-use Rattle.sheet.specs.Sheet.{count, Arrow, Graph, meaning}
-use Rattle.sheet.specs.Refusals.{any, wrongLength, wrongVersion, wrongBytes, wrongChains, longLine, largeArrow, overLimits, illLine, illArrow, illFormed, mainScreen, checkOf}
-use Rattle.sheet.specs.Any.{or-left, or-right, none-at}
+use Rattle.sheet.specs.Sheet.{count, kindOf, byteOne, piece, Arrow, Graph, meaning}
+use Rattle.sheet.specs.Refusals.{any, wrongLength, wrongVersion, someSet, wrongRecord, wrongBytes, wrongChains, longLine, largeArrow, overLimits, illLine, illArrow, illFormed, mainScreen, checkOf}
+use Rattle.sheet.specs.Any.{or-left, or-right, or-none, none-at, none-all, none-up}
 use Rattle.sheet.specs.Order.{Verdict, by-1, by-2, by-3, by-4, by-5, by-6, by-none, verdict}
 use Rattle.sheet.specs.declared.Checked.{Checked}
 use Rattle.sheet.specs.declared.Checked.the-variants.{Accepted, Refused}
 use Rattle.sheet.specs.declared.Limits.{Limits}
+
+right-length : (s : List ℕ) → wrongLength s ≡ false → length s ≡ 16 * (1 + count s)
+right-length s e =
+    eqb-true (length s) (16 * (1 + count s))
+    (not-false (eqb (length s) (16 * (1 + count s)))
+    (or-right (ltb 65536 (length s)) (not (eqb (length s) (16 * (1 + count s))))
+    (or-right (ltb (length s) 16) (ltb 65536 (length s) || not (eqb (length s) (16 * (1 + count s)))) e)))
 
 -- A sheet of right length has at most 4,095 records.
 pub few : (s : List ℕ) → wrongLength s ≡ false → count s < 4096
 few s e =
     let over = or-right (ltb (length s) 16) (ltb 65536 (length s) || not (eqb (length s) (16 * (1 + count s)))) e in
     let a : length s ≤ 65536 = ltb-false 65536 (length s) (or-left (ltb 65536 (length s)) (not (eqb (length s) (16 * (1 + count s)))) over) in
-    let b : length s ≡ 16 * (1 + count s) = eqb-true (length s) (16 * (1 + count s)) (not-false (eqb (length s) (16 * (1 + count s))) (or-right (ltb 65536 (length s)) (not (eqb (length s) (16 * (1 + count s)))) over)) in
+    let b : length s ≡ 16 * (1 + count s) = right-length s e in
     omega arith
 
 -- no refusal's cause holds
@@ -105,6 +113,21 @@ module _ (m : Limits) (g : Graph) (o : overLimits m g ≡ false) (i : illFormed 
     formed = λ k j h l. not-false (wellFormed (lineAt g k j)) (none-at illLine (arrowAt g k .lines) j [] (none-bad k h) l);
   }
 
+-- And a graph within the limits, with well-formed lines, is not refused by 5 or 6.
+module _ (m : Limits) (g : Graph) (w : Within m g) where
+  pub not-over : overLimits m g ≡ false
+  unfolding overLimits largeArrow
+  not-over =
+      or-none (ltb (m .states) (length (g .states))) (ltb (m .arrows) (length (g .arrows)) || any (largeArrow m) (g .arrows)) (le-ltb (m .states) (length (g .states)) (w .states))
+      (or-none (ltb (m .arrows) (length (g .arrows))) (any (largeArrow m) (g .arrows)) (le-ltb (m .arrows) (length (g .arrows)) (w .arrows))
+      (none-all (largeArrow m) (g .arrows) noArrow
+      (λ k h. or-none (ltb (m .lines) (length (arrowAt g k .lines))) (any (longLine m) (arrowAt g k .lines)) (le-ltb (m .lines) (length (arrowAt g k .lines)) (w .lines k h))
+      (none-all (longLine m) (arrowAt g k .lines) [] (λ j l. le-ltb (m .bytes) (length (lineAt g k j)) (w .bytes k j h l))))))
+
+  pub not-ill : illFormed g ≡ false
+  unfolding illFormed illArrow
+  not-ill = none-all illArrow (g .arrows) noArrow (λ k h. none-all illLine (arrowAt g k .lines) [] (λ j l. ap not (w .formed k j h l)))
+
 -- An accepted sheet is within the limits, and its lines are well-formed.
 pub within : (m : Limits) (s : List ℕ) → checkOf m s ≡ Accepted → Within m (meaning s)
 within m s q = graph-within m (meaning s) (sound m s q .limits) (sound m s q .formed)
@@ -121,3 +144,23 @@ pub shown : (s : List ℕ) → checkOf mainScreen s ≡ Accepted → Shown (mean
 shown s q =
     let w = within mainScreen s q in
     record { states = w .states; arrows = w .arrows; lines = w .lines; bytes = w .bytes; formed = w .formed }
+
+-- A text record of a sheet that passes 1 and 4 stands whole in it: its piece has as many bytes as its byte 1 says, 1 to 12.
+pub record Piece (s : List ℕ) (k : ℕ) : Type 0 where
+  pub some : 1 ≤ byteOne s k
+  pub few : byteOne s k ≤ 12
+  pub whole : length (piece s k) ≡ byteOne s k
+
+text-right : (s : List ℕ) (k : ℕ) → kindOf s k ≡ 4 → wrongRecord s k ≡ false → (ltb (byteOne s k) 1 || (ltb 12 (byteOne s k) || someSet s (16 * k + 4 + byteOne s k) (16 * k + 16))) ≡ false
+unfolding wrongRecord
+text-right s k q e = rw q at e
+
+pub piece-whole : (s : List ℕ) (k : ℕ) → wrongLength s ≡ false → wrongBytes s ≡ false → 1 ≤ k → k ≤ count s → kindOf s k ≡ 4 → Piece s k
+unfolding wrongBytes
+piece-whole s k l e a b q =
+    let r = text-right s k q (none-up (wrongRecord s) 1 (count s + 1) k (or-right (someSet s 8 16) (anyUp (wrongRecord s) 1 (count s + 1)) e) a (omega arith)) in
+    let rest = ltb 12 (byteOne s k) || someSet s (16 * k + 4 + byteOne s k) (16 * k + 16) in
+    let lo : 1 ≤ byteOne s k = ltb-false (byteOne s k) 1 (or-left (ltb (byteOne s k) 1) rest r) in
+    let hi : byteOne s k ≤ 12 = ltb-false 12 (byteOne s k) (or-left (ltb 12 (byteOne s k)) (someSet s (16 * k + 4 + byteOne s k) (16 * k + 16)) (or-right (ltb (byteOne s k) 1) rest r)) in
+    let n : length s ≡ 16 * (1 + count s) = right-length s l in
+    record { some = lo; few = hi; whole = rw (length-take (byteOne s k) (drop (16 * k + 4) s), length-drop (16 * k + 4) s) (omega arith) }

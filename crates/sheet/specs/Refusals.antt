@@ -35,10 +35,11 @@ wrongVersion s = not (eqb (version s) 1)
 
 -- ---- 4: 'kind not 1 to 4, text count not 1 to 12, a state's flag bit above 1 set, or any byte not zero that must be, header included'
 
--- some byte from a to e - 1 is not zero
+-- byte i is not zero
 unfoldable pub isSet : List ℕ → ℕ → Bool
 isSet s i = not (eqb (byteAt s i) 0)
 
+-- some byte from a to e - 1 is not zero
 abbrev pub someSet : List ℕ → ℕ → ℕ → Bool
 someSet s a e = anyUp (isSet s) a e
 
@@ -58,15 +59,19 @@ wrongBytes s = someSet s 8 16 || anyUp (wrongRecord s) 1 (count s + 1)
 
 -- ---- 3: 'an index above the count, a wrong kind in a chain, a record met twice or never'
 
+-- a record met beyond the count
 abbrev pub isAbove : List ℕ → Met → Bool
 isAbove s m = ltb (count s) (m .index)
 
+-- a record met in a chain of another kind
 abbrev pub isOther : List ℕ → Met → Bool
 isOther s m = not (eqb (kindOf s (m .index)) (m .kind))
 
+-- a record that is not among those met
 abbrev pub isMissed : List ℕ → ℕ → Bool
 isMissed indices k = not (isAmong k indices)
 
+-- the numbers of the records met
 unfoldable pub indices : List ℕ → List ℕ
 indices s = map (λ m. m .index) (met s)
 
