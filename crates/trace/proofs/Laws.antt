@@ -13,12 +13,11 @@ use lib.Ieee.{Float, nan}
 use Rattle.laws.specs.Flat.{table, part, table-more}
 use Rattle.laws.specs.Put.{put, put-eq}
 use Rattle.laws.specs.Loops.{over, over-join}
-use Rattle.float.specs.Ops.{lt}
 use Rattle.shape.specs.declared.«V».{«V»}
 use Rattle.shape.specs.declared.Rect.{Rect}
 use Rattle.shape.specs.declared.Curve.{Curve}
 use Rattle.shape.specs.declared.Curve.the-variants.{Quad, Cubic}
-use Rattle.shape.specs.Plane.{vec, touches, spanning, dist}
+use Rattle.shape.specs.Plane.{vec, touches, spanning}
 use Rattle.trace.specs.Traces.{Trace, sample, ownerOf, isArrow, foreign, samples, extended, noBounds, boundsOf, traceOf, anySegment, anyPoint, segmentHits, hitsRect, pairCross, segmentCrosses, crosses, pointNear, near}
 use Rattle.trace.specs.Form.{wholeOf, pointsIn, boundsIn, decodePoint, decodePoints, pointIn, pointsOf, decodeTrace, header, samplesIn, sampleAt}
 use Rattle.trace.specs.Forms.{whole-back, samples-at, points-in}
@@ -97,16 +96,13 @@ module _ (p : «V» → Bool) (g : ℕ → «V») where
   point-end k zero h = refl
   point-end k (suc n) h = absurd (not-suc-le-zero h)
 
--- a is point k as the code reads it, d its distance
-module _ (o : «V») (reach : Float) (l : List Float) (k n : ℕ) (a : «V») (d : Float) (h : 0 < n) (e : a ≡ pointIn l k) (g : d ≡ dist a o) where
-  found : {t : Bool} → lt d reach ≡ t → pointNear o reach (pointIn l k) ≡ t
-  found f = sym (ap (pointNear o reach) e) ∙ sym (ap (λ (q : Float). lt q reach) g) ∙ f
+-- a is point k as the code reads it, x is what it found of it
+module _ (p : «V» → Bool) (l : List Float) (k n : ℕ) (a : «V») (x : Bool) (h : 0 < n) (e : a ≡ pointIn l k) (g : x ≡ p a) where
+  pub near-hit : x ≡ true → true ≡ anyPoint p (table (pointIn l) k n)
+  near-hit t = point-hit p (pointIn l) k n h (sym (ap p e) ∙ sym g ∙ t)
 
-  pub near-hit : lt d reach ≡ true → true ≡ anyPoint (pointNear o reach) (table (pointIn l) k n)
-  near-hit t = point-hit (pointNear o reach) (pointIn l) k n h (found t)
-
-  pub near-miss : lt d reach ≡ false → anyPoint (pointNear o reach) (table (pointIn l) (k + 1) (n - 1)) ≡ anyPoint (pointNear o reach) (table (pointIn l) k n)
-  near-miss t = point-miss (pointNear o reach) (pointIn l) k n h (found t)
+  pub near-miss : x ≡ false → anyPoint p (table (pointIn l) (k + 1) (n - 1)) ≡ anyPoint p (table (pointIn l) k n)
+  near-miss t = point-miss p (pointIn l) k n h (sym (ap p e) ∙ sym g ∙ t)
 
 -- ---- the tests on the bounds; b is the bounds as the code reads them
 
@@ -149,9 +145,9 @@ module _ (l m : List Float) (p q : Rect) (s : Bool) (d : p ≡ boundsIn l) (e : 
   unfolding crosses decodeTrace
   crosses-off h = and-off s (touches (boundsIn l) (boundsIn m)) _ (f ∙ ap₂ touches d e) h
 
-pub near-is : (l : List Float) (o : «V») (reach : Float) (n : ℕ) (x : Bool) → n ≡ pointsIn (getD l 1 nan) → x ≡ anyPoint (pointNear o reach) (pointsOf n l) → x ≡ near (decodeTrace l) o reach
+pub near-is : (l : List Float) (o : «V») (n : ℕ) (x : Bool) → n ≡ pointsIn (getD l 1 nan) → x ≡ anyPoint (pointNear o) (pointsOf n l) → x ≡ near (decodeTrace l) o
 unfolding near decodeTrace
-near-is l o reach n x g k = k ∙ ap (λ (m : ℕ). anyPoint (pointNear o reach) (pointsOf m l)) g
+near-is l o n x g k = k ∙ ap (λ (m : ℕ). anyPoint (pointNear o) (pointsOf m l)) g
 
 -- ---- a trace written
 

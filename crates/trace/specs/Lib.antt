@@ -1,3 +1,4 @@
 pub mod Traces
 pub mod Form
 pub mod Forms
+pub mod Near

@@ -3,11 +3,10 @@ use mathlib.Core.Bool.{Bool, true, false, not, _&&_, _||_}
 use mathlib.Core.List.{List, [], _∷_}
 use Prim.Native.Nat.{ℕ, zero, suc}
 use lib.Dec.{eqb}
-use lib.Ieee.{Float}
 use Rattle.laws.specs.Loops.{over}
 use Rattle.laws.specs.Flat.{table}
 use Rattle.float.specs.Ops.{_⊘_, lt, neg, count}
-use Rattle.float.specs.Constants.{f16, infinity}
+use Rattle.float.specs.Constants.{f16, f25, infinity}
 use Rattle.float.specs.Standins.{min, max}
 use Rattle.shape.specs.declared.«V».{«V»}
 use Rattle.shape.specs.declared.Rect.{Rect}
@@ -100,9 +99,10 @@ unfoldable pub anyPoint : («V» → Bool) → List «V» → Bool
 anyPoint p [] = false
 anyPoint p (a ∷ l) = p a || anyPoint p l
 
-abbrev pub pointNear : «V» → Float → «V» → Bool
-pointNear o reach p = lt (dist p o) reach
+-- a point of a loop is too near to a state's centre: below the radius 22 and 3
+unfoldable pub pointNear : «V» → «V» → Bool
+pointNear o p = lt (dist p o) f25
 
--- some point is nearer to o than `reach`
-unfoldable pub near : Trace → «V» → Float → Bool
-near t o reach = anyPoint (pointNear o reach) (t .points)
+-- some point is too near to the centre o
+unfoldable pub near : Trace → «V» → Bool
+near t o = anyPoint (pointNear o) (t .points)

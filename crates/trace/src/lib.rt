@@ -300,15 +300,28 @@ pub fn crosses(s: &[f64], t: &[f64]) -> bool
     false
 }
 
-fn any_near(t: &[f64], n: usize, o: V, reach: f64) -> bool
+// Whether p is nearer to o than 25: its distance is below 25 exactly where the sum of the squares is below 625.
+// A sum that is NaN has the root 0.
+fn point_near(o: V, p: V) -> bool
+    ensures { λ x. ⌜ x ≡ S.pointNear o p ⌝ }
+{
+    let dx = p.x - o.x;
+    let dy = p.y - o.y;
+    let square = dx * dx + dy * dy;
+    if square != square {
+        return true;
+    }
+    square < 625.0
+}
+
+fn any_near(t: &[f64], n: usize, o: V) -> bool
     requires { ⌜ 6 + 2 * n ≤ length (now t) ⌝ }
-    ensures { λ x. ⌜ x ≡ S.anyPoint (S.pointNear o reach) (F.pointsOf n (now (t .entry))) ⌝ }
+    ensures { λ x. ⌜ x ≡ S.anyPoint (S.pointNear o) (F.pointsOf n (now (t .entry))) ⌝ }
 {
     let mut k: usize = 0;
     let mut left = n;
     while 0 < left {
-        let p = point_at(t, k);
-        if p.dist(o) < reach {
+        if point_near(o, point_at(t, k)) {
             return true;
         }
         k += 1;
@@ -317,10 +330,10 @@ fn any_near(t: &[f64], n: usize, o: V, reach: f64) -> bool
     false
 }
 
-// Whether a point of the trace is nearer to o than `reach`.
-pub fn near(t: &[f64], o: V, reach: f64) -> bool
+// Whether a point of the trace is nearer to o than 25.
+pub fn near(t: &[f64], o: V) -> bool
     requires { ⌜ 40 ≤ length (now t) ⌝ }
-    ensures { λ x. ⌜ x ≡ S.near (F.decodeTrace (now (t .entry))) o reach ⌝ }
+    ensures { λ x. ⌜ x ≡ S.near (F.decodeTrace (now (t .entry))) o ⌝ }
 {
-    any_near(t, points_in(t[1]), o, reach)
+    any_near(t, points_in(t[1]), o)
 }

@@ -11,10 +11,10 @@ use Rattle.trace.proofs.any_near.Statement.{statement}
 use Rattle.trace.proofs.any_near.Tie as tie
 
 abbrev Inv-loop : tie.InvT-loop
-Inv-loop t n o reach k₀ left₀ k left = (anyPoint (pointNear o reach) (table (pointIn t) k left) ≡ anyPoint (pointNear o reach) (pointsOf n t)) × (k + left ≡ n)
+Inv-loop t n o k₀ left₀ k left = (anyPoint (pointNear o) (table (pointIn t) k left) ≡ anyPoint (pointNear o) (pointsOf n t)) × (k + left ≡ n)
 
 abbrev μ-loop : tie.MeasureT-loop
-μ-loop t n o reach k₀ left₀ k left = left
+μ-loop t n o k₀ left₀ k left = left
 
 loop-holds : tie.Need-loop-holds Inv-loop μ-loop
 loop-holds c = (refl, omega arith)
@@ -22,11 +22,11 @@ loop-holds c = (refl, omega arith)
 point-at-requires : tie.Need-point-at-requires Inv-loop μ-loop
 point-at-requires c κs = omega arith
 
-dist-requires : tie.Need-dist-requires Inv-loop μ-loop
-dist-requires c κs = tt
+point-near-requires : tie.Need-point-near-requires Inv-loop μ-loop
+point-near-requires c κs = tt
 
 returns : tie.Need-returns Inv-loop μ-loop
-returns c = near-hit (c .before .before .before .before .before .before .args .o) (c .before .before .before .before .before .before .args .reach) (now (c .before .before .before .before .before .before .args .t)) (c .before .before .before .before .loop .k) (c .before .before .before .before .loop .left) (c .before .before .point-at .result) (c .before .dist .result) (c .before .before .before .loop-test .taken) (c .before .before .point-at .ensures) (c .before .dist .ensures) (c .if1 .taken) ∙ c .before .before .before .before .loop .inv .0
+returns c = near-hit (pointNear (c .before .before .before .before .before .before .args .o)) (now (c .before .before .before .before .before .before .args .t)) (c .before .before .before .before .loop .k) (c .before .before .before .before .loop .left) (c .before .before .point-at .result) (c .before .point-near .result) (c .before .before .before .loop-test .taken) (c .before .before .point-at .ensures) (c .before .point-near .ensures) (c .if1 .taken) ∙ c .before .before .before .before .loop .inv .0
 
 add-k : tie.Need-add-k Inv-loop μ-loop
 add-k c = omega arith
@@ -39,12 +39,12 @@ loop-less c = omega arith
 
 loop-again : tie.Need-loop-again Inv-loop μ-loop
 loop-again c = (
-  near-miss (c .before .before .before .before .before .before .args .o) (c .before .before .before .before .before .before .args .reach) (now (c .before .before .before .before .before .before .args .t)) (c .before .before .before .before .loop .k) (c .before .before .before .before .loop .left) (c .before .before .point-at .result) (c .before .dist .result) (c .before .before .before .loop-test .taken) (c .before .before .point-at .ensures) (c .before .dist .ensures) (c .if1 .left) ∙ c .before .before .before .before .loop .inv .0,
+  near-miss (pointNear (c .before .before .before .before .before .before .args .o)) (now (c .before .before .before .before .before .before .args .t)) (c .before .before .before .before .loop .k) (c .before .before .before .before .loop .left) (c .before .before .point-at .result) (c .before .point-near .result) (c .before .before .before .loop-test .taken) (c .before .before .point-at .ensures) (c .before .point-near .ensures) (c .if1 .left) ∙ c .before .before .before .before .loop .inv .0,
   omega arith,
 )
 
 returns-2 : tie.Need-returns-2 Inv-loop μ-loop
-returns-2 c = point-end (pointNear (c .before .before .before .args .o) (c .before .before .before .args .reach)) (pointIn (now (c .before .before .before .args .t))) (c .before .loop .k) (c .before .loop .left) (omega arith) ∙ c .before .loop .inv .0
+returns-2 c = point-end (pointNear (c .before .before .before .args .o)) (pointIn (now (c .before .before .before .args .t))) (c .before .loop .k) (c .before .loop .left) (omega arith) ∙ c .before .loop .inv .0
 
 pub any-near-spec : {M : Type 1} → statement M
 any-near-spec =
@@ -54,7 +54,7 @@ any-near-spec =
     μ-loop
     loop-holds
     point-at-requires
-    dist-requires
+    point-near-requires
     returns
     add-k
     sub-left
