@@ -2,4 +2,3 @@ pub mod Plane
 pub mod Curves
 pub mod Clipping
 pub mod Steps
-pub mod Worked

@@ -1,33 +1,104 @@
--- The drawings that document 01 marks with a star: one list, and one theorem over it, by computation. Assumes nothing.
-use mathlib.Core.Bool.{Bool, true, cond, _&&_}
+-- The drawings that document 01 marks with a star and that are proved so far: one list, and one theorem over it, by computation. Assumes nothing.
+use mathlib.Core.Bool.{Bool, true, false, not, cond, _&&_}
 use mathlib.Core.List.{List, [], _∷_}
+use Prim.Native.Nat.{ℕ}
 use lib.Dec.{T, eqb}
-use lib.Ieee.{Float, binary64, ofBits, toBits, isNan, add, sub, mul, div, neg, lt, eq, ofInt, round, size, span, climb, units, odd, sum, ofFields}
 use lib.Count.{trailingZeros}
-use Rattle.laws.specs.Loops.{down}
+use lib.Ieee.{Float, binary64, ofBits, ofFields, toBits, toUnsigned, isNan, round, size, span, climb, units, odd, sum, ofInt}
+use lib.Ieee as Ieee
+use Rattle.laws.specs.Loops.{down, over, up, turns}
 use Rattle.root.specs.Root.{rootBits, nearestRoot, wholeRoot, digits, scale}
-use Rattle.float.specs.Constants.{f0, f1, π}
-use Rattle.float.specs.Standins.{atan2, quarter, arc, arcSeries, root, rootOf}
+use Rattle.float.specs.Ops.{neg}
+use Rattle.float.specs.Constants.{whole, tenths, per, infinity, π}
+use Rattle.float.specs.Standins as F
+use Rattle.float.specs.Standins.{atan2}
+use Rattle.text.specs.Digits as D
+use Rattle.number.specs.Number.{numText, decimal, sizeOf, minusText, fraction}
+use Rattle.shape.specs.declared.«V».{«V»}
+use Rattle.shape.specs.declared.Rect.{Rect}
+use Rattle.shape.specs.Plane.{vec, rect, overlaps, touches, spanning, unitOr}
+use Rattle.shape.specs.Clipping.{test, side, meets, segmentHitsRect}
+use Rattle.free.specs.Centres.{chord, othersFrom}
+use Rattle.free.specs.Blocked.{intervals}
+use Rattle.free.specs.Free as Free
+use Rattle.bow.specs.declared.Bent.{Bent}
+use Rattle.bow.specs.declared.Bent.the-variants.{Offset, Beyond}
+use Rattle.bow.specs.Bend.{bend, pairBow}
+use Rattle.bow.specs.Clear as Clear
 
 -- what a drawing is given, and what it must give
 pub data Drawing : Type 0 where
   arctangent : (y x angle : Float) → Drawing
+  written : Float → List ℕ → Drawing
+  touching : Rect → Rect → Drawing
+  overlapping : Rect → Rect → Drawing
+  hitting : «V» → «V» → Rect → Drawing
+  no : Drawing → Drawing
+  pair : (length bow : ℕ) → Drawing
 
 -- the same number, with the same sign
 abbrev same : Float → Float → Bool
 same a b = eqb (toBits binary64 a) (toBits binary64 b)
 
+-- the same bytes
+abbrev alike : List ℕ → List ℕ → Bool
+alike [] [] = true
+alike [] (y ∷ ys) = false
+alike (x ∷ xs) [] = false
+alike (x ∷ xs) (y ∷ ys) = eqb x y && alike xs ys
+
+abbrev bowIs : Float → Bent → Bool
+bowIs h (Offset b) = same b h
+bowIs h Beyond = false
+
+-- two states on a level, at this distance
+abbrev apart : ℕ → List «V»
+apart n = vec (whole 0) (whole 0) ∷ vec (whole n) (whole 0) ∷ []
+
 abbrev pub holds : Drawing → Bool
 holds (arctangent y x angle) = same (atan2 y x) angle
+holds (written v text) = alike (numText v) text
+holds (touching a b) = touches a b
+holds (overlapping a b) = overlaps a b
+holds (hitting a b r) = segmentHitsRect a b r
+holds (no d) = not (holds d)
+holds (pair n bow) = bowIs (whole bow) (bend (chord (apart n) 0 1) (apart n) true)
 
 abbrev pub all : List Drawing → Bool
 all [] = true
 all (d ∷ ds) = holds d && all ds
 
--- "atan2(−0, −1) = −PI"
+-- boxes 0..10 and 10..20 side by side
+abbrev pub leftBox : Rect
+leftBox = rect (whole 0) (whole 0) (whole 10) (whole 10)
+
+abbrev pub rightBox : Rect
+rightBox = rect (whole 10) (whole 0) (whole 20) (whole 10)
+
+-- the segment (0,0)-(10,0) and a box x..20, −5..5
+abbrev pub segment : Float → Drawing
+segment x = hitting (vec (whole 0) (whole 0)) (vec (whole 10) (whole 0)) (rect x (neg (whole 5)) (whole 20) (whole 5))
+
 abbrev pub drawings : List Drawing
-drawings = arctangent (neg f0) (neg f1) (neg π) ∷ []
+drawings =
+    -- "−0.004 → `0`; 12.5 → `12.5`; infinity → `0`"
+    written (neg (per 4 1000)) (48 ∷ [])
+    ∷ written (tenths 125) (49 ∷ 50 ∷ 46 ∷ 53 ∷ [])
+    ∷ written infinity (48 ∷ [])
+    -- "Boxes 0..10 and 10..20 side by side touch and do not overlap."
+    ∷ touching leftBox rightBox
+    ∷ no (overlapping leftBox rightBox)
+    -- "Segment (0,0)-(10,0) hits the box 10..20, −5..5; moved to 10.5..20 it does not."
+    ∷ segment (whole 10)
+    ∷ no (segment (tenths 105))
+    -- "Two-way pair at length 140, no third state: bow 42; 50 gives 28; 300 gives 64."
+    ∷ pair 140 42
+    ∷ pair 50 28
+    ∷ pair 300 64
+    -- "atan2(−0, −1) = −PI."
+    ∷ arctangent (neg (whole 0)) (neg (whole 1)) (neg π)
+    ∷ []
 
 pub starred : T (all drawings)
-unfolding atan2 quarter arc arcSeries root rootOf rootBits nearestRoot wholeRoot digits scale down add sub mul div neg lt eq ofInt round size span climb units odd sum ofBits ofFields toBits trailingZeros isNan
+unfolding atan2 F.quarter F.arc F.arcSeries F.root F.rootOf F.round rootBits nearestRoot wholeRoot digits scale down over numText decimal sizeOf minusText fraction D.digits D.digitsBy overlaps touches spanning unitOr test side meets segmentHitsRect chord othersFrom intervals Free.holds Free.visit Free.pass Free.passes Free.firstFree bend pairBow Clear.verified Clear.choose Clear.better Clear.nearest Clear.clearance up turns Ieee.add Ieee.sub Ieee.mul Ieee.div Ieee.neg Ieee.lt Ieee.le Ieee.eq Ieee.ne ofInt round size span climb units odd sum ofBits ofFields toBits toUnsigned trailingZeros isNan
 starred = tt
