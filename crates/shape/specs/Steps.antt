@@ -7,7 +7,7 @@ use native.Mathlib.Nat.{zero-mul}
 use native.Mathlib.Omega.{arith}
 use borrow.Author.Tests.{ne-eqb}
 use lib.Dec.{T, lt→ltb}
-use lib.Ieee.{Float, nan, inf, fin, up, down, below, level, binary64, ofBits}
+use lib.Ieee.{Float, nan, inf, fin, up, down, below, level, ofBits}
 use lib.IntN.{pos}
 use lib.Ieee as Ieee
 use Rattle.laws.specs.Cases.{by-bool, holds}

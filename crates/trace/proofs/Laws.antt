@@ -1,7 +1,7 @@
 -- A turn of each loop and its end, and what the calls come to. Assumes nothing.
 use mathlib.Core.Path.{_≡_, refl, sym, ap, ap₂, _∙_}
 use mathlib.Core.Bool.{Bool, true, false, not, _&&_}
-use mathlib.Core.List.{List, [], _∷_, _++_, append-nil, append-assoc}
+use mathlib.Core.List.{List, [], _∷_, _++_, append-nil}
 use Prim.Native.Nat.{ℕ, zero, suc, _+_, _-_, _*_, _≤_, _<_}
 use native.Mathlib.Nat.{not-suc-le-zero, add-zero}
 use native.Mathlib.Numerals.{add-one}
@@ -18,8 +18,8 @@ use Rattle.shape.specs.declared.Rect.{Rect}
 use Rattle.shape.specs.declared.Curve.{Curve}
 use Rattle.shape.specs.declared.Curve.the-variants.{Quad, Cubic}
 use Rattle.shape.specs.Plane.{vec, touches, spanning}
-use Rattle.trace.specs.Traces.{Trace, sample, ownerOf, isArrow, foreign, samples, extended, noBounds, boundsOf, traceOf, anySegment, anyPoint, segmentHits, hitsRect, pairCross, segmentCrosses, crosses, pointNear, near}
-use Rattle.trace.specs.Form.{wholeOf, pointsIn, boundsIn, decodePoint, decodePoints, pointIn, pointsOf, decodeTrace, header, samplesIn, sampleAt}
+use Rattle.trace.specs.Traces.{sample, ownerOf, isArrow, foreign, extended, noBounds, boundsOf, traceOf, anySegment, anyPoint, segmentHits, hitsRect, pairCross, segmentCrosses, crosses, pointNear, near}
+use Rattle.trace.specs.Form.{wholeOf, pointsIn, boundsIn, decodePoints, pointIn, pointsOf, decodeTrace, header, samplesIn, sampleAt}
 use Rattle.trace.specs.Forms.{whole-back, samples-at, points-in}
 
 down : (k : ℕ) → suc k - 1 ≡ k

@@ -1,5 +1,5 @@
 -- A trace as forty numbers: the owner, the number of points, the bounds, up to 17 points.
-use mathlib.Core.Bool.{Bool, cond, _&&_}
+use mathlib.Core.Bool.{cond}
 use mathlib.Core.List.{List, [], _∷_, _++_}
 use Prim.Native.Nat.{ℕ, zero, suc, _-_, _*_}
 use lib.ListN.{length, getD, drop}

@@ -1,28 +1,24 @@
 -- What is written is read back: a whole number, a trace. Assumes nothing.
-use mathlib.Core.Path.{_≡_, refl, sym, ap, ap₂, subst, _∙_}
-use mathlib.Core.Bool.{Bool, true, false, cond}
-use mathlib.Core.List.{List, [], _∷_, _++_}
-use Prim.Native.Nat.{ℕ, zero, suc, _+_, _*_, _^_, _≤_, _<_}
+use mathlib.Core.Path.{_≡_, refl, ap, subst, _∙_}
+use mathlib.Core.Bool.{true, false}
+use Prim.Native.Nat.{ℕ, _+_, _*_, _^_, _≤_, _<_}
 use native.Mathlib.Nat.{mul-lt-mul-of-pos-right}
 use native.Mathlib.Numerals.{add-one}
 use native.Mathlib.Omega.{arith}
 use borrow.Author.Tests.{lt-ltb}
-use lib.ListN.{length, getD, drop}
 use lib.Dec.{T, le→leb}
-use lib.IntN.{ℤ, pos}
-use lib.Ieee.{Float, nan, inf, fin, up, down, binary64, ofBits, ofInt, round, size, span, climb, units, odd, inFloat, toUnsigned}
+use lib.IntN.{pos}
+use lib.Ieee.{Float, nan, inf, fin, up, down, binary64, ofBits, ofInt, round, size, span, climb, units, odd, inFloat}
 use lib.Ieee as Ieee
 use lib.Ieee.Exact.{HasValue}
 use lib.Ieee.Fits.{down-pos}
 use lib.Ieee.Back.{round-whole, unsigned-back}
 use Rattle.laws.specs.Flat.{table}
 use Rattle.float.specs.Ops.{lt, eq, neg, count}
-use Rattle.float.specs.Constants.{f1, f2, f2e64}
-use Rattle.shape.specs.declared.«V».{«V»}
-use Rattle.shape.specs.declared.Rect.{Rect}
+use Rattle.float.specs.Constants.{f1, f2e64}
 use Rattle.shape.specs.declared.Curve.{Curve}
 use Rattle.shape.specs.declared.Curve.the-variants.{Line, Quad, Cubic}
-use Rattle.trace.specs.Traces.{Owner, nobody, arrow, Trace, ownerOf, samples, boundsOf, traceOf}
+use Rattle.trace.specs.Traces.{Owner, nobody, arrow, ownerOf, samples, traceOf}
 use Rattle.trace.specs.Form.{wholeOf, pointsIn, ownerNumber, decodeTrace, encodeTrace, samplesIn, sampleAt}
 
 -- ---- whole numbers

@@ -7,8 +7,7 @@ use lib.Ieee as Ieee
 use Rattle.root.specs.Root.{digits, wholeRoot, nearestRoot, scale, rootBits}
 use Rattle.root.specs.Plain.{rootPlain, First, squares-plain, root-lt-first}
 use Rattle.float.specs.Ops.{_⊕_, _⊖_, _⊗_, lt, ne}
-use Rattle.float.specs.Constants.{f0, f25}
-use Rattle.float.specs.Standins.{root, hypot}
+use Rattle.float.specs.Standins.{root}
 use Rattle.float.specs.Signs.{is-nan}
 use Rattle.float.specs.RootLaws.{root-is}
 use Rattle.shape.specs.declared.«V».{«V»}

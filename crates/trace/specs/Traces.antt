@@ -1,5 +1,5 @@
 -- A trace: a curve sampled as lines from point to point, with its bounds and its owner, and what it collides with.
-use mathlib.Core.Bool.{Bool, true, false, not, _&&_, _||_}
+use mathlib.Core.Bool.{Bool, false, not, _&&_, _||_}
 use mathlib.Core.List.{List, [], _∷_}
 use Prim.Native.Nat.{ℕ, zero, suc}
 use lib.Dec.{eqb}
@@ -99,10 +99,10 @@ unfoldable pub anyPoint : («V» → Bool) → List «V» → Bool
 anyPoint p [] = false
 anyPoint p (a ∷ l) = p a || anyPoint p l
 
--- a point of a loop is too near to a state's centre: below the radius 22 and 3
+-- a point is nearer to the centre o than 25: a state's radius 22, and 3 more
 unfoldable pub pointNear : «V» → «V» → Bool
 pointNear o p = lt (dist p o) f25
 
--- some point is too near to the centre o
+-- some point is
 unfoldable pub near : Trace → «V» → Bool
 near t o = anyPoint (pointNear o) (t .points)
