@@ -265,7 +265,7 @@ fn minus_first(first: bool, second: bool) -> bool
 }
 
 // Whether a stands before b.
-fn precedes(a: f64, b: f64) -> bool
+pub fn precedes(a: f64, b: f64) -> bool
     ensures { λ r. ⌜ r ≡ S.precedes a b ⌝ }
 {
     if a < b {

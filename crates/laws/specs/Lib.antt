@@ -13,4 +13,6 @@ pub mod Sorting
 pub mod Ordered
 pub mod Same
 pub mod Zip
+pub mod Filter
+pub mod Stable
 pub mod Counting

@@ -21,7 +21,7 @@ module _ {A : Type 0} (before : A → A → Bool) (one-way : (x y : A) → befor
       (λ t. rw t (more h (more (one-way x z t) o)))
       (λ t. rw t (more k (after x z l t o)))
 
-  insert-ordered : (x : A) (l : List A) → Ordered before l → Ordered before (insert before x l)
+  pub insert-ordered : (x : A) (l : List A) → Ordered before l → Ordered before (insert before x l)
   unfolding insert
   insert-ordered x [] o = one
   insert-ordered x (y ∷ l) o =
