@@ -1,0 +1,18 @@
+-- `place::drawn_at` meets its contract.
+use mathlib.Core.Path.{_∙_, ap}
+use Rattle.spot.specs.Labels.{labelled}
+use borrow.Author.Needs.{needs}
+use Rattle.place.proofs.drawn_at.Statement.{statement}
+use Rattle.place.proofs.drawn_at.Tie as tie
+
+spot-at-requires : tie.Need-spot-at-requires
+spot-at-requires c κs = search needs
+
+labelled-requires : tie.Need-labelled-requires
+labelled-requires c κs = search needs
+
+returns : tie.Need-returns
+returns c = c .labelled .ensures ∙ ap (labelled (c .before .before .args .r)) (c .before .spot-at .ensures)
+
+pub drawn-at-spec : {M : Type 1} → statement M
+drawn-at-spec = tie.close (tie.spec spot-at-requires labelled-requires returns)

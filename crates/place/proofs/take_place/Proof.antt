@@ -1,0 +1,27 @@
+-- `place::take_place` meets its contract.
+use mathlib.Core.Path.{ap, _∙_}
+use Prim.Native.Nat.{ℕ}
+use denote.Ref.{now}
+use Rattle.place.specs.Scene.{Scene, scene}
+use Rattle.place.specs.Turn.{drawnAt}
+use Rattle.place.proofs.Laws.{taken-inside}
+use borrow.Author.Needs.{needs}
+use Rattle.place.proofs.take_place.Statement.{statement}
+use Rattle.place.proofs.take_place.Tie as tie
+
+upper-requires : tie.Need-upper-requires
+upper-requires c κs = search needs
+
+take-spot-requires : tie.Need-take-spot-requires
+take-spot-requires c κs = search needs
+
+drawn-at-requires : tie.Need-drawn-at-requires
+drawn-at-requires c κs =
+    let a = c .before .before .before .before .before .before .args in
+    (c .before .upper .ensures, taken-inside (scene (now (a .xs)) (now (a .ys)) (a .nb) (now (a .boxes)) (a .nt) (now (a .traces))) (a .r) (c .take-spot .result) (c .take-spot .ensures))
+
+returns : tie.Need-returns
+returns c = c .drawn-at .ensures ∙ ap (λ (j : ℕ). drawnAt (c .before .before .before .before .before .before .before .args .r) j) (c .before .take-spot .ensures)
+
+pub take-place-spec : {M : Type 1} → statement M
+take-place-spec = tie.close (tie.spec upper-requires take-spot-requires drawn-at-requires returns)

@@ -1,0 +1,3 @@
+pub mod Scene
+pub mod Turn
+pub mod Cut

@@ -1,0 +1,60 @@
+-- What is drawn already while labels are placed, and the full cost of a label box in it.
+use mathlib.Core.Bool.{Bool, _&&_}
+use mathlib.Core.List.{List, [], _∷_, _++_}
+use Prim.Native.Nat.{ℕ, _+_, _*_}
+use lib.Ieee.{Float}
+use Rattle.laws.specs.Flat.{records}
+use Rattle.laws.specs.Counting.{number}
+use Rattle.float.specs.Ops.{_⊕_, _⊖_, lt}
+use Rattle.float.specs.Constants.{f4, f22}
+use Rattle.label.specs.Label.{asciiWidth}
+use Rattle.shape.specs.declared.«V».{«V»}
+use Rattle.shape.specs.declared.Rect.{Rect}
+use Rattle.shape.specs.Plane.{rect, grown, overlaps, boxDist}
+use Rattle.free.specs.Centres.{centres as centresOf}
+use Rattle.trace.specs.Traces.{Trace, foreign, hitsRect}
+use Rattle.trace.specs.Form.{decodeRect, decodeTraces}
+
+-- "states and traces .. and what `geometry` adds": the labels placed so far, as boxes
+pub record Scene : Type 0 where
+  pub centres : List «V»
+  pub traces : List Trace
+  pub boxes : List Rect
+
+-- ---- the full cost
+
+-- nearer to the box than a state's radius 22 and 4 more
+unfoldable pub near : Rect → «V» → Bool
+near b c = lt (boxDist b c) (f22 ⊕ f4)
+
+-- other arrows keep 4 from a label, other labels a character's width to the side
+abbrev pub wide : Rect → Rect
+wide b = grown b f4
+
+abbrev pub apart : Rect → Rect
+apart b = rect (b .x0 ⊖ asciiWidth) (b .y0 ⊖ f4) (b .x1 ⊕ asciiWidth) (b .y1 ⊕ f4)
+
+abbrev pub overlapping : Rect → Rect → Bool
+overlapping b o = overlaps o b
+
+-- "A foreign trace is one that the turn's arrow does not own."
+unfoldable pub struck : ℕ → Rect → Trace → Bool
+struck own b t = foreign own t && hitsRect t b
+
+-- "Full cost: 10 a state, 6 a label, 3 a foreign trace", "summed over the whole scene", "never cut"
+unfoldable pub boxCost : Scene → ℕ → Rect → ℕ
+boxCost s own b =
+    10 * number (near b) (s .centres)
+    + 6 * number (overlapping (apart b)) (s .boxes)
+    + 3 * number (struck own (wide b)) (s .traces)
+
+-- ---- how the code keeps a scene: centres in two slices, boxes of four numbers and traces of forty, so many of each
+
+abbrev pub decodeBoxes : ℕ → List Float → List Rect
+decodeBoxes n l = records decodeRect 4 n l
+
+abbrev pub scene : List Float → List Float → ℕ → List Float → ℕ → List Float → Scene
+scene xs ys nb boxes nt traces = record { centres = centresOf xs ys; traces = decodeTraces nt traces; boxes = decodeBoxes nb boxes }
+
+abbrev pub corners : Rect → List Float
+corners b = b .x0 ∷ b .y0 ∷ b .x1 ∷ b .y1 ∷ []

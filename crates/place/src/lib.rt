@@ -1,0 +1,287 @@
+// The scene while labels are placed, in lent slices: centres as two slices, boxes of four numbers, traces of forty. What a label
+// costs in it, and the search for the label's place.
+use shape::Rect;
+use shape::V;
+use spot::Geometry;
+use spot::Routed;
+ghost use mathlib.Core.Path.{_≡_};
+ghost use mathlib.Core.Bool.{cond};
+ghost use mathlib.Core.List.{[], _∷_, _++_, map};
+ghost use Prim.Native.Nat.{_+_, _*_, _≤_, _<_};
+ghost use lib.Dec.{ltb};
+ghost use lib.ListN.{length};
+ghost use Rattle.laws.specs.Best.{cut-total};
+ghost use Rattle.laws.specs.Counting.{number, worth};
+ghost use Rattle.laws.specs.Flat.{part};
+ghost use Rattle.laws.specs.Put.{put};
+ghost use Rattle.shape.specs.Plane.{vec};
+ghost use Rattle.free.specs.Centres.{centres};
+ghost use Rattle.trace.specs.Form.{decodeRect, decodeTrace, decodeTraces};
+ghost use Rattle.spot.specs.Spots.{upper, spotCount};
+ghost use Rattle.place.specs.Scene as S;
+ghost use Rattle.place.specs.Turn as T;
+ghost use Rattle.place.specs.Cut as C;
+
+// ---- boxes
+
+fn put_rect(p: &mut [f64], b: Rect)
+    requires { ⌜ 4 ≤ length (now p) ⌝ }
+    ensures { λ _. ⌜ now (p .exit) ≡ put (now (p .entry)) 0 (S.corners b) ⌝ }
+{
+    p[0] = b.x0;
+    p[1] = b.y0;
+    p[2] = b.x1;
+    p[3] = b.y1;
+}
+
+// One box more, after n.
+pub fn push_box(boxes: &mut [f64], n: usize, b: Rect) -> usize
+    requires { ⌜ 4 * n + 4 ≤ length (now boxes) ⌝ }
+    ensures { λ r. ⌜ (r ≡ n + 1) × (S.decodeBoxes r (now (boxes .exit)) ≡ S.decodeBoxes n (now (boxes .entry)) ++ (b ∷ [])) ⌝ }
+{
+    let at = 4 * n;
+    put_rect(&mut boxes[at..], b);
+    n + 1
+}
+
+fn box_at(boxes: &[f64], k: usize) -> Rect
+    requires { ⌜ 4 * k + 4 ≤ length (now boxes) ⌝ }
+    ensures { λ r. ⌜ r ≡ decodeRect (part 4 k (now (boxes .entry))) ⌝ }
+{
+    let at = 4 * k;
+    let end = at + 4;
+    trace::rect_of(&boxes[at..end])
+}
+
+// ---- what each thing adds
+
+// 10 for a state nearer to the box than 26: its distance is below 26 exactly where the sum of the squares is below 676.
+fn state_add(b: Rect, x: f64, y: f64) -> usize
+    ensures { λ r. ⌜ (r ≡ worth (S.near b) 10 (vec x y)) × (r ≤ 10) ⌝ }
+{
+    let dx = shape::outside(b.x0, b.x1, x);
+    let dy = shape::outside(b.y0, b.y1, y);
+    if dx * dx + dy * dy < 676.0 {
+        return 10;
+    }
+    0
+}
+
+fn box_add(apart: Rect, o: Rect) -> usize
+    ensures { λ r. ⌜ (r ≡ worth (S.overlapping apart) 6 o) × (r ≤ 6) ⌝ }
+{
+    if o.overlaps(apart) {
+        return 6;
+    }
+    0
+}
+
+fn trace_add(t: &[f64], own: usize, wide: Rect) -> usize
+    requires { ⌜ 40 ≤ length (now t) ⌝ }
+    ensures { λ r. ⌜ (r ≡ worth (S.struck own wide) 3 (decodeTrace (now (t .entry)))) × (r ≤ 3) ⌝ }
+{
+    if trace::foreign(t, own) {
+        if trace::hits_rect(t, wide) {
+            return 3;
+        }
+    }
+    0
+}
+
+fn trace_at_add(traces: &[f64], k: usize, own: usize, wide: Rect) -> usize
+    requires { ⌜ 40 * k + 40 ≤ length (now traces) ⌝ }
+    ensures { λ r. ⌜ (r ≡ worth (S.struck own wide) 3 (decodeTrace (part 40 k (now (traces .entry))))) × (r ≤ 3) ⌝ }
+{
+    let at = 40 * k;
+    let end = at + 40;
+    trace_add(&traces[at..end], own, wide)
+}
+
+// ---- sums over the slices
+
+fn states_cost(xs: &[f64], ys: &[f64], b: Rect) -> usize
+    requires { ⌜ length (now ys) ≡ length (now xs) ⌝ }
+    ensures { λ r. ⌜ (r ≡ 10 * number (S.near b) (centres (now (xs .entry)) (now (ys .entry)))) × (r ≤ 10 * length (now (xs .entry))) ⌝ }
+{
+    let mut sum: usize = 0;
+    let mut k: usize = 0;
+    while k < xs.len() {
+        sum += state_add(b, xs[k], ys[k]);
+        k += 1;
+    }
+    sum
+}
+
+fn boxes_cost(boxes: &[f64], n: usize, apart: Rect, start: usize, limit: usize) -> usize
+    requires { ⌜ (4 * n ≤ length (now boxes)) × (start + 6 * n < 18446744073709551616) ⌝ }
+    ensures { λ r. ⌜ (r ≡ cut-total limit start (map (worth (S.overlapping apart) 6) (S.decodeBoxes n (now (boxes .entry))))) × (r ≤ start + 6 * n) ⌝ }
+{
+    let mut sum = start;
+    let mut k: usize = 0;
+    let mut left = n;
+    while 0 < left {
+        if limit <= sum {
+            return sum;
+        }
+        sum += box_add(apart, box_at(boxes, k));
+        k += 1;
+        left -= 1;
+    }
+    sum
+}
+
+fn traces_cost(
+    traces: &[f64],
+    n: usize,
+    own: usize,
+    wide: Rect,
+    start: usize,
+    limit: usize,
+) -> usize
+    requires { ⌜ (40 * n ≤ length (now traces)) × (start + 3 * n < 18446744073709551616) ⌝ }
+    ensures { λ r. ⌜ (r ≡ cut-total limit start (map (worth (S.struck own wide) 3) (decodeTraces n (now (traces .entry))))) × (r ≤ start + 3 * n) ⌝ }
+{
+    let mut sum = start;
+    let mut k: usize = 0;
+    let mut left = n;
+    while 0 < left {
+        if limit <= sum {
+            return sum;
+        }
+        sum += trace_at_add(traces, k, own, wide);
+        k += 1;
+        left -= 1;
+    }
+    sum
+}
+
+// The room that other labels keep: a character's width to the side.
+fn apart(b: Rect) -> Rect
+    ensures { λ r. ⌜ r ≡ S.apart b ⌝ }
+{
+    Rect {
+        x0: b.x0 - 7.199999999999999,
+        y0: b.y0 - 4.0,
+        x1: b.x1 + 7.199999999999999,
+        y1: b.y1 + 4.0,
+    }
+}
+
+// The cost of a label in the box b, of arrow `own`, counted until it reaches the limit.
+pub fn box_cost(
+    xs: &[f64],
+    ys: &[f64],
+    boxes: &[f64],
+    nb: usize,
+    traces: &[f64],
+    nt: usize,
+    own: usize,
+    b: Rect,
+    limit: usize,
+) -> usize
+    requires { ⌜ (length (now ys) ≡ length (now xs)) × (4 * nb ≤ length (now boxes)) × (40 * nt ≤ length (now traces)) ⌝ }
+    ensures { λ r. ⌜ (r ≡ C.cutCost (S.scene (now (xs .entry)) (now (ys .entry)) nb (now (boxes .entry)) nt (now (traces .entry))) own limit b) × (r ≤ 10 * length (now (xs .entry)) + 6 * nb + 3 * nt) ⌝ }
+{
+    let far = apart(b);
+    let wide = b.grown(4.0);
+    let states = states_cost(xs, ys, b);
+    let more = boxes_cost(boxes, nb, far, states, limit);
+    traces_cost(traces, nt, own, wide, more, limit)
+}
+
+// The full cost.
+pub fn full_cost(
+    xs: &[f64],
+    ys: &[f64],
+    boxes: &[f64],
+    nb: usize,
+    traces: &[f64],
+    nt: usize,
+    own: usize,
+    b: Rect,
+) -> usize
+    requires { ⌜ (length (now ys) ≡ length (now xs)) × (4 * nb ≤ length (now boxes)) × (40 * nt ≤ length (now traces)) ⌝ }
+    ensures { λ r. ⌜ (r ≡ S.boxCost (S.scene (now (xs .entry)) (now (ys .entry)) nb (now (boxes .entry)) nt (now (traces .entry))) own b) × (r ≤ 10 * length (now (xs .entry)) + 6 * nb + 3 * nt) ⌝ }
+{
+    box_cost(xs, ys, boxes, nb, traces, nt, own, b, 18446744073709551615)
+}
+
+// ---- the search for a place
+
+// The best cost so far, and its place.
+pub struct Found {
+    pub limit: usize,
+    pub place: usize,
+}
+
+fn better(f: Found, c: usize, j: usize) -> Found
+    ensures { λ r. ⌜ (r .limit ≡ cond (ltb c (f .limit)) c (f .limit)) × (r .place ≡ cond (ltb c (f .limit)) j (f .place)) ⌝ }
+{
+    if c < f.limit {
+        return Found { limit: c, place: j };
+    }
+    f
+}
+
+// The arrow with its label at place j.
+fn drawn_at(r: Routed, up: V, j: usize) -> Geometry
+    requires { ⌜ (up ≡ upper (r .curve)) × (j < spotCount (r .shape)) ⌝ }
+    ensures { λ g. ⌜ g ≡ T.drawnAt r j ⌝ }
+{
+    let curve = r.curve;
+    let shape = r.shape;
+    spot::labelled(r, spot::spot_at(curve, shape, up, j))
+}
+
+// The place that the label takes: of those listed, the first that no other undercuts.
+pub fn take_spot(
+    xs: &[f64],
+    ys: &[f64],
+    boxes: &[f64],
+    nb: usize,
+    traces: &[f64],
+    nt: usize,
+    r: Routed,
+    up: V,
+) -> usize
+    requires { ⌜ (length (now ys) ≡ length (now xs)) × (4 * nb ≤ length (now boxes)) × (40 * nt ≤ length (now traces)) × (up ≡ upper (r .curve)) ⌝ }
+    ensures { λ j. ⌜ j ≡ T.taken (S.scene (now (xs .entry)) (now (ys .entry)) nb (now (boxes .entry)) nt (now (traces .entry))) r ⌝ }
+{
+    let mut f = Found {
+        limit: 18446744073709551615,
+        place: 0,
+    };
+    let shape = r.shape;
+    let mut j: usize = 0;
+    let mut left = spot::spot_count(shape);
+    while 0 < left {
+        let g = drawn_at(r, up, j);
+        let c = box_cost(xs, ys, boxes, nb, traces, nt, r.edge, g.bounds, f.limit);
+        f = better(f, c, j);
+        if c == 0 {
+            return f.place;
+        }
+        j += 1;
+        left -= 1;
+    }
+    f.place
+}
+
+// The arrow with its label at the place that it takes.
+pub fn take_place(
+    xs: &[f64],
+    ys: &[f64],
+    boxes: &[f64],
+    nb: usize,
+    traces: &[f64],
+    nt: usize,
+    r: Routed,
+) -> Geometry
+    requires { ⌜ (length (now ys) ≡ length (now xs)) × (4 * nb ≤ length (now boxes)) × (40 * nt ≤ length (now traces)) ⌝ }
+    ensures { λ g. ⌜ g ≡ T.placed (S.scene (now (xs .entry)) (now (ys .entry)) nb (now (boxes .entry)) nt (now (traces .entry))) r ⌝ }
+{
+    let curve = r.curve;
+    let up = spot::upper(curve);
+    let j = take_spot(xs, ys, boxes, nb, traces, nt, r, up);
+    drawn_at(r, up, j)
+}
