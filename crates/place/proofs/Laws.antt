@@ -22,7 +22,7 @@ use Rattle.shape.specs.declared.Rect.{Rect}
 use Rattle.shape.specs.Plane.{vec, outside, boxDist}
 use Rattle.trace.specs.Traces.{Trace, foreign, hitsRect}
 use Rattle.trace.specs.Form.{decodeRect, decodeTrace}
-use Rattle.spot.specs.declared.Routed.{Routed}
+use Rattle.spot.specs.declared.Turn.{Turn}
 use Rattle.spot.specs.declared.Geometry.{Geometry}
 use Rattle.spot.specs.Spots.{spotCount, spot-count}
 use Rattle.place.specs.Scene.{Scene, near, struck, boxCost, scene}
@@ -82,17 +82,17 @@ module _ (xs ys : List Float) (nb : ℕ) (bs : List Float) (nt : ℕ) (ts : List
   pub full-is : (own : ℕ) (b : Rect) (r : ℕ) → r ≡ cutCost here own big b → r ≡ boxCost here own b
   full-is own b r e = e ∙ cut-full here own big b (omega (arith, cost-le here own b, below))
 
-  pub early-is : (r : Routed) (n : ℕ) → n ≡ places r → search-from (λ l j. cutCost here (r .edge) l (boxAt r j)) n 0 big 0 ≡ taken here r
-  early-is r n e = early here r n big e below
+  pub early-is : (t : Turn) (n : ℕ) → n ≡ places t → search-from (λ l j. cutCost here (t .edge) l (boxAt t j)) n 0 big 0 ≡ taken here t
+  early-is t n e = early here t n big e below
 
 -- ---- places
 
-pub count-is : (r : Routed) (n : ℕ) → n ≡ spotCount (r .shape) → n ≡ places r
-count-is r n e = e ∙ sym (spot-count (r .curve) (r .shape))
+pub count-is : (t : Turn) (n : ℕ) → n ≡ spotCount (t .arrow .shape) → n ≡ places t
+count-is t n e = e ∙ sym (spot-count (t .arrow .curve) (t .arrow .shape))
 
-pub box-is : (r : Routed) (j : ℕ) (g : Geometry) → g ≡ drawnAt r j → g .bounds ≡ boxAt r j
+pub box-is : (t : Turn) (j : ℕ) (g : Geometry) → g ≡ drawnAt t j → g .bounds ≡ boxAt t j
 unfolding boxAt
-box-is r j g e = ap (λ (x : Geometry). x .bounds) e
+box-is t j g e = ap (λ (x : Geometry). x .bounds) e
 
-pub taken-inside : (s : Scene) (r : Routed) (j : ℕ) → j ≡ taken s r → j < spotCount (r .shape)
-taken-inside s r j e = rw e (subst (λ (n : ℕ). taken s r < n) (spot-count (r .curve) (r .shape)) (taken-least s r .inside))
+pub taken-inside : (s : Scene) (t : Turn) (j : ℕ) → j ≡ taken s t → j < spotCount (t .arrow .shape)
+taken-inside s t j e = rw e (subst (λ (n : ℕ). taken s t < n) (spot-count (t .arrow .curve) (t .arrow .shape)) (taken-least s t .inside))

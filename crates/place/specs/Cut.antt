@@ -7,7 +7,7 @@ use lib.ListN.{length}
 use Rattle.laws.specs.Best.{best, total, cut-total, cut-total-exact, Cuts, cuts-of, search-from, early-is-best}
 use Rattle.laws.specs.Counting.{number, worth, number-le, total-worth, total-append, cut-append}
 use Rattle.shape.specs.declared.Rect.{Rect}
-use Rattle.spot.specs.declared.Routed.{Routed}
+use Rattle.spot.specs.declared.Turn.{Turn}
 use Rattle.place.specs.Scene.{Scene, near, wide, apart, overlapping, struck, boxCost}
 use Rattle.place.specs.Turn.{places, boxAt, placeCost, taken}
 
@@ -47,21 +47,21 @@ unfolding cutCost
 cut-is s own l b a w n m r e₁ e₂ e₃ e₄ e₅ =
     rw (e₅, e₄, e₃, e₂, e₁) (cut-append l (statesCost s b) (map (worth (overlapping (apart b)) 6) (s .boxes)) (map (worth (struck own (wide b)) 3) (s .traces)))
 
-place-cuts : (s : Scene) (r : Routed) → Cuts (placeCost s r) (λ l j. cutCost s (r .edge) l (boxAt r j))
+place-cuts : (s : Scene) (t : Turn) → Cuts (placeCost s t) (λ l j. cutCost s (t .edge) l (boxAt t j))
 unfolding cutCost
-place-cuts s r =
-    let k = cuts-of (λ j. statesCost s (boxAt r j)) (λ j. items s (r .edge) (boxAt r j)) in
+place-cuts s t =
+    let k = cuts-of (λ j. statesCost s (boxAt t j)) (λ j. items s (t .edge) (boxAt t j)) in
     record {
-      exact = λ l j h. k .exact l j (rw (cost-total s (r .edge) (boxAt r j)) h) ∙ cost-total s (r .edge) (boxAt r j);
-      above = λ l j h. k .above l j (rw (cost-total s (r .edge) (boxAt r j)) h);
+      exact = λ l j h. k .exact l j (rw (cost-total s (t .edge) (boxAt t j)) h) ∙ cost-total s (t .edge) (boxAt t j);
+      above = λ l j h. k .above l j (rw (cost-total s (t .edge) (boxAt t j)) h);
     }
 
 -- The search with cut costs that stops at a cost of 0, from a first limit above every full cost, takes the first least place by full cost.
-pub early : (s : Scene) (r : Routed) (n big : ℕ) → n ≡ places r → 10 * length (s .centres) + 6 * length (s .boxes) + 3 * length (s .traces) < big
-    → search-from (λ l j. cutCost s (r .edge) l (boxAt r j)) n 0 big 0 ≡ taken s r
+pub early : (s : Scene) (t : Turn) (n big : ℕ) → n ≡ places t → 10 * length (s .centres) + 6 * length (s .boxes) + 3 * length (s .traces) < big
+    → search-from (λ l j. cutCost s (t .edge) l (boxAt t j)) n 0 big 0 ≡ taken s t
 unfolding taken
-early s r n big e h = rw (← e) (go n)
+early s t n big e h = rw (← e) (go n)
   where
-    go : (n : ℕ) → search-from (λ l j. cutCost s (r .edge) l (boxAt r j)) n 0 big 0 ≡ best (placeCost s r) n
+    go : (n : ℕ) → search-from (λ l j. cutCost s (t .edge) l (boxAt t j)) n 0 big 0 ≡ best (placeCost s t) n
     go zero = unfold search-from best in refl
-    go (suc n) = early-is-best (placeCost s r) (λ l j. cutCost s (r .edge) l (boxAt r j)) (place-cuts s r) n big (omega (arith, cost-le s (r .edge) (boxAt r 0)))
+    go (suc n) = early-is-best (placeCost s t) (λ l j. cutCost s (t .edge) l (boxAt t j)) (place-cuts s t) n big (omega (arith, cost-le s (t .edge) (boxAt t 0)))

@@ -1,4 +1,5 @@
 -- What is drawn already while labels are placed, and the full cost of a label box in it.
+use mathlib.Core.Path.{_≡_, ap}
 use mathlib.Core.Bool.{Bool, _&&_}
 use mathlib.Core.List.{List, [], _∷_, _++_}
 use Prim.Native.Nat.{ℕ, _+_, _*_}
@@ -20,6 +21,16 @@ pub record Scene : Type 0 where
   pub centres : List «V»
   pub traces : List Trace
   pub boxes : List Rect
+
+abbrev pub sceneOf : List «V» → List Trace → List Rect → Scene
+sceneOf cs ts bs = record { centres = cs; traces = ts; boxes = bs }
+
+-- a box more, a trace more: "what `geometry` adds before the next turn"
+abbrev pub withBox : Scene → Rect → Scene
+withBox s b = sceneOf (s .centres) (s .traces) (s .boxes ++ (b ∷ []))
+
+abbrev pub withTrace : Scene → Trace → Scene
+withTrace s t = sceneOf (s .centres) (s .traces ++ (t ∷ [])) (s .boxes)
 
 -- ---- the full cost
 
@@ -54,7 +65,16 @@ abbrev pub decodeBoxes : ℕ → List Float → List Rect
 decodeBoxes n l = records decodeRect 4 n l
 
 abbrev pub scene : List Float → List Float → ℕ → List Float → ℕ → List Float → Scene
-scene xs ys nb boxes nt traces = record { centres = centresOf xs ys; traces = decodeTraces nt traces; boxes = decodeBoxes nb boxes }
+scene xs ys nb boxes nt traces = sceneOf (centresOf xs ys) (decodeTraces nt traces) (decodeBoxes nb boxes)
+
+-- a push into the boxes is a box more in the scene, and so with traces
+pub box-pushed : (xs ys : List Float) (n m : ℕ) (bs bs′ : List Float) (nt : ℕ) (ts : List Float) (b : Rect) → decodeBoxes m bs′ ≡ decodeBoxes n bs ++ (b ∷ [])
+    → scene xs ys m bs′ nt ts ≡ withBox (scene xs ys n bs nt ts) b
+box-pushed xs ys n m bs bs′ nt ts b e = ap (sceneOf (centresOf xs ys) (decodeTraces nt ts)) e
+
+pub trace-pushed : (xs ys : List Float) (nb : ℕ) (bs : List Float) (n m : ℕ) (ts ts′ : List Float) (t : Trace) → decodeTraces m ts′ ≡ decodeTraces n ts ++ (t ∷ [])
+    → scene xs ys nb bs m ts′ ≡ withTrace (scene xs ys nb bs n ts) t
+trace-pushed xs ys nb bs n m ts ts′ t e = ap (λ (l : List Trace). sceneOf (centresOf xs ys) l (decodeBoxes nb bs)) e
 
 abbrev pub corners : Rect → List Float
 corners b = b .x0 ∷ b .y0 ∷ b .x1 ∷ b .y1 ∷ []

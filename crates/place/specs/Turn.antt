@@ -7,54 +7,51 @@ use lib.ListN.{length}
 use Rattle.laws.specs.Best.{best, best-is, FirstLeast}
 use Rattle.shape.specs.declared.Rect.{Rect}
 use Rattle.trace.specs.Traces.{Trace, Owner, nobody, foreign}
-use Rattle.spot.specs.declared.Routed.{Routed}
-use Rattle.spot.specs.declared.Shape.{Shape}
-use Rattle.spot.specs.declared.Shape.the-variants.{Line, Arc, Loop}
+use Rattle.spot.specs.declared.Turn.{Turn}
+use Rattle.bow.specs.declared.Shape.{Shape}
+use Rattle.bow.specs.declared.Shape.the-variants.{Line, Arc, Loop}
 use Rattle.spot.specs.declared.Geometry.{Geometry}
 use Rattle.spot.specs.Spots.{labelSpots, spotAt, spotCount, spot-count}
 use Rattle.spot.specs.Labels.{labelled}
-use Rattle.place.specs.Scene.{Scene, boxCost}
+use Rattle.place.specs.Scene.{Scene, withBox, boxCost}
 
 -- how many places are listed
-abbrev pub places : Routed → ℕ
-places r = length (labelSpots (r .curve) (r .shape))
+abbrev pub places : Turn → ℕ
+places t = length (labelSpots (t .arrow .curve) (t .arrow .shape))
 
 -- the arrow with its label at place j
-abbrev pub drawnAt : Routed → ℕ → Geometry
-drawnAt r j = labelled r (spotAt (r .curve) (r .shape) j)
+abbrev pub drawnAt : Turn → ℕ → Geometry
+drawnAt t j = labelled t (spotAt (t .arrow .curve) (t .arrow .shape) j)
 
-unfoldable pub boxAt : Routed → ℕ → Rect
-boxAt r j = drawnAt r j .bounds
+unfoldable pub boxAt : Turn → ℕ → Rect
+boxAt t j = drawnAt t j .bounds
 
 -- "every listed place .. gets its full cost"
-abbrev pub placeCost : Scene → Routed → ℕ → ℕ
-placeCost s r j = boxCost s (r .edge) (boxAt r j)
+abbrev pub placeCost : Scene → Turn → ℕ → ℕ
+placeCost s t j = boxCost s (t .edge) (boxAt t j)
 
 -- "The first that no other undercuts is taken"
-unfoldable pub taken : Scene → Routed → ℕ
-taken s r = best (placeCost s r) (places r)
+unfoldable pub taken : Scene → Turn → ℕ
+taken s t = best (placeCost s t) (places t)
 
-abbrev pub placed : Scene → Routed → Geometry
-placed s r = drawnAt r (taken s r)
+abbrev pub placed : Scene → Turn → Geometry
+placed s t = drawnAt t (taken s t)
 
--- "what `geometry` adds before the next turn goes into the scene"
-abbrev pub withBox : Scene → Rect → Scene
-withBox s b = record { centres = s .centres; traces = s .traces; boxes = s .boxes ++ (b ∷ []) }
-
-abbrev pub after : Scene → Routed → Scene
-after s r = withBox s (placed s r .bounds)
+-- the scene of the next turn
+abbrev pub after : Scene → Turn → Scene
+after s t = withBox s (placed s t .bounds)
 
 -- ---- what holds of it
 
 -- the place taken is the first least of those listed, by full cost
-pub taken-least : (s : Scene) (r : Routed) → FirstLeast (placeCost s r) (places r) (taken s r)
+pub taken-least : (s : Scene) (t : Turn) → FirstLeast (placeCost s t) (places t) (taken s t)
 unfolding taken
-taken-least s r = by-shape (r .shape) (spot-count (r .curve) (r .shape))
+taken-least s t = by-shape (t .arrow .shape) (spot-count (t .arrow .curve) (t .arrow .shape))
   where
-    by-shape : (h : Shape) → places r ≡ spotCount h → FirstLeast (placeCost s r) (places r) (best (placeCost s r) (places r))
-    by-shape Line e = rw e (best-is (placeCost s r) 9)
-    by-shape (Arc outer) e = rw e (best-is (placeCost s r) 5)
-    by-shape (Loop out) e = rw e (best-is (placeCost s r) 0)
+    by-shape : (h : Shape) → places t ≡ spotCount h → FirstLeast (placeCost s t) (places t) (best (placeCost s t) (places t))
+    by-shape Line e = rw e (best-is (placeCost s t) 9)
+    by-shape (Arc outer) e = rw e (best-is (placeCost s t) 5)
+    by-shape (Loop out) e = rw e (best-is (placeCost s t) 0)
 
 -- "A start arrow is a trace owned by no arrow": it is foreign to every arrow
 pub start-foreign : (t : Trace) (own : ℕ) → t .owner ≡ nobody → foreign own t ≡ true

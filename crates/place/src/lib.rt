@@ -3,7 +3,7 @@
 use shape::Rect;
 use shape::V;
 use spot::Geometry;
-use spot::Routed;
+use spot::Turn;
 ghost use mathlib.Core.Path.{_≡_};
 ghost use mathlib.Core.Bool.{cond};
 ghost use mathlib.Core.List.{[], _∷_, _++_, map};
@@ -224,13 +224,14 @@ fn better(f: Found, c: usize, j: usize) -> Found
 }
 
 // The arrow with its label at place j.
-fn drawn_at(r: Routed, up: V, j: usize) -> Geometry
-    requires { ⌜ (up ≡ upper (r .curve)) × (j < spotCount (r .shape)) ⌝ }
-    ensures { λ g. ⌜ g ≡ T.drawnAt r j ⌝ }
+fn drawn_at(t: Turn, up: V, j: usize) -> Geometry
+    requires { ⌜ (up ≡ upper (t .arrow .curve)) × (j < spotCount (t .arrow .shape)) ⌝ }
+    ensures { λ g. ⌜ g ≡ T.drawnAt t j ⌝ }
 {
-    let curve = r.curve;
-    let shape = r.shape;
-    spot::labelled(r, spot::spot_at(curve, shape, up, j))
+    let arrow = t.arrow;
+    let curve = arrow.curve;
+    let shape = arrow.shape;
+    spot::labelled(t, spot::spot_at(curve, shape, up, j))
 }
 
 // The place that the label takes: of those listed, the first that no other undercuts.
@@ -241,22 +242,23 @@ pub fn take_spot(
     nb: usize,
     traces: &[f64],
     nt: usize,
-    r: Routed,
+    t: Turn,
     up: V,
 ) -> usize
-    requires { ⌜ (length (now ys) ≡ length (now xs)) × (4 * nb ≤ length (now boxes)) × (40 * nt ≤ length (now traces)) × (up ≡ upper (r .curve)) ⌝ }
-    ensures { λ j. ⌜ j ≡ T.taken (S.scene (now (xs .entry)) (now (ys .entry)) nb (now (boxes .entry)) nt (now (traces .entry))) r ⌝ }
+    requires { ⌜ (length (now ys) ≡ length (now xs)) × (4 * nb ≤ length (now boxes)) × (40 * nt ≤ length (now traces)) × (up ≡ upper (t .arrow .curve)) ⌝ }
+    ensures { λ j. ⌜ j ≡ T.taken (S.scene (now (xs .entry)) (now (ys .entry)) nb (now (boxes .entry)) nt (now (traces .entry))) t ⌝ }
 {
     let mut f = Found {
         limit: 18446744073709551615,
         place: 0,
     };
-    let shape = r.shape;
+    let arrow = t.arrow;
+    let shape = arrow.shape;
     let mut j: usize = 0;
     let mut left = spot::spot_count(shape);
     while 0 < left {
-        let g = drawn_at(r, up, j);
-        let c = box_cost(xs, ys, boxes, nb, traces, nt, r.edge, g.bounds, f.limit);
+        let g = drawn_at(t, up, j);
+        let c = box_cost(xs, ys, boxes, nb, traces, nt, t.edge, g.bounds, f.limit);
         f = better(f, c, j);
         if c == 0 {
             return f.place;
@@ -275,13 +277,14 @@ pub fn take_place(
     nb: usize,
     traces: &[f64],
     nt: usize,
-    r: Routed,
+    t: Turn,
 ) -> Geometry
     requires { ⌜ (length (now ys) ≡ length (now xs)) × (4 * nb ≤ length (now boxes)) × (40 * nt ≤ length (now traces)) ⌝ }
-    ensures { λ g. ⌜ g ≡ T.placed (S.scene (now (xs .entry)) (now (ys .entry)) nb (now (boxes .entry)) nt (now (traces .entry))) r ⌝ }
+    ensures { λ g. ⌜ g ≡ T.placed (S.scene (now (xs .entry)) (now (ys .entry)) nb (now (boxes .entry)) nt (now (traces .entry))) t ⌝ }
 {
-    let curve = r.curve;
+    let arrow = t.arrow;
+    let curve = arrow.curve;
     let up = spot::upper(curve);
-    let j = take_spot(xs, ys, boxes, nb, traces, nt, r, up);
-    drawn_at(r, up, j)
+    let j = take_spot(xs, ys, boxes, nb, traces, nt, t, up);
+    drawn_at(t, up, j)
 }

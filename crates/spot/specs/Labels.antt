@@ -12,7 +12,7 @@ use Rattle.spot.specs.declared.Spot.{Spot}
 use Rattle.spot.specs.declared.Anchor.{Anchor}
 use Rattle.spot.specs.declared.Anchor.the-variants.{Start, Middle, End}
 use Rattle.spot.specs.declared.Placed.{Placed}
-use Rattle.spot.specs.declared.Routed.{Routed}
+use Rattle.spot.specs.declared.Turn.{Turn}
 use Rattle.spot.specs.declared.Geometry.{Geometry}
 
 abbrev pub placed : Float → Float → Anchor → Placed
@@ -50,18 +50,18 @@ leftOf End x w = x ⊖ w
 abbrev pub boxOf : Float → Float → Float → Float → Rect
 boxOf x0 y0 w h = rect x0 y0 (x0 ⊕ w) (y0 ⊕ h)
 
-abbrev pub drawn : Routed → Placed → Geometry
-drawn r p =
+abbrev pub drawn : Turn → Placed → Geometry
+drawn t p =
     record {
-      edge = r .edge;
-      curve = r .curve;
-      tip = end (r .curve);
-      angle = r .angle;
+      edge = t .edge;
+      curve = t .arrow .curve;
+      tip = end (t .arrow .curve);
+      angle = t .arrow .«tip_angle»;
       label = p .label;
       anchor = p .anchor;
-      bounds = boxOf (leftOf (p .anchor) (p .label .x) (r .width)) (p .label .y) (r .width) (r .height);
+      bounds = boxOf (leftOf (p .anchor) (p .label .x) (t .width)) (p .label .y) (t .width) (t .height);
     }
 
 -- the drawing of an arrow with its label beside a spot
-unfoldable pub labelled : Routed → Spot → Geometry
-labelled r s = drawn r (placeLabel (s .at) (s .side) (r .width) (r .height))
+unfoldable pub labelled : Turn → Spot → Geometry
+labelled t s = drawn t (placeLabel (s .at) (s .side) (t .width) (t .height))

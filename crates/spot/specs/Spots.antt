@@ -13,8 +13,8 @@ use Rattle.shape.specs.declared.«V».{«V»}
 use Rattle.shape.specs.declared.Curve.{Curve}
 use Rattle.shape.specs.Plane.{vec, mul, neg, left, unitOr}
 use Rattle.shape.specs.Curves.{at, tangent}
-use Rattle.spot.specs.declared.Shape.{Shape}
-use Rattle.spot.specs.declared.Shape.the-variants.{Line, Arc, Loop}
+use Rattle.bow.specs.declared.Shape.{Shape}
+use Rattle.bow.specs.declared.Shape.the-variants.{Line, Arc, Loop}
 use Rattle.spot.specs.declared.Spot.{Spot}
 
 -- ---- sides

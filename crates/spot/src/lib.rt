@@ -1,4 +1,6 @@
 // Where the label of an arrow may go, and the drawing of the arrow with its label there.
+use bow::Routed;
+use bow::Shape;
 use shape::Curve;
 use shape::Rect;
 use shape::V;
@@ -7,14 +9,6 @@ ghost use Prim.Native.Nat.{_<_};
 ghost use lib.ListN.{getD, length};
 ghost use Rattle.spot.specs.Spots as S;
 ghost use Rattle.spot.specs.Labels as L;
-
-// Which way the label of an arrow may go: on either side of a straight one, mostly to the outside of an arc (outer is 1 where
-// it is bent to the left, -1 to the right), outwards from a loop.
-pub enum Shape {
-    Line,
-    Arc(f64),
-    Loop(V),
-}
 
 // A point on the curve, and the side to put the label on.
 pub struct Spot {
@@ -34,12 +28,10 @@ pub struct Placed {
     pub anchor: Anchor,
 }
 
-// An arrow whose curve is fixed and whose label, of this size, is still to be placed.
-pub struct Routed {
+// What the turn of an arrow is given: its number, its curve, and the size of the label that is to be placed.
+pub struct Turn {
     pub edge: usize,
-    pub curve: Curve,
-    pub angle: f64,
-    pub shape: Shape,
+    pub arrow: Routed,
     pub width: f64,
     pub height: f64,
 }
@@ -222,26 +214,27 @@ fn left_of(anchor: Anchor, x: f64, w: f64) -> f64
 }
 
 // The drawing of an arrow with its label beside a spot.
-pub fn labelled(r: Routed, spot: Spot) -> Geometry
-    ensures { λ g. ⌜ g ≡ L.labelled r spot ⌝ }
+pub fn labelled(t: Turn, spot: Spot) -> Geometry
+    ensures { λ g. ⌜ g ≡ L.labelled t spot ⌝ }
 {
-    let p = place_label(spot.at, spot.side, r.width, r.height);
-    let curve = r.curve;
+    let p = place_label(spot.at, spot.side, t.width, t.height);
+    let arrow = t.arrow;
+    let curve = arrow.curve;
     let label = p.label;
     let anchor = p.anchor;
-    let x0 = left_of(anchor, label.x, r.width);
+    let x0 = left_of(anchor, label.x, t.width);
     Geometry {
-        edge: r.edge,
+        edge: t.edge,
         curve,
         tip: curve.end(),
-        angle: r.angle,
+        angle: arrow.tip_angle,
         label,
         anchor,
         bounds: Rect {
             x0,
             y0: label.y,
-            x1: x0 + r.width,
-            y1: label.y + r.height,
+            x1: x0 + t.width,
+            y1: label.y + t.height,
         },
     }
 }

@@ -12,7 +12,7 @@ labelled-requires : tie.Need-labelled-requires
 labelled-requires c κs = search needs
 
 returns : tie.Need-returns
-returns c = c .labelled .ensures ∙ ap (labelled (c .before .before .args .r)) (c .before .spot-at .ensures)
+returns c = c .labelled .ensures ∙ ap (labelled (c .before .before .before .args .t)) (c .before .spot-at .ensures)
 
 pub drawn-at-spec : {M : Type 1} → statement M
 drawn-at-spec = tie.close (tie.spec spot-at-requires labelled-requires returns)

@@ -17,11 +17,11 @@ take-spot-requires c κs = search needs
 
 drawn-at-requires : tie.Need-drawn-at-requires
 drawn-at-requires c κs =
-    let a = c .before .before .before .before .before .before .args in
-    (c .before .upper .ensures, taken-inside (scene (now (a .xs)) (now (a .ys)) (a .nb) (now (a .boxes)) (a .nt) (now (a .traces))) (a .r) (c .take-spot .result) (c .take-spot .ensures))
+    let a = c .before .before .before .before .before .before .before .args in
+    (c .before .upper .ensures, taken-inside (scene (now (a .xs)) (now (a .ys)) (a .nb) (now (a .boxes)) (a .nt) (now (a .traces))) (a .t) (c .take-spot .result) (c .take-spot .ensures))
 
 returns : tie.Need-returns
-returns c = c .drawn-at .ensures ∙ ap (λ (j : ℕ). drawnAt (c .before .before .before .before .before .before .before .args .r) j) (c .before .take-spot .ensures)
+returns c = c .drawn-at .ensures ∙ ap (λ (j : ℕ). drawnAt (c .before .before .before .before .before .before .before .before .args .t) j) (c .before .take-spot .ensures)
 
 pub take-place-spec : {M : Type 1} → statement M
 take-place-spec = tie.close (tie.spec upper-requires take-spot-requires drawn-at-requires returns)

@@ -14,36 +14,36 @@ use Rattle.place.proofs.take_spot.Statement.{statement}
 use Rattle.place.proofs.take_spot.Tie as tie
 
 abbrev Inv-loop : tie.InvT-loop
-Inv-loop xs ys boxes nb traces nt r up f₀ j₀ left₀ f j left =
-    (search-from (λ l i. cutCost (scene xs ys nb boxes nt traces) (r .edge) l (boxAt r i)) left j (f .limit) (f .place) ≡ taken (scene xs ys nb boxes nt traces) r) × (j + left ≡ spotCount (r .shape))
+Inv-loop xs ys boxes nb traces nt t up f₀ j₀ left₀ f j left =
+    (search-from (λ l i. cutCost (scene xs ys nb boxes nt traces) (t .edge) l (boxAt t i)) left j (f .limit) (f .place) ≡ taken (scene xs ys nb boxes nt traces) t) × (j + left ≡ spotCount (t .arrow .shape))
 
 abbrev μ-loop : tie.MeasureT-loop
-μ-loop xs ys boxes nb traces nt r up f₀ j₀ left₀ f j left = left
+μ-loop xs ys boxes nb traces nt t up f₀ j₀ left₀ f j left = left
 
 spot-count-requires : tie.Need-spot-count-requires Inv-loop μ-loop
 spot-count-requires c κs = tt
 
 loop-holds : tie.Need-loop-holds Inv-loop μ-loop
 loop-holds c =
-    let a = c .before .before .before .before .before .args in
-    (early-is (now (a .xs)) (now (a .ys)) (a .nb) (now (a .boxes)) (a .nt) (now (a .traces)) (c .before .before .before .before .before .pre .0) 18446744073709551615 (omega arith) (a .r) (c .spot-count .result) (count-is (a .r) (c .spot-count .result) (c .spot-count .ensures)), omega arith)
+    let a = c .before .before .before .before .before .before .args in
+    (early-is (now (a .xs)) (now (a .ys)) (a .nb) (now (a .boxes)) (a .nt) (now (a .traces)) (c .before .before .before .before .before .before .pre .0) 18446744073709551615 (omega arith) (a .t) (c .spot-count .result) (count-is (a .t) (c .spot-count .result) (c .spot-count .ensures)), omega arith)
 
 drawn-at-requires : tie.Need-drawn-at-requires Inv-loop μ-loop
-drawn-at-requires c κs = (c .before .before .before .before .before .before .before .pre .3, omega arith)
+drawn-at-requires c κs = (c .before .before .before .before .before .before .before .before .pre .3, omega arith)
 
 box-cost-requires : tie.Need-box-cost-requires Inv-loop μ-loop
-box-cost-requires c κs = (c .before .before .before .before .before .before .before .before .pre .0, c .before .before .before .before .before .before .before .before .pre .1, c .before .before .before .before .before .before .before .before .pre .2)
+box-cost-requires c κs = (c .before .before .before .before .before .before .before .before .before .pre .0, c .before .before .before .before .before .before .before .before .before .pre .1, c .before .before .before .before .before .before .before .before .before .pre .2)
 
 better-requires : tie.Need-better-requires Inv-loop μ-loop
 better-requires c κs = tt
 
 returns : tie.Need-returns Inv-loop μ-loop
 returns c =
-    let a = c .before .before .before .before .before .before .before .before .before .before .before .args in
+    let a = c .before .before .before .before .before .before .before .before .before .before .before .before .args in
     let s : Scene = scene (now (a .xs)) (now (a .ys)) (a .nb) (now (a .boxes)) (a .nt) (now (a .traces)) in
     let l = c .before .before .before .before .before .loop in
-    stop-at (λ m i. cutCost s (a .r .edge) m (boxAt (a .r) i)) (l .left) (l .j) (l .f .limit) (l .f .place) (c .before .before .box-cost .result) (c .before .better .result .limit) (c .before .better .result .place) (c .before .before .before .before .loop-test .taken)
-    (c .before .before .box-cost .ensures .0 ∙ ap (cutCost s (a .r .edge) (l .f .limit)) (box-is (a .r) (l .j) (c .before .before .before .drawn-at .result) (c .before .before .before .drawn-at .ensures))) (c .before .better .ensures .0) (c .before .better .ensures .1) (c .if1 .taken) ∙ l .inv .0
+    stop-at (λ m i. cutCost s (a .t .edge) m (boxAt (a .t) i)) (l .left) (l .j) (l .f .limit) (l .f .place) (c .before .before .box-cost .result) (c .before .better .result .limit) (c .before .better .result .place) (c .before .before .before .before .loop-test .taken)
+    (c .before .before .box-cost .ensures .0 ∙ ap (cutCost s (a .t .edge) (l .f .limit)) (box-is (a .t) (l .j) (c .before .before .before .drawn-at .result) (c .before .before .before .drawn-at .ensures))) (c .before .better .ensures .0) (c .before .better .ensures .1) (c .if1 .taken) ∙ l .inv .0
 
 add-j : tie.Need-add-j Inv-loop μ-loop
 add-j c = omega arith
@@ -56,20 +56,20 @@ loop-less c = omega arith
 
 loop-again : tie.Need-loop-again Inv-loop μ-loop
 loop-again c =
-    let a = c .before .before .before .before .before .before .before .before .before .before .before .args in
+    let a = c .before .before .before .before .before .before .before .before .before .before .before .before .args in
     let s : Scene = scene (now (a .xs)) (now (a .ys)) (a .nb) (now (a .boxes)) (a .nt) (now (a .traces)) in
     let l = c .before .before .before .before .before .loop in (
-      turn-at (λ m i. cutCost s (a .r .edge) m (boxAt (a .r) i)) (l .left) (l .j) (l .f .limit) (l .f .place) (c .before .before .box-cost .result) (c .before .better .result .limit) (c .before .better .result .place) (c .before .before .before .before .loop-test .taken)
-          (c .before .before .box-cost .ensures .0 ∙ ap (cutCost s (a .r .edge) (l .f .limit)) (box-is (a .r) (l .j) (c .before .before .before .drawn-at .result) (c .before .before .before .drawn-at .ensures))) (c .before .better .ensures .0) (c .before .better .ensures .1) (c .if1 .left) ∙ l .inv .0,
+      turn-at (λ m i. cutCost s (a .t .edge) m (boxAt (a .t) i)) (l .left) (l .j) (l .f .limit) (l .f .place) (c .before .before .box-cost .result) (c .before .better .result .limit) (c .before .better .result .place) (c .before .before .before .before .loop-test .taken)
+          (c .before .before .box-cost .ensures .0 ∙ ap (cutCost s (a .t .edge) (l .f .limit)) (box-is (a .t) (l .j) (c .before .before .before .drawn-at .result) (c .before .before .before .drawn-at .ensures))) (c .before .better .ensures .0) (c .before .better .ensures .1) (c .if1 .left) ∙ l .inv .0,
       omega arith,
     )
 
 returns-2 : tie.Need-returns-2 Inv-loop μ-loop
 returns-2 c =
-    let a = c .before .before .before .before .before .before .before .args in
+    let a = c .before .before .before .before .before .before .before .before .args in
     let s : Scene = scene (now (a .xs)) (now (a .ys)) (a .nb) (now (a .boxes)) (a .nt) (now (a .traces)) in
     let l = c .before .loop in
-    search-end (λ m i. cutCost s (a .r .edge) m (boxAt (a .r) i)) (l .left) (l .j) (l .f .limit) (l .f .place) (c .loop-test .left) ∙ l .inv .0
+    search-end (λ m i. cutCost s (a .t .edge) m (boxAt (a .t) i)) (l .left) (l .j) (l .f .limit) (l .f .place) (c .loop-test .left) ∙ l .inv .0
 
 pub take-spot-spec : {M : Type 1} → statement M
 take-spot-spec =

@@ -15,7 +15,7 @@ end-requires c κs = search needs
 
 returns : tie.Need-returns
 unfolding labelled
-returns c = rw (c .before .before .before .end .ensures, c .before .before .before .before .left-of .ensures, ← (c .before .before .before .before .before .before .place-label .ensures))
+returns c = rw (c .before .before .before .end .ensures, c .before .before .before .before .left-of .ensures, ← (c .before .before .before .before .before .before .before .place-label .ensures))
 
 pub labelled-spec : {M : Type 1} → statement M
 labelled-spec = tie.close (tie.spec place-label-requires left-of-requires end-requires returns)
