@@ -72,7 +72,7 @@ unfolding arc arcSeries root rootOf rootBits Rattle.root.specs.Root.nearestRoot
 arc-zero = refl
 
 -- at y = 0 the quarter's angle is 0, so the answer is 0 for an x that is not negative and PI for one that is, with y's sign
-not-below : (x : Float) → negative x ≡ false → lt x f0 ≡ false
+pub not-below : (x : Float) → negative x ≡ false → lt x f0 ≡ false
 unfolding Ieee.lt ofBits
 not-below nan s = refl
 not-below (inf t) s = s

@@ -5,3 +5,5 @@ pub mod Signs
 pub mod Rounding
 pub mod Laws
 pub mod RootLaws
+pub mod TotalOrder
+pub mod RootNearest
