@@ -26,18 +26,23 @@ module _ (c : Chord) (ps : List «V») (l : List Span) where
     up-is : u ≡ pairUp c l
     up-is = eu ∙ ap (firstFree f1 l) eb
 
+    test : lt f1e9 u ≡ lt f1e9 (pairUp c l)
+    test = ap (lt f1e9) up-is
+
     pub pair-beyond : lt f1e9 u ≡ true → Beyond ≡ pairBow c ps l
     unfolding pairBow
-    pair-beyond t = rw (← up-is, t)
+    pair-beyond t = sym (rw (sym test ∙ t))
 
     pub pair-offset : (v : Float) → lt f1e9 u ≡ false → v ≡ verified (clearance c ps) (pairBows u) → Offset v ≡ pairBow c ps l
     unfolding pairBow
-    pair-offset v t e = rw (← up-is, t, e)
+    pair-offset v t e =
+        let w : v ≡ verified (clearance c ps) (pairBows (pairUp c l)) = e ∙ ap (λ (x : Float). verified (clearance c ps) (pairBows x)) up-is in
+        rw (sym test ∙ t) (ap Offset w)
 
   -- a single arrow: m is the cap, u and d the first free bows, high and low the same capped, au and ad their sizes
   module _ (m u d high low au ad : Float) (em : m ≡ cap c) (eu : u ≡ singleUp l) (ed : d ≡ singleDown l) (eh : high ≡ capped m u) (el : low ≡ capped m d) (ea : au ≡ abs u) (eb : ad ≡ abs d) where
-    test : lt (ad ⊕ f1e-9) au ≡ downFirst l
-    test = ap₂ (λ (x y : Float). lt (x ⊕ f1e-9) y) (eb ∙ ap abs ed) (ea ∙ ap abs eu)
+    order : lt (ad ⊕ f1e-9) au ≡ downFirst l
+    order = ap₂ (λ (x y : Float). lt (x ⊕ f1e-9) y) (eb ∙ ap abs ed) (ea ∙ ap abs eu)
 
     high-is : high ≡ capped (cap c) (singleUp l)
     high-is = eh ∙ ap₂ capped em eu
@@ -47,11 +52,11 @@ module _ (c : Chord) (ps : List «V») (l : List Span) where
 
     pub down-first : (v : Float) → lt (ad ⊕ f1e-9) au ≡ true → v ≡ verified (clearance c ps) (low ∷ high ∷ []) → v ≡ singleBow c ps l
     unfolding singleBow
-    down-first v t e = e ∙ ap₂ (λ (x y : Float). verified (clearance c ps) (x ∷ y ∷ [])) low-is high-is ∙ sym (rw (sym test ∙ t))
+    down-first v t e = e ∙ ap₂ (λ (x y : Float). verified (clearance c ps) (x ∷ y ∷ [])) low-is high-is ∙ sym (rw (sym order ∙ t))
 
     pub up-first : (v : Float) → lt (ad ⊕ f1e-9) au ≡ false → v ≡ verified (clearance c ps) (high ∷ low ∷ []) → v ≡ singleBow c ps l
     unfolding singleBow
-    up-first v t e = e ∙ ap₂ (λ (x y : Float). verified (clearance c ps) (x ∷ y ∷ [])) high-is low-is ∙ sym (rw (sym test ∙ t))
+    up-first v t e = e ∙ ap₂ (λ (x y : Float). verified (clearance c ps) (x ∷ y ∷ [])) high-is low-is ∙ sym (rw (sym order ∙ t))
 
 -- the arrow between two states: c is its chord, b its bow
 module _ (ps : List «V») (from to : ℕ) (t : Bool) (c : Chord) (b : Bent) (ec : c ≡ chord ps from to) (eb : b ≡ bend c ps t) where

@@ -18,6 +18,15 @@ use Rattle.bow.specs.declared.Bent.{Bent}
 use Rattle.bow.specs.declared.Bent.the-variants.{Offset, Beyond}
 use Rattle.bow.specs.Clear.{clearance, verified}
 
+-- ---- the cap, for single arrows only
+
+-- at most 1.5 times the distance, or 160 where that is more
+abbrev pub cap : Chord → Float
+cap c = max (f1-5 ⊗ c .len) f160
+
+abbrev pub capped : Float → Float → Float
+capped most h = cond (lt most (abs h)) (copysign most h) h
+
 -- ---- two states joined in both directions
 
 -- 0.3 of the distance, from 28 to 64
@@ -36,13 +45,6 @@ unfoldable pub pairBow : Chord → List «V» → List Span → Bent
 pairBow c ps l = cond (lt f1e9 (pairUp c l)) Beyond (Offset (verified (clearance c ps) (pairBows (pairUp c l))))
 
 -- ---- a single arrow
-
--- at most 1.5 times the distance, or 160 where that is more
-abbrev pub cap : Chord → Float
-cap c = max (f1-5 ⊗ c .len) f160
-
-abbrev pub capped : Float → Float → Float
-capped most h = cond (lt most (abs h)) (copysign most h) h
 
 -- the first free bow upwards from 24, and downwards from −24
 abbrev pub singleUp : List Span → Float

@@ -40,7 +40,7 @@ moves dir l h = movesOf dir l (suc (length l)) h
 -- ---- one move
 
 -- whether t lies ahead of h, upwards or downwards
-pub ahead : Bool → Float → Float → Bool
+unfoldable pub ahead : Bool → Float → Float → Bool
 ahead true h t = lt h t
 ahead false h t = lt t h
 
