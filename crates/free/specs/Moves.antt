@@ -191,13 +191,13 @@ module _ (dir : Float) (l : List Span) where
 
   pub free-still : (h : Float) → pass dir l h .moved ≡ false → firstFree dir l h ≡ pass dir l h .h
   unfolding firstFree
-  free-still h e = last (length l) h e
+  free-still h e = last _ h e
 
   pub free-moved : (h : Float) → pass dir l h .moved ≡ true → firstFree dir l h ≡ firstFree dir l (pass dir l h .h)
   unfolding firstFree
   free-moved h e =
-      one-more (length l) h e
-      ∙ enough (length l) (suc (length l)) (pass dir l h .h) (omega (arith, pass-falls h e, left-bound dir l h)) (omega (arith, pass-falls h e, left-bound dir l h))
+      one-more _ h e
+      ∙ enough _ _ (pass dir l h .h) (omega (arith, pass-falls h e, left-bound dir l h)) (omega (arith, pass-falls h e, left-bound dir l h))
 
   passes-free : (m : ℕ) (h : Float) → left dir l h < m → holds l (passes dir l m h) ≡ false
   passes-free zero h p = absurd (omega arith)

@@ -1,4 +1,5 @@
 -- `free::visit` meets its contract.
+use mathlib.Core.Path.{refl}
 use Rattle.free.specs.Free.{visit}
 use borrow.Author.Needs.{needs}
 use Rattle.free.proofs.visit.Statement.{statement}
@@ -9,11 +10,11 @@ inside-requires c κs = search needs
 
 returns : tie.Need-returns
 unfolding visit
-returns c = rw (← (c .before .before .inside .ensures), c .before .if1 .taken, c .if2 .taken)
+returns c = rw (← (c .before .before .inside .ensures), c .before .if1 .taken, c .if2 .taken) refl
 
 returns-2 : tie.Need-returns-2
 unfolding visit
-returns-2 c = rw (← (c .before .before .inside .ensures), c .before .if1 .taken, c .if2 .left)
+returns-2 c = rw (← (c .before .before .inside .ensures), c .before .if1 .taken, c .if2 .left) refl
 
 returns-3 : tie.Need-returns-3
 unfolding visit
