@@ -21,7 +21,7 @@ pub fn note_bow(both_ways: bool, up: f64) -> f64 {
 }
 
 /// What `f` draws, or 9 where a two-way pair's first free bow exceeds 10^9.
-fn bowed<T>(f: impl FnOnce() -> T) -> Result<T, u8> {
+pub fn bowed<T>(f: impl FnOnce() -> T) -> Result<T, u8> {
     LARGEST_BOW.set(0.0);
     let answer = f();
     if LARGEST_BOW.get() > 1e9 { Err(9) } else { Ok(answer) }

@@ -4,6 +4,7 @@
 //! payload: the arguments and then the oracle's answer. A float is its eight bytes, the least
 //! first. The stream ends with a case of kind 0, whose payload is the number of cases before it.
 
+mod bows;
 mod float;
 mod shapes;
 mod sheets;
@@ -78,13 +79,16 @@ pub mod kind {
     pub const TRACE: u8 = 38;
     pub const TRACE_HITS: u8 = 39;
     pub const TRACES_CROSS: u8 = 40;
+    pub const BEND: u8 = 41;
+    pub const BETWEEN: u8 = 42;
+    pub const FIRST_FREE: u8 = 43;
     /// A kind and its payload with another answer.
     pub const SPOILED: u8 = 255;
 }
 
 /// Whether the program `vectors` replays cases of this kind.
 fn replayed(kind: u8) -> bool {
-    matches!(kind, 0..=18 | 21..=37 | kind::SPOILED)
+    matches!(kind, 0..=43 | kind::SPOILED)
 }
 
 /// A case's payload as it is put together.
@@ -180,6 +184,7 @@ pub fn write(file: &str) {
     sheets::cases(&mut out);
     texts::cases(&mut out);
     shapes::cases(&mut out);
+    bows::cases(&mut out);
     for (kind, count) in &out.kinds {
         println!("kind {kind}: {count}");
     }

@@ -6,11 +6,11 @@ use shape::Curve;
 use shape::Rect;
 use shape::V;
 
-fn after(at: usize, n: usize) -> usize {
+pub fn after(at: usize, n: usize) -> usize {
     std::num::wrapping_add_usize(at, n)
 }
 
-fn point(p: &[u8], at: usize) -> V {
+pub fn point(p: &[u8], at: usize) -> V {
     V::new(float(p, at), float(p, after(at, 8)))
 }
 
@@ -43,6 +43,29 @@ fn same_point(p: &[u8], at: usize, v: V) -> bool {
         return false;
     }
     same_float(p, after(at, 8), v.y)
+}
+
+fn same_three(p: &[u8], at: usize, a: V, b: V, c: V) -> bool {
+    if !same_point(p, at, a) {
+        return false;
+    }
+    if !same_point(p, after(at, 16), b) {
+        return false;
+    }
+    same_point(p, after(at, 32), c)
+}
+
+// Whether a curve stands there; points that it does not have are 0, 0.
+pub fn same_curve(p: &[u8], at: usize, k: Curve) -> bool {
+    let n = replay::byte(p, at);
+    let o = V::new(0.0, 0.0);
+    let first = after(at, 1);
+    match k {
+        Curve::Line(a, b) => n == 2 && same_three(p, first, a, b, o),
+        Curve::Quad(a, c, b) => n == 3 && same_three(p, first, a, c, b),
+        Curve::Cubic(a, c, d, b) => n == 4
+            && (same_three(p, first, a, c, d) && same_point(p, after(at, 49), b)),
+    }
 }
 
 pub fn same_rect(p: &[u8], at: usize, r: Rect) -> bool {

@@ -1,5 +1,6 @@
-// Cases of text that is written: the arguments; the room that is lent, a byte; 0 or the refusal's
-// number, a byte; and the text. What is lent holds 170 in every byte before the call.
+// Cases of text that is written. What is lent holds 170 in every byte before the call. A number:
+// the argument; the room that is lent, a byte; 0 or the refusal's number, a byte; and the text. A
+// path or an arrowhead: the arguments and the text.
 use number::Written;
 use replay::byte;
 use replay::float;
@@ -59,4 +60,35 @@ pub fn number_agrees(p: &[u8]) -> bool {
     }
     let mut out = [170u8; 32];
     number_in(p, &mut out[..room])
+}
+
+// Whether the n bytes written are the text that stands in the case from a place on.
+fn text_is(out: &[u8], n: usize, p: &[u8], from: usize) -> bool {
+    if p.len() < from {
+        return false;
+    }
+    if n != p.len() - from {
+        return false;
+    }
+    holds(out, &p[from..])
+}
+
+fn path_in(p: &[u8], out: &mut [u8]) -> bool {
+    let n = svg::put_path(out, 0, replay_shape::curve(p, 0));
+    text_is(out, n, p, 65)
+}
+
+pub fn path_agrees(p: &[u8]) -> bool {
+    let mut out = [170u8; 200];
+    path_in(p, &mut out)
+}
+
+fn arrowhead_in(p: &[u8], out: &mut [u8]) -> bool {
+    let n = svg::put_arrowhead(out, 0, replay_shape::point(p, 0), float(p, 16));
+    text_is(out, n, p, 24)
+}
+
+pub fn arrowhead_agrees(p: &[u8]) -> bool {
+    let mut out = [170u8; 200];
+    arrowhead_in(p, &mut out)
 }

@@ -62,13 +62,24 @@ fn agrees(kind: u8, p: &[u8]) -> bool {
     if kind == 17 {
         return replay_label::agrees(p);
     }
-    if kind == 18 {
-        return replay_text::number_agrees(p);
+    if kind < 21 {
+        return text_agrees(kind, p);
     }
-    if kind > 20 {
+    if kind < 38 {
         return replay_shape::agrees(kind, p);
     }
-    false
+    if kind < 41 {
+        return replay_trace::agrees(kind, p);
+    }
+    replay_bow::agrees(kind, p)
+}
+
+fn text_agrees(kind: u8, p: &[u8]) -> bool {
+    match kind {
+        18 => replay_text::number_agrees(p),
+        19 => replay_text::path_agrees(p),
+        _ => replay_text::arrowhead_agrees(p),
+    }
 }
 
 // A spoiled case is a kind and its payload with another answer; there the program must not agree.

@@ -31,11 +31,11 @@ fn name(kind: u8) {
     if kind == 255 {
         return say(b"spoiled             ");
     }
-    if kind > 40 {
+    if kind > 43 {
         return say(b"no such kind        ");
     }
     entry(
-        b"none                root                hypot               midpoint            rem_euclid          sin                 cos                 atan2               min                 max                 round               abs                 clamp               signum              copysign            total_cmp           check               label block         written number      path                arrowhead           polar               dot                 len                 angle               unit_or             left                dist                overlaps            spanning            grown               touches             dist to a box       at                  tangent             start and end       segment_hits_rect   segments_cross      trace               trace hits_rect     traces cross        ",
+        b"none                root                hypot               midpoint            rem_euclid          sin                 cos                 atan2               min                 max                 round               abs                 clamp               signum              copysign            total_cmp           check               label block         written number      path                arrowhead           polar               dot                 len                 angle               unit_or             left                dist                overlaps            spanning            grown               touches             dist to a box       at                  tangent             start and end       segment_hits_rect   segments_cross      trace               trace hits_rect     traces cross        bend                between             first_free          ",
         20 * wide(kind),
     )
 }
