@@ -1,0 +1,4 @@
+pub mod Directions
+pub mod Loop
+pub mod Steps
+pub mod Lengths
