@@ -198,13 +198,14 @@ pub fn ill_formed(s: &[u8]) -> bool
     false
 }
 
-// The number of states and of arrows.
+// The number of states.
 pub fn state_count(s: &[u8]) -> usize
     ensures { λ r. ⌜ r ≡ length (S.statesOf (now (s .entry))) ⌝ }
 {
     chain_length(s, word_at(s, 4))
 }
 
+// The number of arrows.
 pub fn arrow_count(s: &[u8]) -> usize
     ensures { λ r. ⌜ r ≡ length (S.arrowsOf (now (s .entry))) ⌝ }
 {

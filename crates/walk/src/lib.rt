@@ -190,16 +190,3 @@ pub fn check_within(sheet: &[u8], m: Limits) -> Checked
     }
     Checked::Accepted
 }
-
-// Whether a sheet is one for the main screen, or the number of the refusal.
-pub fn check(sheet: &[u8]) -> Checked
-    ensures { λ r. ⌜ r ≡ R.checkOf R.mainScreen (now (sheet .entry)) ⌝ }
-{
-    let m = Limits {
-        states: 64,
-        arrows: 256,
-        lines: 8,
-        bytes: 96,
-    };
-    check_within(sheet, m)
-}
