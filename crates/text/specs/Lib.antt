@@ -3,4 +3,5 @@ pub mod Automaton
 pub mod Table
 pub mod Codes
 pub mod Encode
+pub mod Encoded
 pub mod Digits
