@@ -8,7 +8,9 @@ use native.Mathlib.Nat.{le-refl}
 use native.Mathlib.Omega.{arith}
 use lib.Dec.{leb, ltb, eqb}
 use lib.ListN.{length, length-append}
-use lib.Ieee.{Float}
+use lib.Ieee.{Float, nan, inf, fin, ofBits}
+use lib.Ieee as Ieee
+use lib.Ieee.Scale.{finite}
 use borrow.Author.Tests.{eqb-true, eqb-false, leb-true, le-leb, lt-leb, ne-eqb, eq-eqb, ltb-true, ltb-false}
 use Rattle.laws.specs.Cases.{by-bool}
 use Rattle.laws.specs.Loops.{over}
@@ -272,6 +274,15 @@ num-zero v e = go (negative v) (sizeOf v) e
     go : (s : Bool) (n : ℕ) → n ≡ 0 → decimal (signed s n) ≡ 48 ∷ []
     go true n e = rw e
     go false n e = rw e
+
+-- "not finite gives `0`": infinities of both signs and NaN
+pub not-finite-zero : (v : Float) → finite v ≡ false → numText v ≡ 48 ∷ []
+not-finite-zero v e = num-zero v (none v e)
+  where
+    none : (v : Float) → finite v ≡ false → sizeOf v ≡ 0
+    none nan e = unfold sizeOf Ieee.lt ofBits in refl
+    none (inf s) e = unfold sizeOf Ieee.lt ofBits in refl
+    none (fin s m x) e = absurd (true≢false e)
 
 sizeRead : Option Read → ℕ
 sizeRead none = 0
