@@ -1,16 +1,16 @@
 -- What each call answers and what it leaves in the slices it is lent, from its inputs alone.
-use mathlib.Core.Bool.{not}
 use mathlib.Core.List.{List, [], _∷_, _++_}
 use Prim.Native.Nat.{ℕ}
-use lib.Dec.{ltb, eqb}
+use lib.Dec.{ltb}
 use lib.ListN.{length, drop}
 use lib.Ieee.{Float}
+use Rattle.laws.specs.Refusals.{Refusal, refusal, decide}
 use Rattle.sheet.specs.Refusals as R
-use Rattle.sheet.specs.Refusals.{Refusal, refusal, refusals, decide, any, illLine}
+use Rattle.sheet.specs.Refusals.{refusals}
 use Rattle.sheet.specs.declared.Limits.{Limits}
 use Rattle.sheet.specs.declared.Checked.{Checked}
 use Rattle.sheet.specs.declared.Checked.the-variants as C
-use Rattle.label.specs.Label.{cut, total, blockWidth, blockHeight}
+use Rattle.label.specs.Label.{labelRefusals, cut, blockWidth, blockHeight}
 use Rattle.label.specs.declared.Sized.{Sized}
 use Rattle.label.specs.declared.Sized.the-variants as L
 use Rattle.number.specs.Number.{tooLarge, numText}
@@ -44,16 +44,8 @@ unfoldable pub check : List ℕ → Outcome (Unit {0})
 check s = decide (refusals mainScreen s) number (values tt)
 
 -- "A label block is given text bytes and a list of line lengths; it meets only 5 (also where the lengths do not add up to the text) and 6."
-abbrev pub labelRefusals : List ℕ → List ℕ → List Refusal
-labelRefusals text lengths =
-    refusal 5 (ltb (mainScreen .lines) (length lengths))
-    ∷ refusal 5 (any (ltb (mainScreen .bytes)) lengths)
-    ∷ refusal 5 (not (eqb (length text) (total lengths)))
-    ∷ refusal 6 (any illLine (cut text lengths))
-    ∷ []
-
 unfoldable pub labelSize : List ℕ → List ℕ → Outcome (Float × Float)
-labelSize text lengths = decide (labelRefusals text lengths) number (values (blockWidth (cut text lengths), blockHeight (length lengths)))
+labelSize text lengths = decide (labelRefusals mainScreen text lengths) number (values (blockWidth (cut text lengths), blockHeight (length lengths)))
 
 -- "a finite number of size 10^13 or more to be written" is 10; "a lent output shorter than the answer" 7; "Number 7 is last"
 abbrev pub numRefusals : Float → List ℕ → List Refusal

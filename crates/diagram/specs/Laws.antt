@@ -8,19 +8,14 @@ use lib.Dec.{ltb, leb}
 use lib.ListN.{length, drop}
 use lib.Ieee.{Float}
 use Rattle.laws.specs.Cases.{by-bool, by-lt}
-use Rattle.sheet.specs.Refusals.{Refusal, refusal, refusals, decide, checkOf}
+use Rattle.laws.specs.Refusals.{decide, decide-map}
+use Rattle.sheet.specs.Refusals.{refusals, checkOf}
 use Rattle.sheet.specs.declared.Checked.the-variants as C
-use Rattle.label.specs.Label.{cut, blockWidth, blockHeight, sized}
+use Rattle.label.specs.Label.{labelRefusals, cut, blockWidth, blockHeight, sized}
 use Rattle.label.specs.declared.Sized.the-variants as L
 use Rattle.number.specs.Number.{tooLarge, numText, written, writtenAfter}
 use Rattle.number.specs.declared.Written.the-variants as N
-use Rattle.diagram.specs.Calls.{Outcome, mainScreen, labelRefusals, checkedAs, sizedAs, writtenAs, check, labelSize, writeNum, writeNumAfter}
-
--- a decision read in another way
-pub decide-map : {A B : Type 0} (f : A → B) (rs : List Refusal) (refuse : ℕ → A) (answer : A) → f (decide rs refuse answer) ≡ decide rs (λ n. f (refuse n)) (f answer)
-unfolding decide
-decide-map f [] refuse answer = refl
-decide-map f (r ∷ rs) refuse answer = by-bool (r .cause) (λ t. rw t) (λ t. rw t (decide-map f rs refuse answer))
+use Rattle.diagram.specs.Calls.{mainScreen, checkedAs, sizedAs, writtenAs, check, labelSize, writeNum, writeNumAfter}
 
 pub check-is : (s : List ℕ) → checkedAs (checkOf mainScreen s) ≡ check s
 unfolding checkOf check
@@ -28,7 +23,7 @@ check-is s = decide-map checkedAs (refusals mainScreen s) C.Refused C.Accepted
 
 pub label-is : (text lengths : List ℕ) → sizedAs (sized mainScreen text lengths) ≡ labelSize text lengths
 unfolding sized labelSize
-label-is text lengths = decide-map sizedAs (labelRefusals text lengths) L.Refused (L.Size (blockWidth (cut text lengths)) (blockHeight (length lengths)))
+label-is text lengths = decide-map sizedAs (labelRefusals mainScreen text lengths) L.Refused (L.Size (blockWidth (cut text lengths)) (blockHeight (length lengths)))
 
 pub num-is : (v : Float) (out : List ℕ) → (writtenAs (written v (length out)) ≡ writeNum v out) × (writtenAfter v out ≡ writeNumAfter v out)
 unfolding written writtenAfter writeNum writeNumAfter decide

@@ -7,12 +7,13 @@ use lib.Dec.{ltb, eqb}
 use lib.ListN.{length, take, drop}
 use lib.Ieee.{Float, binary64, ofBits, round, mul}
 use Rattle.laws.specs.Loops.{over}
+use Rattle.laws.specs.Refusals.{Refusal, refusal, decide}
 use Rattle.float.specs.Ops.{_⊕_, _⊗_, count}
 use Rattle.float.specs.Constants.{f0, f12, f15, f0-6}
 use Rattle.float.specs.Standins.{max}
 use Rattle.text.specs.Utf8.{codePoints}
 use Rattle.sheet.specs.declared.Limits.{Limits}
-use Rattle.sheet.specs.Refusals.{any, refusal, decide, illLine}
+use Rattle.sheet.specs.Refusals.{any, illLine}
 use Rattle.label.specs.declared.Block.{Block}
 use Rattle.label.specs.declared.Sized.{Sized}
 use Rattle.label.specs.declared.Sized.the-variants.{Size, Refused}
@@ -62,24 +63,13 @@ total (n ∷ ns) = n + total ns
 
 -- 'It meets only 5 (also where the lengths do not add up to the text) and 6': more lines, or more bytes in a line, than the limits;
 -- lengths that do not add up; then a line that is not well-formed UTF-8
-unfoldable pub sized : Limits → List ℕ → List ℕ → Sized
-sized m text lengths =
-    decide
-    (
+abbrev pub labelRefusals : Limits → List ℕ → List ℕ → List Refusal
+labelRefusals m text lengths =
     refusal 5 (ltb (m .lines) (length lengths))
     ∷ refusal 5 (any (ltb (m .bytes)) lengths)
     ∷ refusal 5 (not (eqb (length text) (total lengths)))
     ∷ refusal 6 (any illLine (cut text lengths))
     ∷ []
-    )
-    Refused
-    (Size (blockWidth (cut text lengths)) (blockHeight (length lengths)))
 
--- document 01's number and values for each case of the answer: 0 and the width and height, or the number of the refusal
-abbrev pub number : Sized → ℕ
-number (Size w h) = 0
-number (Refused n) = n
-
-abbrev pub values : Sized → List Float
-values (Size w h) = w ∷ h ∷ []
-values (Refused n) = []
+unfoldable pub sized : Limits → List ℕ → List ℕ → Sized
+sized m text lengths = decide (labelRefusals m text lengths) Refused (Size (blockWidth (cut text lengths)) (blockHeight (length lengths)))

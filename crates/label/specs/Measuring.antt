@@ -9,13 +9,14 @@ use lib.Ieee.{Float}
 use borrow.Author.Tests.{lt-ltb, le-ltb}
 use Rattle.laws.specs.Cases.{by-bool}
 use Rattle.laws.specs.Loops.{over, over-join}
+use Rattle.laws.specs.Refusals.{decide}
 use Rattle.float.specs.Constants.{f0}
 use Rattle.text.specs.Utf8.{wellFormed, codePoints}
 use Rattle.text.specs.Automaton.{feedOf, gatherOf, feedAll, readBy}
 use Rattle.text.specs.Table.{well-formed-is}
 use Rattle.text.specs.Codes.{read-codes}
 use Rattle.sheet.specs.declared.Limits.{Limits}
-use Rattle.sheet.specs.Refusals.{any, decide, illLine}
+use Rattle.sheet.specs.Refusals.{any, illLine}
 use Rattle.label.specs.declared.Measure.{Measure}
 use Rattle.label.specs.declared.Sized.{Sized}
 use Rattle.label.specs.declared.Sized.the-variants.{Size, Refused}

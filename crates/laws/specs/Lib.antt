@@ -16,3 +16,4 @@ pub mod Zip
 pub mod Filter
 pub mod Stable
 pub mod Counting
+pub mod Refusals

@@ -12,7 +12,7 @@ use Rattle.text.specs.Utf8.{wellFormed}
 use Rattle.sheet.specs.Sheet.{count, kindOf, byteOne, piece, Arrow, Graph, meaning}
 use Rattle.sheet.specs.Refusals.{any, wrongLength, wrongVersion, someSet, wrongRecord, wrongBytes, wrongChains, longLine, largeArrow, overLimits, illLine, illArrow, illFormed, mainScreen, checkOf}
 use Rattle.sheet.specs.Any.{or-left, or-right, or-none, none-at, none-all, none-up}
-use Rattle.sheet.specs.Order.{Verdict, by-1, by-2, by-3, by-4, by-5, by-6, by-none, verdict}
+use Rattle.sheet.specs.Order.{Verdict, by-1, by-2, by-3, by-4, by-5, by-6, by-none, verdict, verdict-is}
 use Rattle.sheet.specs.declared.Checked.{Checked}
 use Rattle.sheet.specs.declared.Checked.the-variants.{Accepted, Refused}
 use Rattle.sheet.specs.declared.Limits.{Limits}
@@ -55,6 +55,10 @@ sound-by q (by-none a b c d e f) = record { sized = a; versioned = b; bytes = c;
 
 pub sound : (m : Limits) (s : List ℕ) → checkOf m s ≡ Accepted → Sound m s
 sound m s q = sound-by q (verdict m s)
+
+-- A sheet is accepted exactly when none of the six causes holds.
+pub accepted-exactly : (m : Limits) (s : List ℕ) → (checkOf m s ≡ Accepted → Sound m s) × (Sound m s → checkOf m s ≡ Accepted)
+accepted-exactly m s = (sound m s, λ o. sym (verdict-is (by-none (o .sized) (o .versioned) (o .bytes) (o .chains) (o .limits) (o .formed))))
 
 -- arrow k of a graph, and its line j; empty ones past the end
 abbrev pub noArrow : Arrow

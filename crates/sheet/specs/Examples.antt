@@ -1,13 +1,17 @@
--- Sheets and their answers, at the main screen: a list, and one theorem over it. The numbers are document 01's; 0 is accepted.
+-- Sheets and their answers, at the main screen: a list, and one theorem over it. An answer is the number of the refusal; accepted, which has no number in document 01, is a 0 here.
 use mathlib.Core.Path.{_≡_, refl}
 use mathlib.Core.Bool.{Bool, true, false, _&&_, _||_}
 use mathlib.Core.List.{List, [], _∷_, _++_, flatMap}
-use Prim.Native.Nat.{ℕ, zero, suc, _+_, _-_, _*_, _/_, _%_}
+use Prim.Native.Nat.{ℕ, zero, suc, _+_, _-_, _*_, _/_, _%_, _≤_}
+use native.Mathlib.Omega.{arith}
 use lib.Dec.{T, eqb}
-use lib.ListN.{length, replicate}
+use lib.ListN.{length, getD, replicate}
+use borrow.Author.Tests.{eqb-false}
 use Rattle.laws.specs.Loops.{anyFor, anyUp, over}
-use Rattle.sheet.specs.Sheet.{chainBy, metLine, metArrow, met, lineOf, linesFrom, Arrow, Graph, arrowOf, statesOf, arrowsOf, meaning}
-use Rattle.sheet.specs.Refusals.{any, repeats, isSet, wrongRecord, wrongBytes, indices, wrongChains, largeArrow, overLimits, illArrow, illFormed, mainScreen, decide, checkOf}
+use Rattle.laws.specs.Refusals.{decide}
+use Rattle.sheet.specs.Sheet.{kindOf, byteOne, next, fromOf, toOf, firstLine, firstText, piece, chainBy, metLine, metArrow, met, lineOf, linesFrom, Arrow, Graph, arrowOf, statesOf, arrowsOf, meaning}
+use Rattle.sheet.specs.Refusals.{any, repeats, isSet, wrongRecord, wrongBytes, indices, wrongChains, largeArrow, overLimits, illArrow, illFormed, mainScreen, checkOf}
+use Rattle.sheet.specs.Renumber.{Renumbered}
 use Rattle.sheet.specs.declared.Checked.{Checked}
 use Rattle.sheet.specs.declared.Checked.the-variants.{Accepted, Refused}
 
@@ -88,8 +92,8 @@ examples =
     ∷ (header 1 1 0 gives 1)  -- a record is missing
     ∷ (2 ∷ zeros 15 gives 2)
     ∷ (header 1 1 0 ++ state 0 1 gives 3)  -- a record naming itself
-    ∷ (header 1 2 0 ++ state 0 0 gives 3)  -- an index above the count
-    ∷ (header 1 1 1 ++ state 0 0 gives 3)  -- a state in the chain of arrows
+    ∷ (header 1 1 0 ++ state 0 2 gives 3)  -- an index above the count
+    ∷ (header 1 0 1 ++ state 0 0 gives 3)  -- a state in the chain of arrows
     ∷ (header 2 1 0 ++ state 0 0 ++ state 0 0 gives 3)  -- a record never met
     ∷ (header 3 0 1 ++ arrow 2 0 0 3 ++ arrow 0 0 0 3 ++ line 0 0 gives 3)  -- a line of two arrows
     ∷ (header 2 1 0 ++ state 0 2 ++ state 0 1 gives 3)  -- a cycle
@@ -126,3 +130,44 @@ small-means = refl
 pub shuffled-means : meaning shuffled ≡ smallGraph
 unfolding statesOf arrowsOf arrowOf linesFrom lineOf chainBy flatMap
 shuffled-means = refl
+
+-- ---- record k of `small` is record (moved k) of `shuffled`
+abbrev pub moved : ℕ → ℕ
+moved k = getD (0 ∷ 4 ∷ 5 ∷ 2 ∷ 3 ∷ 1 ∷ []) k k
+
+moved-only : (k : ℕ) → moved k ≡ 0 → k ≡ 0
+moved-only zero e = refl
+moved-only (suc zero) e = absurd (omega arith)
+moved-only (suc (suc zero)) e = absurd (omega arith)
+moved-only (suc (suc (suc zero))) e = absurd (omega arith)
+moved-only (suc (suc (suc (suc zero)))) e = absurd (omega arith)
+moved-only (suc (suc (suc (suc (suc zero))))) e = absurd (omega arith)
+moved-only (suc (suc (suc (suc (suc (suc k)))))) e = e
+
+five : (P : ℕ → Type 0) → P 1 → P 2 → P 3 → P 4 → P 5 → (k : ℕ) → 1 ≤ k → k ≤ 5 → P k
+five P a b c d e zero h l = absurd (omega arith)
+five P a b c d e (suc zero) h l = a
+five P a b c d e (suc (suc zero)) h l = b
+five P a b c d e (suc (suc (suc zero))) h l = c
+five P a b c d e (suc (suc (suc (suc zero)))) h l = d
+five P a b c d e (suc (suc (suc (suc (suc zero))))) h l = e
+five P a b c d e (suc (suc (suc (suc (suc (suc k)))))) h l = absurd (omega arith)
+
+other : {C : Type 0} (a b : ℕ) → eqb a b ≡ false → a ≡ b → C
+other a b t e = absurd (eqb-false a b t e)
+
+pub small-moved : Renumbered moved small shuffled
+small-moved = record {
+  counts = refl;
+  ends = refl;
+  only = moved-only;
+  states = refl;
+  arrows = refl;
+  nexts = five (λ k. next shuffled (moved k) ≡ moved (next small k)) refl refl refl refl refl;
+  flags = five (λ k. kindOf small k ≡ 1 → byteOne shuffled (moved k) ≡ byteOne small k) (λ e. refl) (λ e. refl) (λ e. refl) (λ e. refl) (λ e. refl);
+  sources = five (λ k. kindOf small k ≡ 2 → fromOf shuffled (moved k) ≡ fromOf small k) (other 1 2 refl) (other 1 2 refl) (λ e. refl) (other 3 2 refl) (other 4 2 refl);
+  targets = five (λ k. kindOf small k ≡ 2 → toOf shuffled (moved k) ≡ toOf small k) (other 1 2 refl) (other 1 2 refl) (λ e. refl) (other 3 2 refl) (other 4 2 refl);
+  lines = five (λ k. kindOf small k ≡ 2 → firstLine shuffled (moved k) ≡ moved (firstLine small k)) (other 1 2 refl) (other 1 2 refl) (λ e. refl) (other 3 2 refl) (other 4 2 refl);
+  texts = five (λ k. kindOf small k ≡ 3 → firstText shuffled (moved k) ≡ moved (firstText small k)) (other 1 3 refl) (other 1 3 refl) (other 2 3 refl) (λ e. refl) (other 4 3 refl);
+  pieces = five (λ k. kindOf small k ≡ 4 → piece shuffled (moved k) ≡ piece small k) (other 1 4 refl) (other 1 4 refl) (other 2 4 refl) (other 3 4 refl) (λ e. refl);
+}

@@ -1,11 +1,12 @@
 -- The order of the refusals: a sheet gets exactly one answer, each number only under its own cause, and whenever no cause before it holds. Assumes nothing.
 use mathlib.Core.Path.{_≡_, refl, sym, ap, _∙_}
-use mathlib.Core.Bool.{Bool, true, false, cond}
-use mathlib.Core.List.{List, [], _∷_, _++_}
+use mathlib.Core.Bool.{Bool, true, false}
+use mathlib.Core.List.{List, [], _∷_}
 use Prim.Native.Nat.{ℕ}
 use Rattle.laws.specs.Cases.{by-bool}
+use Rattle.laws.specs.Refusals.{Refusal, decide, decide-map}
 use Rattle.sheet.specs.Sheet.{meaning}
-use Rattle.sheet.specs.Refusals.{wrongLength, wrongVersion, wrongBytes, wrongChains, overLimits, illFormed, Refusal, decide, refusals, checkOf}
+use Rattle.sheet.specs.Refusals.{wrongLength, wrongVersion, wrongBytes, wrongChains, overLimits, illFormed, refusals, checkOf}
 use Rattle.sheet.specs.declared.Checked.{Checked}
 use Rattle.sheet.specs.declared.Checked.the-variants.{Accepted, Refused}
 use Rattle.sheet.specs.declared.Limits.{Limits}
@@ -50,27 +51,16 @@ verdict m s =
     told v = moved (verdict-is v) v
 
 -- ---- for calls that refuse more after a sheet is accepted
--- a list of refusals that a shorter one decides already
-pub decide-join : {A : Type 0} (rs qs : List Refusal) (refuse : ℕ → A) (answer : A) → decide (rs ++ qs) refuse answer ≡ decide rs refuse (decide qs refuse answer)
-unfolding decide
-decide-join [] qs refuse answer = refl
-decide-join {A} (r ∷ rs) qs refuse answer = ap (λ (x : A). cond (r .cause) (refuse (r .number)) x) (decide-join rs qs refuse answer)
-
 -- a refused sheet refuses the call with its number, and an accepted one leaves the rest to decide
 module _ {A : Type 0} (m : Limits) (s : List ℕ) (refuse : ℕ → A) (answer : A) where
   abbrev carried : Checked → A
   carried Accepted = answer
   carried (Refused n) = refuse n
 
-  carry : (rs : List Refusal) → decide rs refuse answer ≡ carried (decide rs Refused Accepted)
-  unfolding decide
-  carry [] = refl
-  carry (r ∷ rs) = by-bool (r .cause) (λ t. rw t) (λ t. rw t (carry rs))
-
   pub decide-refused : (n : ℕ) → Refused n ≡ checkOf m s → refuse n ≡ decide (refusals m s) refuse answer
   unfolding checkOf
-  decide-refused n e = sym (carry (refusals m s) ∙ ap carried (sym e))
+  decide-refused n e = ap carried e ∙ decide-map carried (refusals m s) Refused Accepted
 
   pub decide-accepted : Accepted ≡ checkOf m s → answer ≡ decide (refusals m s) refuse answer
   unfolding checkOf
-  decide-accepted e = sym (carry (refusals m s) ∙ ap carried (sym e))
+  decide-accepted e = ap carried e ∙ decide-map carried (refusals m s) Refused Accepted

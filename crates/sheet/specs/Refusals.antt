@@ -5,6 +5,7 @@ use Prim.Native.Nat.{ℕ, _+_, _*_}
 use lib.Dec.{ltb, eqb}
 use lib.ListN.{length}
 use Rattle.laws.specs.Loops.{anyUp}
+use Rattle.laws.specs.Refusals.{Refusal, refusal, decide}
 use Rattle.text.specs.Utf8.{wellFormed}
 use Rattle.sheet.specs.Sheet.{byteAt, version, count, kindOf, byteOne, Met, met, Arrow, Graph, meaning}
 use Rattle.sheet.specs.declared.Checked.{Checked}
@@ -111,19 +112,6 @@ unfoldable pub illFormed : Graph → Bool
 illFormed g = any illArrow (g .arrows)
 
 -- ---- the order
-
--- a refusal: its number, and whether its cause holds
-pub record Refusal : Type 0 where
-  pub number : ℕ
-  pub cause : Bool
-
-abbrev pub refusal : ℕ → Bool → Refusal
-refusal n b = record { number = n; cause = b }
-
--- the first refusal whose cause holds gives its number; where there is none, the answer stands
-unfoldable pub decide : {A : Type 0} → List Refusal → (ℕ → A) → A → A
-decide [] refuse answer = answer
-decide (r ∷ rs) refuse answer = let rest = decide rs refuse answer in cond (r .cause) (refuse (r .number)) rest
 
 abbrev pub refusals : Limits → List ℕ → List Refusal
 refusals m s =

@@ -63,7 +63,8 @@ unfoldable pub chainBy : List ℕ → ℕ → ℕ → List ℕ
 chainBy s zero i = []
 chainBy s (suc n) i = let rest = i ∷ chainBy s n (next s i) in cond (eqb i 0) [] rest
 
--- The whole chain. One that has more records than the sheet meets one twice or leaves the sheet, and its first `count + 1` records show that.
+-- The first `count + 1` records of the chain from record i on. Where the cause of refusal 3 does not hold this is the whole chain (Whole.antt); a longer one meets a record twice
+-- or leaves the sheet, and these records show that.
 abbrev pub chain : List ℕ → ℕ → List ℕ
 chain s i = chainBy s (count s + 1) i
 
