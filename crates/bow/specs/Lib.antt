@@ -5,3 +5,4 @@ pub mod Between
 pub mod Exactly
 pub mod Leads
 pub mod Worked
+pub mod Farther

@@ -8,6 +8,7 @@ ghost use lib.ListN.{length};
 ghost use Rattle.free.specs.Centres as C;
 ghost use Rattle.free.specs.Free as F;
 ghost use Rattle.bow.specs.Clear as L;
+ghost use Rattle.bow.specs.Farther as Q;
 ghost use Rattle.bow.specs.Bend as B;
 ghost use Rattle.bow.specs.Between as W;
 
@@ -44,26 +45,54 @@ fn control(c: Chord, h: f64) -> V
     mid.add(c.along.left().mul(h))
 }
 
-// The room between p and the rim of state k at o, or m where that is less.
-fn beside(c: Chord, k: usize, o: V, p: V, m: f64) -> f64
-    ensures { λ r. ⌜ r ≡ L.beside c k o p m ⌝ }
-{
-    if free::is_end(c, k) {
-        return m;
-    }
-    float::min(m, p.dist(o) - 22.0)
+// The least room so far, and the square of the distance that it comes from.
+pub struct Near {
+    pub room: f64,
+    pub square: f64,
 }
 
-// The least room between p and the other states' rims, or `start` where that is less.
-fn nearest(xs: &[f64], ys: &[f64], c: Chord, p: V, start: f64) -> f64
-    requires { ⌜ length (now ys) ≡ length (now xs) ⌝ }
-    ensures { λ r. ⌜ r ≡ L.nearest (C.others c (C.centres (now (xs .entry)) (now (ys .entry)))) p start ⌝ }
+// The square of the distance; where it is NaN, the distance counts as 0.
+fn square(p: V, o: V) -> f64
+    ensures { λ r. ⌜ r ≡ Q.square p o ⌝ }
 {
-    let mut m = start;
-    for k in 0..xs.len() {
-        m = beside(c, k, free::centre(xs, ys, k), p, m);
+    let d = p.sub(o);
+    let q = d.x * d.x + d.y * d.y;
+    if q != q {
+        return 0.0;
     }
-    m
+    q
+}
+
+// The room between p and the rim of state k at o, where that is less. A state that is not nearer needs no root.
+fn beside(c: Chord, k: usize, o: V, p: V, r: Near) -> Near
+    requires { ⌜ Q.Good r ⌝ }
+    ensures { λ t. ⌜ Q.Step c k o p r t ⌝ }
+{
+    if free::is_end(c, k) {
+        return r;
+    }
+    let q = square(p, o);
+    if r.square <= q {
+        return r;
+    }
+    let room = float::root(q) - 22.0;
+    if room < r.room {
+        return Near { room, square: q };
+    }
+    r
+}
+
+// The least room between p and the other states' rims, where that is less.
+fn nearest(xs: &[f64], ys: &[f64], c: Chord, p: V, start: Near) -> Near
+    requires { ⌜ length (now ys) ≡ length (now xs) ⌝ }
+    requires { ⌜ Q.Good start ⌝ }
+    ensures { λ r. ⌜ Q.Nearest (C.others c (C.centres (now (xs .entry)) (now (ys .entry)))) p start r ⌝ }
+{
+    let mut r = start;
+    for k in 0..xs.len() {
+        r = beside(c, k, free::centre(xs, ys, k), p, r);
+    }
+    r
 }
 
 // The clearance that the arc with bow h keeps from the other states.
@@ -74,13 +103,17 @@ fn clearance(xs: &[f64], ys: &[f64], c: Chord, h: f64) -> f64
     let a = c.a;
     let b = c.b;
     let arc = Curve::Quad(a, control(c, h), b);
-    let mut m = f64::from_bits(0x7ff0_0000_0000_0000);
+    let most = f64::from_bits(0x7ff0_0000_0000_0000);
+    let mut r = Near {
+        room: most,
+        square: most,
+    };
     let mut k: u32 = 1;
     while k < 16 {
-        m = nearest(xs, ys, c, arc.at(k as f64 / 16.0), m);
+        r = nearest(xs, ys, c, arc.at(k as f64 / 16.0), r);
         k += 1;
     }
-    m
+    r.room
 }
 
 // A bow and the clearance that its arc keeps.

@@ -1,9 +1,9 @@
 -- `bow::beside` meets its contract.
-use mathlib.Core.Path.{ap, _∙_}
+use mathlib.Core.Path.{ap, sym, _∙_}
 use lib.Ieee.{Float}
 use Rattle.float.specs.Ops.{_⊖_}
 use Rattle.float.specs.Constants.{f22}
-use Rattle.float.specs.Standins.{min}
+use Rattle.bow.specs.Farther.{step-end, step-far, step-near, step-same}
 use borrow.Author.Needs.{needs}
 use Rattle.bow.proofs.beside.Statement.{statement}
 use Rattle.bow.proofs.beside.Tie as tie
@@ -12,16 +12,24 @@ is-end-requires : tie.Need-is-end-requires
 is-end-requires c κs = search needs
 
 returns : tie.Need-returns
-returns c = rw (← (c .before .is-end .ensures), c .if1 .taken)
+returns c = let a = c .before .before .args in step-end (a .c) (a .k) (a .o) (a .p) (a .r) (c .before .before .pre) (sym (c .before .is-end .ensures) ∙ c .if1 .taken)
 
-dist-requires : tie.Need-dist-requires
-dist-requires c κs = search needs
-
-min-requires : tie.Need-min-requires
-min-requires c κs = search needs
+square-requires : tie.Need-square-requires
+square-requires c κs = search needs
 
 returns-2 : tie.Need-returns-2
-returns-2 c = rw (← (c .before .before .before .is-end .ensures), c .before .before .if1 .left) (c .min .ensures ∙ ap (λ (d : Float). min (c .before .before .before .before .args .m) (d ⊖ f22)) (c .before .dist .ensures))
+returns-2 c = let a = c .before .before .before .before .before .args in step-far (a .c) (a .k) (a .o) (a .p) (a .r) (c .before .before .before .before .before .pre) (sym (c .before .before .before .before .is-end .ensures) ∙ c .before .before .before .if1 .left) (c .before .before .square .result) (c .before .before .square .ensures) (c .if2 .taken)
+
+root-requires : tie.Need-root-requires
+root-requires c κs = search needs
+
+returns-3 : tie.Need-returns-3
+returns-3 c = let a = c .before .before .before .before .before .before .before .before .args in step-near (a .c) (a .k) (a .o) (a .p) (a .r) (c .before .before .before .before .before .before .before .before .pre) (sym (c .before .before .before .before .before .before .before .is-end .ensures) ∙ c .before .before .before .before .before .before .if1 .left) (c .before .before .before .before .before .square .result) (c .before .before .before .before .before .square .ensures) (c .before .before .root .result ⊖ f22) (ap (λ (z : Float). z ⊖ f22) (c .before .before .root .ensures)) (c .if3 .taken)
+
+returns-4 : tie.Need-returns-4
+returns-4 c = let a = c .before .before .before .before .before .before .before .before .args in step-same (a .c) (a .k) (a .o) (a .p) (a .r) (c .before .before .before .before .before .before .before .before .pre) (sym (c .before .before .before .before .before .before .before .is-end .ensures) ∙ c .before .before .before .before .before .before .if1 .left) (c .before .before .before .before .before .square .result) (c .before .before .before .before .before .square .ensures) (c .before .before .root .result ⊖ f22) (ap (λ (z : Float). z ⊖ f22) (c .before .before .root .ensures)) (c .if3 .left)
 
 pub beside-spec : {M : Type 1} → statement M
-beside-spec = tie.close (tie.spec is-end-requires returns dist-requires min-requires returns-2)
+beside-spec =
+    tie.close
+    (tie.spec is-end-requires returns square-requires returns-2 root-requires returns-3 returns-4)

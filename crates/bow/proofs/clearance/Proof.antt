@@ -11,27 +11,28 @@ use Rattle.shape.specs.declared.«V».{«V»}
 use Rattle.shape.specs.declared.Curve.the-variants.{Quad}
 use Rattle.free.specs.Centres.{centres, others}
 use Rattle.bow.specs.Clear.{nearest, sampled, clearance}
+use Rattle.bow.specs.Farther.{Good, start-good}
 use Rattle.bow.proofs.clearance.Statement.{statement}
 use Rattle.bow.proofs.clearance.Tie as tie
 
 abbrev Inv-loop : tie.InvT-loop
-Inv-loop xs ys c h arc m₀ k₀ m k = (k ≤ 16) × (up (sampled (others c (centres xs ys)) arc) k 16 m ≡ clearance c (centres xs ys) h)
+Inv-loop xs ys c h arc most r₀ k₀ r k = (k ≤ 16) × Good r × (up (sampled (others c (centres xs ys)) arc) k 16 (r .room) ≡ clearance c (centres xs ys) h)
 
 abbrev μ-loop : tie.MeasureT-loop
-μ-loop xs ys c h arc m₀ k₀ m k = 16 - k
+μ-loop xs ys c h arc most r₀ k₀ r k = 16 - k
 
 control-requires : tie.Need-control-requires Inv-loop μ-loop
 control-requires c κs = search needs
 
-float-from-bits-m : tie.Need-float-from-bits-m Inv-loop μ-loop
+float-from-bits-most : tie.Need-float-from-bits-most Inv-loop μ-loop
 unfolding nanBits
-float-from-bits-m c = tt
+float-from-bits-most c = tt
 
 loop-holds : tie.Need-loop-holds Inv-loop μ-loop
 unfolding clearance
 loop-holds c =
     let a = c .before .before .before .before .before .args in
-    (omega arith, ap (λ (v : «V»). up (sampled (others (a .c) (centres (now (a .xs)) (now (a .ys)))) (Quad (a .c .a) v (a .c .b))) 1 16 infinity) (c .control .ensures))
+    (omega arith, start-good, ap (λ (v : «V»). up (sampled (others (a .c) (centres (now (a .xs)) (now (a .ys)))) (Quad (a .c .a) v (a .c .b))) 1 16 infinity) (c .control .ensures))
 
 int-to-float-at : tie.Need-int-to-float-at Inv-loop μ-loop
 int-to-float-at c = search needs
@@ -40,7 +41,7 @@ at-requires : tie.Need-at-requires Inv-loop μ-loop
 at-requires c κs = search needs
 
 nearest-requires : tie.Need-nearest-requires Inv-loop μ-loop
-nearest-requires c κs = search needs
+nearest-requires c κs = (c .before .before .before .before .before .before .before .before .before .pre, c .before .before .before .loop .inv .1)
 
 add-k : tie.Need-add-k Inv-loop μ-loop
 add-k c = search needs
@@ -53,12 +54,13 @@ loop-again c =
     let a = c .before .before .before .before .before .before .before .before .before .before .args in
     let os = others (a .c) (centres (now (a .xs)) (now (a .ys))) in (
       omega arith,
-      rw (c .nearest .ensures ∙ ap (λ (v : «V»). nearest os v (c .before .before .before .before .loop .m)) (c .before .at .ensures))
-          (sym (up-step _ _ _ _ (omega arith)) ∙ c .before .before .before .before .loop .inv .1),
+      c .nearest .ensures .good,
+      rw (c .nearest .ensures .is ∙ ap (λ (v : «V»). nearest os v (c .before .before .before .before .loop .r .room)) (c .before .at .ensures))
+          (sym (up-step _ _ _ _ (omega arith)) ∙ c .before .before .before .before .loop .inv .2),
     )
 
 returns : tie.Need-returns Inv-loop μ-loop
-returns c = sym (up-done _ _ _ _ (omega arith)) ∙ c .before .loop .inv .1
+returns c = sym (up-done _ _ _ _ (omega arith)) ∙ c .before .loop .inv .2
 
 pub clearance-spec : {M : Type 1} → statement M
 clearance-spec =
@@ -67,7 +69,7 @@ clearance-spec =
     Inv-loop
     μ-loop
     control-requires
-    float-from-bits-m
+    float-from-bits-most
     loop-holds
     int-to-float-at
     at-requires
