@@ -6,4 +6,5 @@ pub mod Rounding
 pub mod Laws
 pub mod RootLaws
 pub mod TotalOrder
+pub mod Sortable
 pub mod RootNearest

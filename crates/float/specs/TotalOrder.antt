@@ -63,7 +63,7 @@ both-minus (fin x m e) (inf y) s t = rw t
 both-minus (fin x m e) (fin y n d) s t = rw (s, t)
 
 -- with the same sign it is the order of numbers
-same-sign : (a b : Float) → negative a ≡ negative b → isNan b ≡ false → precedes a b ≡ lt a b
+pub same-sign : (a b : Float) → negative a ≡ negative b → isNan b ≡ false → precedes a b ≡ lt a b
 unfolding precedes
 same-sign a b s n = rw (s, n) (go (lt a b) (eq a b) (negative b) (isNan a))
   where
@@ -75,7 +75,7 @@ same-sign a b s n = rw (s, n) (go (lt a b) (eq a b) (negative b) (isNan a))
     go false false s false = refl
 
 -- a set sign stands before a clear one
-minus-plus : (a b : Float) → negative a ≡ true → negative b ≡ false → isNan b ≡ false → precedes a b ≡ true
+pub minus-plus : (a b : Float) → negative a ≡ true → negative b ≡ false → isNan b ≡ false → precedes a b ≡ true
 unfolding precedes Ieee.lt Ieee.eq isNan
 minus-plus nan b s t n = absurd (true≢false (sym s))
 minus-plus (inf x) nan s t n = absurd (true≢false n)
@@ -89,7 +89,7 @@ minus-plus (fin x m e) (fin y k d) s t n = rw (s, t) (go (m * up e * down d) (k 
     go p q = by-lt 0 (p + q) (λ (h : 0 < p + q). rw (lt-ltb 0 (p + q) h))
         (λ (h : p + q ≤ 0). let x : p ≡ 0 = omega arith in let y : q ≡ 0 = omega arith in rw (x, y))
 
-plus-minus : (a b : Float) → negative a ≡ false → negative b ≡ true → isNan b ≡ false → precedes a b ≡ false
+pub plus-minus : (a b : Float) → negative a ≡ false → negative b ≡ true → isNan b ≡ false → precedes a b ≡ false
 unfolding precedes Ieee.lt Ieee.eq isNan
 plus-minus nan b s t n = refl
 plus-minus (inf x) nan s t n = absurd (true≢false n)

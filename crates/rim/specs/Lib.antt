@@ -2,3 +2,4 @@ pub mod Directions
 pub mod Loop
 pub mod Steps
 pub mod Lengths
+pub mod Sorted
