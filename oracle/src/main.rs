@@ -2,11 +2,9 @@
 //! its answers. README.md says how each part is run.
 
 mod bench;
-#[cfg_attr(not(port = "murshogi"), allow(dead_code))]
 mod calls;
 #[cfg(port = "murshogi")]
 mod compare;
-#[cfg_attr(not(port = "murshogi"), allow(dead_code))]
 mod generate;
 mod random;
 mod sheet;

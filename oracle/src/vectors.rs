@@ -5,7 +5,9 @@
 //! first. The stream ends with a case of kind 0, whose payload is the number of cases before it.
 
 mod bows;
+mod calls;
 mod float;
+mod places;
 mod shapes;
 mod sheets;
 mod texts;
@@ -82,6 +84,13 @@ pub mod kind {
     pub const BEND: u8 = 41;
     pub const BETWEEN: u8 = 42;
     pub const FIRST_FREE: u8 = 43;
+    pub const PLACE_LABEL: u8 = 44;
+    pub const SPOTS: u8 = 45;
+    pub const COST: u8 = 46;
+    pub const ROUTE: u8 = 50;
+    pub const LAYOUT: u8 = 51;
+    pub const CLUTTER: u8 = 52;
+    pub const LIST: u8 = 53;
     /// A kind and its payload with another answer.
     pub const SPOILED: u8 = 255;
 }
@@ -112,6 +121,11 @@ impl Payload {
 
     pub fn word(mut self, n: usize) -> Self {
         self.0.extend_from_slice(&u16::try_from(n).unwrap().to_le_bytes());
+        self
+    }
+
+    pub fn long(mut self, n: usize) -> Self {
+        self.0.extend_from_slice(&u32::try_from(n).unwrap().to_le_bytes());
         self
     }
 
@@ -185,6 +199,8 @@ pub fn write(file: &str) {
     texts::cases(&mut out);
     shapes::cases(&mut out);
     bows::cases(&mut out);
+    places::cases(&mut out);
+    calls::cases(&mut out);
     for (kind, count) in &out.kinds {
         println!("kind {kind}: {count}");
     }

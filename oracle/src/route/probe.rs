@@ -179,3 +179,46 @@ pub fn between(from: usize, to: usize, centres: &[Point], both_ways: bool) -> (u
 pub fn free(spans: &[(f64, f64)], start: f64, dir: f64) -> f64 {
     first_free(spans, start, dir)
 }
+
+/// The label's point, and its anchor: 0 start, 1 middle, 2 end.
+pub fn place(apex: Point, dir: Point, width: f64, height: f64) -> (Point, u8) {
+    let (label, anchor) = place_label(v(apex), v(dir), width, height);
+    let anchor = match anchor {
+        Anchor::Start => 0,
+        Anchor::Middle => 1,
+        Anchor::End => 2,
+    };
+    (p(label), anchor)
+}
+
+/// The places of a label, each a point and a side; `outer` is 0 for a line.
+pub fn spots(points: &[Point], outer: f64) -> Vec<(Point, Point)> {
+    let r = Routed {
+        edge: 0,
+        curve: curve(points),
+        tip_angle: 0.0,
+        shape: if outer == 0.0 { Shape::Line } else { Shape::Arc { outer } },
+        size: (0.0, 0.0),
+    };
+    r.label_spots().iter().map(|s| (p(s.0), p(s.1))).collect()
+}
+
+/// The cost of a label box of arrow `own` among states, boxes and traces, cut at a limit. A trace has
+/// the number of its arrow, or none.
+pub fn cost(
+    states: &[Point],
+    boxes: &[Box4],
+    traces: &[(Option<usize>, Vec<Point>)],
+    (own, b, limit): (usize, Box4, usize),
+) -> usize {
+    let pos: Vec<V> = states.iter().map(|&s| v(s)).collect();
+    let scene = Scene {
+        pos: &pos,
+        traces: traces
+            .iter()
+            .map(|(owner, c)| Trace::new(owner.unwrap_or(usize::MAX), curve(c)))
+            .collect(),
+        boxes: boxes.iter().map(|&b| rect(b)).collect(),
+    };
+    scene.box_cost(rect(b), own, limit)
+}

@@ -34,7 +34,7 @@ pub fn point(rng: &mut Random, way: usize) -> Point {
 }
 
 /// A box; one in eight is out of order.
-fn boxed(rng: &mut Random, way: usize) -> Box4 {
+pub fn boxed(rng: &mut Random, way: usize) -> Box4 {
     let (a, b) = (point(rng, way), point(rng, way));
     if rng.once_in(8) {
         return [a.0, a.1, b.0, b.1];

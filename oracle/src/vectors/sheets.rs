@@ -3,6 +3,7 @@
 use std::collections::BTreeMap;
 
 use super::{Payload, Stream, kind};
+use crate::calls::check;
 use crate::generate::{Size, full_pieces, ordered, pieces, sheet, shuffled, text};
 use crate::random::Random;
 use crate::sheet::{self, Arrow, Line, Sheet, put};
@@ -30,7 +31,7 @@ struct Sheets<'a> {
 
 impl Sheets<'_> {
     fn add(&mut self, bytes: &[u8]) -> u8 {
-        let answer = sheet::read(bytes).err().unwrap_or(0);
+        let answer = check(bytes).err().unwrap_or(0);
         *self.answers.entry(answer).or_default() += 1;
         self.out.case(kind::CHECK, Payload::new().byte(answer).bytes(bytes));
         if self.answers[&answer] % 50 == 7 {
