@@ -23,14 +23,14 @@ enum Edit {
 fn main() {
     let root = PathBuf::from(env::var("CARGO_MANIFEST_DIR").unwrap());
     let src = match env::var("MURSHOGI_SRC") {
-        Ok(dir) => PathBuf::from(dir),
+        Ok(dir) => root.join("..").join(dir),
         Err(_) => root.join("../../shared/docs/src"),
     };
     let out = PathBuf::from(env::var("OUT_DIR").unwrap());
     println!("cargo:rerun-if-env-changed=MURSHOGI_SRC");
     println!("cargo:rerun-if-changed=build.rs");
     println!("cargo:rerun-if-changed=edits.txt");
-    link_port();
+    link_port(&root);
     let mut texts: BTreeMap<String, String> = BTreeMap::new();
     for file in FILES {
         let path = src.join(file);
@@ -73,14 +73,15 @@ fn main() {
 
 /// Links the port's archives that `MURSHOGI_LIB` names, with a colon between two. What compares the
 /// calls is built with libmurshogi.a, what times a function below them with libprobes.a.
-fn link_port() {
+fn link_port(root: &Path) {
     println!("cargo:rerun-if-env-changed=MURSHOGI_LIB");
     println!("cargo:rustc-check-cfg=cfg(port, values(\"murshogi\", \"probes\"))");
     let Ok(archives) = env::var("MURSHOGI_LIB") else {
         return;
     };
     for archive in archives.split(':') {
-        let archive = fs::canonicalize(archive).unwrap_or_else(|e| panic!("{archive}: {e}"));
+        let archive = fs::canonicalize(root.join("..").join(archive))
+            .unwrap_or_else(|e| panic!("{archive}: {e}; a path is taken from the repository's root"));
         let name = archive.file_stem().unwrap().to_str().unwrap().strip_prefix("lib").unwrap();
         println!("cargo:rerun-if-changed={}", archive.display());
         println!("cargo:rustc-link-search=native={}", archive.parent().unwrap().display());
