@@ -23,8 +23,8 @@ writable v = not (tooLarge v)
 
 -- ---- the hundredths of a number
 
--- v · 100 rounded, "round goes half away from zero", its size as a whole number; 0 where v is not finite. It is 0 too where refusal 10 stops v: no text of such
--- a number is ever given, since callers refuse it first.
+-- v · 100 rounded, "round goes half away from zero", its size as a whole number; 0 where v is not finite.
+-- A number that refusal 10 stops has 0 here too: callers refuse it first.
 unfoldable pub sizeOf : Float → ℕ
 sizeOf v = cond (lt (abs v) f1e13) (toUnsigned 64 (abs (round (v ⊗ f100)))) 0
 
@@ -56,7 +56,7 @@ fraction n =
 unfoldable pub decimal : Hundredths → List ℕ
 decimal h = minusText (h .minus) ++ digits (h .size / 100) ++ fraction (h .size % 100)
 
--- the text of v; `0` where v is not finite, and also, without being used, where refusal 10 stops v: callers refuse such a v before they write
+-- The text of v; `0` where v is not finite. A number that refusal 10 stops has the text `0` here too: callers refuse it first.
 unfoldable pub numText : Float → List ℕ
 numText v = decimal (hundredths v)
 

@@ -32,7 +32,7 @@ pub fn writable(v: f64) -> bool
     true
 }
 
-// The whole number of hundredths; 0 where v is not finite, or is refused by 10.
+// The whole number of hundredths; 0 where v is not finite or refusal 10 stops it.
 fn size_of(v: f64) -> u64
     ensures { λ r. ⌜ r ≡ S.sizeOf v ⌝ }
 {
@@ -77,7 +77,7 @@ fn put_fraction(out: &mut [u8], at: usize, n: u64) -> usize
     text::put_number(out, tenths, n % 10)
 }
 
-// The text of v: `0` where v is not finite. A finite v of size 10^13 or more has the text `0` here too: callers refuse it first, by `writable`.
+// The text of v; `0` where v is not finite. A number that refusal 10 stops has the text `0` here too: callers refuse it first, by `writable`.
 pub fn put_num(out: &mut [u8], at: usize, v: f64) -> usize
     ensures { λ r. ⌜ Wrote (now (out .entry)) at (now (out .exit)) r (S.numText v) ⌝ }
 {
