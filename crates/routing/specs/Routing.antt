@@ -1,0 +1,281 @@
+-- Routing as a plain run over graph and centres alone: document 01, 'Turns, places and costs'.
+use mathlib.Core.Bool.{Bool, true, false, not, cond, _&&_}
+use mathlib.Core.List.{List, [], _∷_, _++_, map, flatMap}
+use Prim.Native.Nat.{ℕ, zero, suc, _+_, _-_, _*_, _%_}
+use lib.Dec.{ltb, eqb}
+use lib.ListN.{length, getD}
+use lib.Ieee.{Float}
+use Rattle.laws.specs.Filter.{filter}
+use Rattle.laws.specs.Counting.{number}
+use Rattle.laws.specs.Zip.{zip}
+use Rattle.laws.specs.Run as Run
+use Rattle.float.specs.Constants.{f0, f0-75, f1, f22, f28, π}
+use Rattle.float.specs.Ops.{lt}
+use Rattle.shape.specs.declared.«V».{«V»}
+use Rattle.shape.specs.declared.Curve.{Curve}
+use Rattle.shape.specs.declared.Curve.the-variants.{Line}
+use Rattle.shape.specs.Plane.{vec, sub, polar, angle}
+use Rattle.shape.specs.Curves.{start, end, tangent}
+use Rattle.trace.specs.Traces.{Trace, nobody, arrow, traceOf, foreign, crosses, near}
+use Rattle.free.specs.Centres.{centre}
+use Rattle.bow.specs.declared.Routed.{Routed}
+use Rattle.bow.specs.declared.Joined.{Joined}
+use Rattle.bow.specs.declared.Joined.the-variants.{Arrow, Beyond}
+use Rattle.bow.specs.declared.Shape.{Shape}
+use Rattle.bow.specs.declared.Shape.the-variants as Shape
+use Rattle.bow.specs.Bend.{leads}
+use Rattle.bow.specs.Between.{between}
+use Rattle.spot.specs.declared.Turn.{Turn}
+use Rattle.spot.specs.declared.Geometry.{Geometry}
+use Rattle.spot.specs.Spots.{labelSpots}
+use Rattle.place.specs.Scene.{Scene, sceneOf, withBox, withTrace, boxCost}
+use Rattle.place.specs.Turn as Place
+use Rattle.rim.specs.Directions.{directions, room, upwards}
+use Rattle.rim.specs.Loop.{loopCurve}
+
+-- ---- what is routed: no label enters the frame
+
+pub record Ends : Type 0 where
+  pub source : ℕ
+  pub target : ℕ
+
+-- the states' flag bytes and centres, and the arrows' ends
+pub record Frame : Type 0 where
+  pub flags : List ℕ
+  pub centres : List «V»
+  pub arrows : List Ends
+
+-- the size of an arrow's label block
+pub record Size : Type 0 where
+  pub width : Float
+  pub height : Float
+
+abbrev pub none : Size
+none = record { width = f0; height = f0 }
+
+-- ---- arrows by their numbers
+
+pub record Numbered : Type 0 where
+  pub edge : ℕ
+  pub ends : Ends
+
+unfoldable pub numberedFrom : ℕ → List Ends → List Numbered
+numberedFrom k [] = []
+numberedFrom k (e ∷ es) = record { edge = k; ends = e } ∷ numberedFrom (suc k) es
+
+abbrev pub numbered : Frame → List Numbered
+numbered f = numberedFrom 0 (f .arrows)
+
+-- "An arrow with an end not below the number of states is accepted and left out of the records"
+abbrev pub isKept : Frame → Numbered → Bool
+isKept f a = ltb (a .ends .source) (length (f .flags)) && ltb (a .ends .target) (length (f .flags))
+
+-- "A loop's ends are the same state"
+abbrev pub isLoop : Numbered → Bool
+isLoop a = eqb (a .ends .source) (a .ends .target)
+
+unfoldable pub kept : Frame → List Numbered
+kept f = filter (isKept f) (numbered f)
+
+abbrev pub loops : Frame → List Numbered
+loops f = filter isLoop (kept f)
+
+abbrev pub crossing : Frame → List Numbered
+crossing f = filter (λ a. not (isLoop a)) (kept f)
+
+-- ---- arrows between different states
+
+abbrev pub isPaired : Frame → Numbered → Bool
+isPaired f a = leads (map (λ e. e .source) (f .arrows)) (map (λ e. e .target) (f .arrows)) (a .ends .target) (a .ends .source)
+
+unfoldable pub joined : Frame → Numbered → Joined
+joined f a = between (f .centres) (a .ends .source) (a .ends .target) (isPaired f a)
+
+-- "a two-way pair whose first free bow exceeds 10^9"
+abbrev pub isBeyond : Joined → Bool
+isBeyond (Arrow r) = false
+isBeyond Beyond = true
+
+unfoldable pub beyond : Frame → Bool
+beyond f = ltb 0 (number (λ a. isBeyond (joined f a)) (crossing f))
+
+-- an arrow with its curve, in arrow order
+pub record Route : Type 0 where
+  pub from : Numbered
+  pub routed : Routed
+
+abbrev pub routeBy : Numbered → Joined → List Route
+routeBy a (Arrow r) = record { from = a; routed = r } ∷ []
+routeBy a Beyond = []
+
+unfoldable pub routes : Frame → List Route
+routes f = flatMap (λ a. routeBy a (joined f a)) (crossing f)
+
+-- ---- the first scene: "the states and traces that `geometry` has before any label"
+
+-- bit 0 of the flags is the start
+abbrev pub isStart : ℕ → Bool
+isStart flag = eqb (flag % 2) 1
+
+-- the start arrow ends on the rim, from the left, 28 long
+abbrev pub startCurve : «V» → Curve
+startCurve c = let tip = sub c (vec f22 f0) in Line (sub tip (vec f28 f0)) tip
+
+abbrev pub startTraces : List ℕ → List «V» → List Trace
+startTraces [] cs = []
+startTraces (flag ∷ flags) [] = []
+startTraces (flag ∷ flags) (c ∷ cs) = let rest = startTraces flags cs in cond (isStart flag) (traceOf nobody (startCurve c) ∷ rest) rest
+
+abbrev pub routeTrace : Route → Trace
+routeTrace r = traceOf (arrow (r .from .edge)) (r .routed .curve)
+
+unfoldable pub firstScene : Frame → Scene
+firstScene f = sceneOf (f .centres) (map routeTrace (routes f) ++ startTraces (f .flags) (f .centres)) []
+
+-- ---- loops: their directions, from what meets the rim of their state
+
+abbrev pub leaving : Frame → ℕ → Route → List Float
+leaving f k r = cond (eqb (r .from .ends .source) k) (angle (sub (start (r .routed .curve)) (centre (f .centres) k)) ∷ []) []
+
+abbrev pub reaching : Frame → ℕ → Route → List Float
+reaching f k r = cond (eqb (r .from .ends .target) k) (angle (sub (end (r .routed .curve)) (centre (f .centres) k)) ∷ []) []
+
+-- the angles at which arrows and the start mark meet the rim of state k
+unfoldable pub rim : Frame → ℕ → List Float
+rim f k = flatMap (λ r. leaving f k r ++ reaching f k r) (routes f) ++ cond (isStart (getD (f .flags) k 0)) (π ∷ []) []
+
+-- ---- turns
+
+-- an arrow whose label, or whose loop and label, is to be placed
+pub data Item : Type 0 where
+  loop : Numbered → Item
+  label : Route → Item
+
+abbrev pub edgeOf : Item → ℕ
+edgeOf (loop a) = a .edge
+edgeOf (label r) = r .from .edge
+
+abbrev pub arcShape : Shape → Bool
+arcShape Shape.Line = false
+arcShape (Shape.Arc outer) = true
+arcShape (Shape.Loop out) = false
+
+-- "`geometry` tells arcs from straight arrows by `bend`"
+abbrev pub isArc : Route → Bool
+isArc r = arcShape (r .routed .shape)
+
+-- loops, then arcs, then straight arrows, each in arrow order
+unfoldable pub order : Frame → List Item
+order f = map loop (loops f) ++ map label (filter isArc (routes f)) ++ map label (filter (λ r. not (isArc r)) (routes f))
+
+pub record Step : Type 0 where
+  pub item : Item
+  pub size : Size
+
+abbrev pub stepOf : List Size → Item → Step
+stepOf sizes i = record { item = i; size = getD sizes (edgeOf i) none }
+
+-- "Each arrow of the records has one turn"
+abbrev pub steps : Frame → List Size → List Step
+steps f sizes = map (stepOf sizes) (order f)
+
+-- ---- listed places and directions
+
+abbrev pub turnOf : ℕ → Routed → Size → Turn
+turnOf edge r size = record { edge = edge; arrow = r; width = size .width; height = size .height }
+
+abbrev pub loopRouted : «V» → Float → Routed
+loopRouted c phi = let k = loopCurve c phi in record { curve = k; «tip_angle» = angle (tangent k f1); shape = Shape.Loop (polar phi) }
+
+-- the directions of a loop
+abbrev pub directionsOf : Frame → Numbered → List Float
+directionsOf f a = directions (rim f (a .ends .source))
+
+abbrev pub direction : Frame → Numbered → ℕ → Float
+direction f a j = getD (directionsOf f a) j upwards
+
+-- the drawing that a loop has in a direction: its curve, and the label that it brings
+abbrev pub loopTurn : Frame → Numbered → Size → ℕ → Turn
+loopTurn f a size j = turnOf (a .edge) (loopRouted (centre (f .centres) (a .ends .source)) (direction f a j)) size
+
+abbrev pub labelTurn : Route → Size → Turn
+labelTurn r size = turnOf (r .from .edge) (r .routed) size
+
+-- "Listed are the places named above, in that order; for a loop, the directions of `self_loop` in its order": how many
+abbrev pub listedBy : Frame → Item → ℕ
+listedBy f (loop a) = length (directionsOf f a)
+listedBy f (label r) = length (labelSpots (r .routed .curve) (r .routed .shape))
+
+-- place or direction j of a turn, drawn
+abbrev pub drawnBy : Frame → Item → Size → ℕ → Geometry
+drawnBy f (loop a) size j = Place.drawnAt (loopTurn f a size j) 0
+drawnBy f (label r) size j = Place.drawnAt (labelTurn r size) j
+
+-- ---- full costs
+
+-- the states but number k
+unfoldable pub others : ℕ → List «V» → List «V»
+others k [] = []
+others zero (c ∷ cs) = cs
+others (suc k) (c ∷ cs) = c ∷ others k cs
+
+-- a foreign trace that the loop crosses
+abbrev pub crossed : ℕ → Trace → Trace → Bool
+crossed edge looped t = foreign edge t && crosses t looped
+
+-- "for a loop, what `self_loop` adds too": 10 a state nearer than 25, 3 a foreign trace crossed, 20 where another arrow or the start mark is nearer than 0.75
+abbrev pub loopAdds : Frame → Scene → Numbered → Float → Trace → ℕ
+loopAdds f s a phi looped =
+    10 * number (near looped) (others (a .ends .source) (s .centres))
+    + 3 * number (crossed (a .edge) looped) (s .traces)
+    + cond (lt (room phi (rim f (a .ends .source))) f0-75) 20 0
+
+abbrev pub traceBy : Geometry → Trace
+traceBy g = traceOf (arrow (g .edge)) (g .curve)
+
+abbrev pub costBy : Frame → Scene → Item → Size → ℕ → ℕ
+costBy f s (loop a) size j =
+    let g = drawnBy f (loop a) size j in
+    boxCost s (a .edge) (g .bounds) + loopAdds f s a (direction f a j) (traceBy g)
+costBy f s (label r) size j = boxCost s (r .from .edge) (drawnBy f (label r) size j .bounds)
+
+-- "what `geometry` adds before the next turn goes into the scene"
+abbrev pub afterBy : Scene → Item → Geometry → Scene
+afterBy s (loop a) g = withBox (withTrace s (traceBy g)) (g .bounds)
+afterBy s (label r) g = withBox s (g .bounds)
+
+-- ---- the run
+
+-- the places listed after the first; a turn lists one at least (`listed-some` of Demand)
+abbrev pub more : Frame → Scene → Step → ℕ
+more f s t = listedBy f (t .item) - 1
+
+-- "Full cost is summed over the whole scene .. and never cut"
+abbrev pub cost : Frame → Scene → Step → ℕ → ℕ
+cost f s t j = costBy f s (t .item) (t .size) j
+
+abbrev pub drawnStep : Frame → Step → ℕ → Geometry
+drawnStep f t j = drawnBy f (t .item) (t .size) j
+
+abbrev pub after : Frame → Scene → Step → ℕ → Scene
+after f s t j = afterBy s (t .item) (drawnStep f t j)
+
+-- the places taken, turn by turn: "The first that no other undercuts is taken"
+abbrev pub taken : Frame → List Size → List ℕ
+taken f sizes = Run.run (more f) (cost f) (after f) (firstScene f) (steps f sizes)
+
+-- the scene at turn k
+abbrev pub sceneAt : Frame → List Size → ℕ → Scene
+sceneAt f sizes k = Run.scene (more f) (cost f) (after f) (firstScene f) (steps f sizes) k
+
+-- what is drawn, in the order of the turns
+unfoldable pub drawing : Frame → List Size → List Geometry
+drawing f sizes = zip (drawnStep f) (steps f sizes) (taken f sizes)
+
+-- the drawing of an arrow
+abbrev pub drawnFor : List Geometry → Numbered → List Geometry
+drawnFor gs a = filter (λ g. eqb (g .edge) (a .edge)) gs
+
+-- the records, in arrow order; a left-out arrow has none
+unfoldable pub records : Frame → List Size → List Geometry
+records f sizes = flatMap (drawnFor (drawing f sizes)) (kept f)

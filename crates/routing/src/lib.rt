@@ -1,0 +1,1 @@
+// No code: routing as document 01's plain run, and what holds of it, in specs/.
