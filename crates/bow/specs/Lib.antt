@@ -4,5 +4,4 @@ pub mod Bend
 pub mod Between
 pub mod Exactly
 pub mod Leads
-pub mod Worked
 pub mod Farther
