@@ -3,3 +3,5 @@ pub mod Loop
 pub mod Steps
 pub mod Lengths
 pub mod Sorted
+pub mod Rims
+pub mod Worked

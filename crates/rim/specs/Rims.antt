@@ -1,0 +1,56 @@
+-- The angles at which the rim of a state is taken, before any self-loop is drawn: by the arrows between different states, in their order, and by the start mark.
+use mathlib.Core.Bool.{Bool, cond, not, _&&_}
+use mathlib.Core.List.{List, [], _∷_, _++_, flatMap}
+use Prim.Native.Nat.{ℕ}
+use lib.Dec.{ltb, eqb}
+use lib.ListN.{length, getD}
+use lib.Ieee.{Float, nan}
+use Rattle.laws.specs.Flat.{table}
+use Rattle.float.specs.Constants.{π}
+use Rattle.shape.specs.declared.«V».{«V»}
+use Rattle.shape.specs.declared.Curve.{Curve}
+use Rattle.shape.specs.Curves.{start, end}
+use Rattle.shape.specs.Plane.{sub, angle}
+
+-- the angle at which a curve leaves the state with centre c, or reaches it
+abbrev pub leaveAngle : Curve → «V» → Float
+leaveAngle curve c = angle (sub (start curve) c)
+
+abbrev pub reachAngle : Curve → «V» → Float
+reachAngle curve c = angle (sub (end curve) c)
+
+-- an arrow's ends, and the angles at which it leaves the first and reaches the second
+pub record Ends : Type 0 where
+  pub source : ℕ
+  pub target : ℕ
+  pub leaves : Float
+  pub reaches : Float
+
+-- an arrow between two different states of n; others meet no rim: a loop is drawn later, an arrow with an end not below n is left out
+abbrev pub apart : ℕ → ℕ → ℕ → Bool
+apart n a b = ltb a n && ltb b n && not (eqb a b)
+
+-- the angle, where it is at state k
+abbrev pub angleAt : ℕ → ℕ → Float → List Float
+angleAt k state a = cond (eqb state k) (a ∷ []) []
+
+-- what one arrow takes of the rim of state k
+unfoldable pub taken : ℕ → ℕ → Ends → List Float
+taken n k e = cond (apart n (e .source) (e .target)) (angleAt k (e .source) (e .leaves) ++ angleAt k (e .target) (e .reaches)) []
+
+-- the start mark stands to the left, at PI
+abbrev pub startMark : Bool → List Float
+startMark start = cond start (π ∷ []) []
+
+unfoldable pub rimAngles : ℕ → ℕ → Bool → List Ends → List Float
+rimAngles n k start arrows = flatMap (taken n k) arrows ++ startMark start
+
+-- the arrows, from a list for each part
+abbrev pub endsOf : ℕ → ℕ → Float → Float → Ends
+endsOf a b l r = record { source = a; target = b; leaves = l; reaches = r }
+
+abbrev pub endsAt : List ℕ → List ℕ → List Float → List Float → ℕ → Ends
+endsAt sources targets leaves reaches i = endsOf (getD sources i 0) (getD targets i 0) (getD leaves i nan) (getD reaches i nan)
+
+abbrev pub allEnds : List ℕ → List ℕ → List Float → List Float → List Ends
+allEnds sources targets leaves reaches = table (endsAt sources targets leaves reaches) 0 (length sources)
