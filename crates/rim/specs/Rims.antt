@@ -5,6 +5,7 @@ use Prim.Native.Nat.{ℕ}
 use lib.Dec.{ltb, eqb}
 use lib.ListN.{length, getD}
 use lib.Ieee.{Float, nan}
+use Rattle.laws.specs.Filter.{filter}
 use Rattle.laws.specs.Flat.{table}
 use Rattle.float.specs.Constants.{π}
 use Rattle.shape.specs.declared.«V».{«V»}
@@ -30,20 +31,26 @@ pub record Ends : Type 0 where
 abbrev pub apart : ℕ → ℕ → ℕ → Bool
 apart n a b = ltb a n && ltb b n && not (eqb a b)
 
+abbrev pub joins : ℕ → Ends → Bool
+joins n e = apart n (e .source) (e .target)
+
 -- the angle, where it is at state k
 abbrev pub angleAt : ℕ → ℕ → Float → List Float
 angleAt k state a = cond (eqb state k) (a ∷ []) []
 
--- what one arrow takes of the rim of state k
-unfoldable pub taken : ℕ → ℕ → Ends → List Float
-taken n k e = cond (apart n (e .source) (e .target)) (angleAt k (e .source) (e .leaves) ++ angleAt k (e .target) (e .reaches)) []
+-- where an arrow meets the rim of state k
+abbrev pub meets : ℕ → Ends → List Float
+meets k e = angleAt k (e .source) (e .leaves) ++ angleAt k (e .target) (e .reaches)
+
+unfoldable pub arrowAngles : ℕ → ℕ → List Ends → List Float
+arrowAngles n k arrows = flatMap (meets k) (filter (joins n) arrows)
 
 -- the start mark stands to the left, at PI
 abbrev pub startMark : Bool → List Float
 startMark start = cond start (π ∷ []) []
 
 unfoldable pub rimAngles : ℕ → ℕ → Bool → List Ends → List Float
-rimAngles n k start arrows = flatMap (taken n k) arrows ++ startMark start
+rimAngles n k start arrows = arrowAngles n k arrows ++ startMark start
 
 -- the arrows, from a list for each part
 abbrev pub endsOf : ℕ → ℕ → Float → Float → Ends
