@@ -1,11 +1,9 @@
 -- The calls by the definitions of the crates below. Assumes nothing.
-use mathlib.Core.Path.{_≡_, refl, ap, _∙_}
-use mathlib.Core.Bool.{Bool, true, false, cond, not}
-use mathlib.Core.List.{List, [], _∷_, _++_}
-use Prim.Native.Nat.{ℕ, _≤_, _<_}
+use mathlib.Core.Path.{_≡_}
+use mathlib.Core.List.{List}
+use Prim.Native.Nat.{ℕ}
 use borrow.Author.Tests.{lt-ltb, le-ltb, lt-leb, le-leb}
-use lib.Dec.{ltb, leb}
-use lib.ListN.{length, drop}
+use lib.ListN.{length}
 use lib.Ieee.{Float}
 use Rattle.laws.specs.Cases.{by-bool, by-lt}
 use Rattle.laws.specs.Refusals.{decide, decide-map}
@@ -14,7 +12,6 @@ use Rattle.sheet.specs.declared.Checked.the-variants as C
 use Rattle.label.specs.Label.{labelRefusals, cut, blockWidth, blockHeight, sized}
 use Rattle.label.specs.declared.Sized.the-variants as L
 use Rattle.number.specs.Number.{tooLarge, numText, written, writtenAfter}
-use Rattle.number.specs.declared.Written.the-variants as N
 use Rattle.diagram.specs.Calls.{mainScreen, checkedAs, sizedAs, writtenAs, check, labelSize, writeNum, writeNumAfter}
 
 pub check-is : (s : List ℕ) → checkedAs (checkOf mainScreen s) ≡ check s

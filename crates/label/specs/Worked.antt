@@ -1,10 +1,10 @@
 -- Label blocks worked out: the one of the Rust's documentation, and each refusal. Assumes nothing.
-use mathlib.Core.Bool.{Bool, true, false, cond, _&&_}
+use mathlib.Core.Bool.{Bool, false, _&&_}
 use mathlib.Core.List.{List, [], _∷_, _++_}
 use Prim.Native.Nat.{ℕ}
 use lib.Dec.{T, eqb}
 use lib.ListN.{replicate}
-use lib.Ieee.{Float, binary64, toBits, ofBits, ofFields, ofInt, round, add, mul, lt, eq, ne, size, span, climb, units, odd, sum, isNan}
+use lib.Ieee.{binary64, toBits, ofBits, ofFields, ofInt, round, add, mul, lt, eq, ne, size, span, climb, units, odd, sum, isNan}
 use Rattle.laws.specs.Loops.{over}
 use Rattle.laws.specs.Refusals.{decide}
 use Rattle.text.specs.Utf8.{payload, codesFrom}

@@ -1,5 +1,5 @@
 -- A reader of numbers from bytes. What is written of a number is read back as its hundredths; no trailing zero, no trailing point, never `-0`. Assumes nothing.
-use mathlib.Core.Path.{_≡_, refl, sym, ap, _∙_, subst}
+use mathlib.Core.Path.{_≡_, refl, sym, ap, _∙_}
 use mathlib.Core.Bool.{Bool, true, false, cond, not, _&&_, true≢false}
 use mathlib.Core.List.{List, [], _∷_, _++_, append-assoc}
 use mathlib.Core.Option.{Option, none, some}
@@ -11,7 +11,7 @@ use lib.ListN.{length, length-append}
 use lib.Ieee.{Float, nan, inf, fin, ofBits}
 use lib.Ieee as Ieee
 use lib.Ieee.Scale.{finite}
-use borrow.Author.Tests.{eqb-true, eqb-false, leb-true, le-leb, lt-leb, ne-eqb, eq-eqb, ltb-true, ltb-false}
+use borrow.Author.Tests.{eqb-true, eqb-false, leb-true, le-leb, ne-eqb, ltb-true, ltb-false}
 use Rattle.laws.specs.Cases.{by-bool}
 use Rattle.laws.specs.Loops.{over}
 use Rattle.float.specs.Standins.{negative}

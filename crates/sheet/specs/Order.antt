@@ -1,10 +1,10 @@
 -- The order of the refusals: a sheet gets exactly one answer, each number only under its own cause, and whenever no cause before it holds. Assumes nothing.
-use mathlib.Core.Path.{_≡_, refl, sym, ap, _∙_}
-use mathlib.Core.Bool.{Bool, true, false}
-use mathlib.Core.List.{List, [], _∷_}
+use mathlib.Core.Path.{_≡_, ap, _∙_}
+use mathlib.Core.Bool.{true, false}
+use mathlib.Core.List.{List}
 use Prim.Native.Nat.{ℕ}
 use Rattle.laws.specs.Cases.{by-bool}
-use Rattle.laws.specs.Refusals.{Refusal, decide, decide-map}
+use Rattle.laws.specs.Refusals.{decide, decide-map}
 use Rattle.sheet.specs.Sheet.{meaning}
 use Rattle.sheet.specs.Refusals.{wrongLength, wrongVersion, wrongBytes, wrongChains, overLimits, illFormed, refusals, checkOf}
 use Rattle.sheet.specs.declared.Checked.{Checked}
