@@ -4,6 +4,7 @@
 //! payload: the arguments and then the oracle's answer. A float is its eight bytes, the least
 //! first. The stream ends with a case of kind 0, whose payload is the number of cases before it.
 
+mod borders;
 mod bows;
 mod calls;
 mod float;
@@ -97,7 +98,7 @@ pub mod kind {
 
 /// Whether the program `vectors` replays cases of this kind.
 fn replayed(kind: u8) -> bool {
-    matches!(kind, 0..=43 | kind::SPOILED)
+    matches!(kind, 0..=46 | kind::SPOILED)
 }
 
 /// A case's payload as it is put together.

@@ -14,14 +14,14 @@ use replay_shape::after;
 use replay_shape::same_curve;
 use replay_shape::same_float;
 
-fn low(b: u8) -> usize
+pub fn low(b: u8) -> usize
     ensures { λ r. ⌜ r < 256 ⌝ }
 {
     b as usize
 }
 
 // The floats from a place on, as many as `out` holds.
-fn fill(p: &[u8], at: usize, out: &mut [f64]) {
+pub fn fill(p: &[u8], at: usize, out: &mut [f64]) {
     let mut k = 0;
     let mut from = at;
     while k < out.len() {

@@ -38,7 +38,7 @@ pub fn same_float(p: &[u8], at: usize, v: f64) -> bool {
     same(float(p, at), v)
 }
 
-fn same_point(p: &[u8], at: usize, v: V) -> bool {
+pub fn same_point(p: &[u8], at: usize, v: V) -> bool {
     if !same_float(p, at, v.x) {
         return false;
     }

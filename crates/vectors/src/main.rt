@@ -71,7 +71,10 @@ fn agrees(kind: u8, p: &[u8]) -> bool {
     if kind < 41 {
         return replay_trace::agrees(kind, p);
     }
-    replay_bow::agrees(kind, p)
+    if kind < 44 {
+        return replay_bow::agrees(kind, p);
+    }
+    replay_place::agrees(kind, p)
 }
 
 fn text_agrees(kind: u8, p: &[u8]) -> bool {

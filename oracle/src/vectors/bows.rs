@@ -1,7 +1,7 @@
 //! Cases of bows: `bend`, `between` and `first_free`.
 
 use super::float::ordinary;
-use super::{Payload, Stream, kind};
+use super::{Payload, Stream, borders, kind};
 use crate::generate::centres;
 use crate::random::Random;
 use crate::route::probe::{self, Point};
@@ -14,45 +14,68 @@ pub fn cases(out: &mut Stream) {
         let from = rng.below(c.len());
         let to = (from + 1 + rng.below(c.len() - 1)) % c.len();
         let both = rng.once_in(2);
-        let args = || {
-            let head = Payload::new().byte(c.len() as u8).byte(from as u8).byte(to as u8).flag(both);
-            let xs: Vec<f64> = c.iter().map(|p| p.0).collect();
-            let ys: Vec<f64> = c.iter().map(|p| p.1).collect();
-            head.floats(&xs).floats(&ys)
-        };
         if i % 5 < 3 {
-            let (beyond, h) = probe::bow(from, to, &c, both);
-            out.case(kind::BEND, args().byte(beyond).float(h));
-            if i % 50 == 1 {
-                out.spoiled(kind::BEND, args().byte(9 - beyond).float(h));
-                out.spoiled(kind::BEND, args().byte(0).float(if h == 1.0 { 2.0 } else { 1.0 }));
-            }
+            bend(out, &c, (from, to, both), i % 50 == 1);
         } else {
-            let (beyond, curve, angle, outer) = probe::between(from, to, &c, both);
-            let answer = |angle: f64| {
-                args().byte(beyond).curve(&curve).float(angle).flag(outer != 0.0).float(outer)
-            };
-            out.case(kind::BETWEEN, answer(angle));
-            if i % 50 == 3 && beyond == 0 {
-                out.spoiled(kind::BETWEEN, answer(angle + 1.0));
-            }
+            between(out, &c, (from, to, both), i % 50 == 3);
         }
     }
-    for i in 0..300 {
-        let spans = spans(rng, i);
-        let dir = rng.pick(&[1.0, -1.0]);
-        let start = rng.pick(&[24.0, 28.0, 42.0, 64.0, 33.5]) * dir;
-        let lo: Vec<f64> = spans.iter().map(|s| s.0).collect();
-        let hi: Vec<f64> = spans.iter().map(|s| s.1).collect();
-        let args = || {
-            let head = Payload::new().byte(spans.len() as u8).floats(&[start, dir]);
-            head.floats(&lo).floats(&hi)
-        };
-        let h = probe::free(&spans, start, dir);
-        out.case(kind::FIRST_FREE, args().float(h));
-        if i % 60 == 7 {
-            out.spoiled(kind::FIRST_FREE, args().float(if h == 1.0 { 2.0 } else { 1.0 }));
-        }
+    for i in 0..1200 {
+        let c = borders::positions(rng, i);
+        // Near 10^9 it is the two-way pair from state 0 that is tried.
+        let limit = i % borders::WAYS == borders::LIMIT;
+        let (from, to) = if !limit && rng.once_in(4) { (1, 0) } else { (0, 1) };
+        let both = rng.once_in(2) || (limit && !rng.once_in(8));
+        bend(out, &c, (from, to, both), i % 100 == 1);
+        between(out, &c, (from, to, both), i % 100 == 3);
+    }
+    for i in 0..500 {
+        free(out, rng, i);
+    }
+}
+
+/// How many centres, the two ends, whether both ways; the xs, the ys.
+fn scene(c: &[Point], (from, to, both): (usize, usize, bool)) -> Payload {
+    let head = Payload::new().byte(c.len() as u8).byte(from as u8).byte(to as u8).flag(both);
+    let xs: Vec<f64> = c.iter().map(|p| p.0).collect();
+    let ys: Vec<f64> = c.iter().map(|p| p.1).collect();
+    head.floats(&xs).floats(&ys)
+}
+
+fn bend(out: &mut Stream, c: &[Point], ends: (usize, usize, bool), spoil: bool) {
+    let (beyond, h) = probe::bow(ends.0, ends.1, c, ends.2);
+    out.case(kind::BEND, scene(c, ends).byte(beyond).float(h));
+    if spoil {
+        out.spoiled(kind::BEND, scene(c, ends).byte(9 - beyond).float(h));
+        out.spoiled(kind::BEND, scene(c, ends).byte(0).float(if h == 1.0 { 2.0 } else { 1.0 }));
+    }
+}
+
+fn between(out: &mut Stream, c: &[Point], ends: (usize, usize, bool), spoil: bool) {
+    let (beyond, curve, angle, outer) = probe::between(ends.0, ends.1, c, ends.2);
+    let answer = |angle: f64| {
+        scene(c, ends).byte(beyond).curve(&curve).float(angle).flag(outer != 0.0).float(outer)
+    };
+    out.case(kind::BETWEEN, answer(angle));
+    if spoil && beyond == 0 {
+        out.spoiled(kind::BETWEEN, answer(if angle == 1.0 { 2.0 } else { 1.0 }));
+    }
+}
+
+fn free(out: &mut Stream, rng: &mut Random, i: usize) {
+    let spans = spans(rng, i);
+    let dir = rng.pick(&[1.0, -1.0]);
+    let start = rng.pick(&[24.0, 28.0, 42.0, 64.0, 33.5]) * dir;
+    let lo: Vec<f64> = spans.iter().map(|s| s.0).collect();
+    let hi: Vec<f64> = spans.iter().map(|s| s.1).collect();
+    let args = || {
+        let head = Payload::new().byte(spans.len() as u8).floats(&[start, dir]);
+        head.floats(&lo).floats(&hi)
+    };
+    let h = probe::free(&spans, start, dir);
+    out.case(kind::FIRST_FREE, args().float(h));
+    if i % 60 == 7 {
+        out.spoiled(kind::FIRST_FREE, args().float(if h == 1.0 { 2.0 } else { 1.0 }));
     }
 }
 

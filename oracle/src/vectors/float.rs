@@ -211,8 +211,8 @@ fn pairs(rng: &mut Random, n: usize) -> Vec<(f64, f64)> {
     list
 }
 
-/// Pairs, the axes and diagonals at several sizes, and ordinary directions. A NaN is left out:
-/// document 01 does not say which of it and a number is the larger.
+/// Pairs, the axes and diagonals at several sizes, and ordinary directions. Each NaN is the one
+/// whose sign bit is not set: the port's NaN has no sign.
 fn directions(rng: &mut Random) -> Vec<(f64, f64)> {
     let mut list = pairs(rng, 300);
     for size in [1.0, 5e-324, 1e-300, 22.0, 1e300] {
@@ -223,8 +223,8 @@ fn directions(rng: &mut Random) -> Vec<(f64, f64)> {
         }
     }
     list.extend((0..300).map(|_| (ordinary(rng), ordinary(rng))));
-    list.retain(|(y, x)| !y.is_nan() && !x.is_nan());
-    list
+    let plain = |v: f64| if v.is_nan() { f64::from_bits(0x7ff8 << 48) } else { v };
+    list.iter().map(|&(y, x)| (plain(y), plain(x))).collect()
 }
 
 /// Rust's clamp stops the program where the bounds are out of order or NaN: none are here.

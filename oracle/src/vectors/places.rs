@@ -3,7 +3,7 @@
 use super::shapes::{boxed, curve_of, point};
 use super::{Payload, Stream, kind};
 use crate::random::Random;
-use crate::route::probe;
+use crate::route::probe::{self, Box4, Point};
 
 pub fn cases(out: &mut Stream) {
     let rng = &mut Random::new(808);
@@ -13,7 +13,7 @@ pub fn cases(out: &mut Stream) {
     for i in 0..150 {
         spots(out, rng, i);
     }
-    for i in 0..300 {
+    for i in 0..1200 {
         costs(out, rng, i);
     }
 }
@@ -53,30 +53,65 @@ fn spots(out: &mut Stream, rng: &mut Random, i: usize) {
     }
 }
 
+/// A point whose coordinates are such that boxes, states and traces touch what they must keep from,
+/// exactly, or stand a little apart.
+fn spaced(rng: &mut Random) -> Point {
+    let mut coordinate = || {
+        let base = rng.below(5) as f64 * 40.0 - 80.0;
+        base + rng.pick(&[0.0, 4.0, -4.0, 8.0, 26.0, -26.0, 10.0, -24.0, 7.199_999_999_999_999, -7.2])
+    };
+    (coordinate(), coordinate())
+}
+
+/// A point of a scene: spaced, or of one of the ways of shapes.
+fn spot(rng: &mut Random, i: usize) -> Point {
+    match i % 10 {
+        0 => point(rng, 7),
+        1 | 2 => point(rng, 0),
+        3 | 4 => point(rng, 4),
+        _ => spaced(rng),
+    }
+}
+
+fn bounds(rng: &mut Random, i: usize) -> Box4 {
+    if i % 10 < 5 {
+        return boxed(rng, [7, 0, 0, 4, 4][i % 10]);
+    }
+    let (x, y) = spaced(rng);
+    let (w, h) = (rng.below(9) as f64 * 7.2, rng.below(4) as f64 * 15.0);
+    [x, y, x + w, y + h]
+}
+
 /// How many states, boxes and traces there are, and the arrow, a byte each; the limit; the box; the
-/// states, the boxes, and the traces, each its arrow (255 for none) and its curve; the cost in full
-/// and the cost cut at the limit.
+/// states' xs, their ys; the boxes; the traces, each its arrow (255 for none) and its curve; the cost
+/// in full and the cost cut at the limit.
 fn costs(out: &mut Stream, rng: &mut Random, i: usize) {
-    let way = if i % 10 == 0 { 7 } else { 4 * (i % 2) };
-    let states: Vec<_> = (0..rng.below(9)).map(|_| point(rng, way)).collect();
-    let boxes: Vec<_> = (0..rng.below(9)).map(|_| boxed(rng, way)).collect();
-    let traces: Vec<(Option<usize>, Vec<_>)> = (0..rng.below(9))
+    let most = if i % 40 == 5 { 65 } else { 9 };
+    let states: Vec<_> = (0..rng.below(most)).map(|_| spot(rng, i)).collect();
+    let boxes: Vec<_> = (0..rng.below(most)).map(|_| bounds(rng, i)).collect();
+    let traces: Vec<(Option<usize>, Vec<_>)> = (0..rng.below(most))
         .map(|k| {
             let n = 2 + rng.below(3);
             let owner = if rng.once_in(5) { None } else { Some(k) };
-            (owner, curve_of(rng, n, way))
+            (owner, (0..n).map(|_| spot(rng, i)).collect())
         })
         .collect();
     let own = rng.below(9);
-    let b = boxed(rng, way);
-    let limit = rng.below(60);
+    let b = bounds(rng, i);
+    let limit = match i % 4 {
+        0 => rng.below(4),
+        1 => rng.below(20),
+        2 => rng.below(60),
+        _ => probe::cost(&states, &boxes, &traces, (own, b, usize::MAX)),
+    };
     let full = probe::cost(&states, &boxes, &traces, (own, b, usize::MAX));
     let cut = probe::cost(&states, &boxes, &traces, (own, b, limit));
     let args = || {
         let counts = [states.len(), boxes.len(), traces.len(), own];
         let p = counts.iter().fold(Payload::new(), |p, &n| p.byte(n as u8));
         let p = p.long(limit).floats(&b);
-        let p = states.iter().fold(p, |p, &s| p.point(s));
+        let p = states.iter().fold(p, |p, s| p.float(s.0));
+        let p = states.iter().fold(p, |p, s| p.float(s.1));
         let p = boxes.iter().fold(p, |p, b| p.floats(b));
         traces.iter().fold(p, |p, (owner, c)| p.byte(owner.map_or(255, |k| k as u8)).curve(c))
     };

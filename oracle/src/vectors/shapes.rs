@@ -56,10 +56,6 @@ pub fn curve(rng: &mut Random, n: usize) -> Vec<Point> {
     curve_of(rng, n, way)
 }
 
-fn no_nan(p: Point) -> bool {
-    !p.0.is_nan() && !p.1.is_nan()
-}
-
 pub fn cases(out: &mut Stream) {
     let rng = &mut Random::new(505);
     for i in 0..160 {
@@ -107,9 +103,7 @@ fn points(out: &mut Stream, rng: &mut Random, i: usize) {
     with_floats(out, rng, kind::POLAR, Payload::new().float(phi), &[x, y]);
     with_floats(out, rng, kind::DOT, two(), &[probe::dot(a, b)]);
     with_floats(out, rng, kind::LEN, Payload::new().point(a), &[probe::len(a)]);
-    if no_nan(a) {
-        with_floats(out, rng, kind::ANGLE, Payload::new().point(a), &[probe::angle(a)]);
-    }
+    with_floats(out, rng, kind::ANGLE, Payload::new().point(a), &[probe::angle(a)]);
     // Near the length below which two points count as the same.
     let short = match i % 4 {
         0 => (1e-9, 0.0),
