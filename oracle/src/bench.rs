@@ -9,6 +9,7 @@ use crate::standin;
 #[cfg(port = "probes")]
 unsafe extern "C" {
     safe fn murshogi_root(v: f64) -> f64;
+    fn murshogi_check(sheet: *const u8, length: usize) -> u8;
 }
 
 const ROUNDS: usize = 60;
@@ -54,4 +55,42 @@ pub fn root() {
     for v in squares.iter().chain(&whole).chain(&any) {
         assert!(murshogi_root(*v).to_bits() == standin::root(*v).to_bits(), "{v:e}");
     }
+}
+
+/// The port's check and the oracle's, on large sheets.
+pub fn check() {
+    let mut states = vec![0u8; 65536];
+    states[0] = 1;
+    crate::sheet::put(&mut states, 2, 4095);
+    crate::sheet::put(&mut states, 4, 1);
+    for k in 1..4096 {
+        states[16 * k] = 1;
+        crate::sheet::put(&mut states, 16 * k + 2, (k + 1) % 4096);
+    }
+    let rng = &mut Random::new(11);
+    let full = crate::generate::sheet(rng, crate::generate::Size { states: 64, arrows: 256, lines: 8, characters: 12 });
+    let full = crate::generate::shuffled(rng, &full);
+    println!("microseconds a call: 4,095 states in one chain, a sheet of {} records", full.len() / 16 - 1);
+    let row = |name: &str, f: &dyn Fn(&[u8]) -> u8| {
+        let t: Vec<f64> = [&states, &full].iter().map(|s| timed_on(s, f)).collect();
+        println!("{name:<10} {:8.1} {:8.1}   answers {} {}", t[0], t[1], f(&states), f(&full));
+    };
+    row("oracle", &|s| crate::calls::check(s).err().unwrap_or(0));
+    #[cfg(port = "probes")]
+    row("port", &|s| unsafe { murshogi_check(s.as_ptr(), s.len()) });
+    #[cfg(not(port = "probes"))]
+    println!("port       not linked: MURSHOGI_LIB does not name libprobes.a");
+}
+
+/// The least time a call on one sheet over some rounds, in microseconds.
+fn timed_on(sheet: &[u8], f: &dyn Fn(&[u8]) -> u8) -> f64 {
+    let mut least = f64::INFINITY;
+    for _ in 0..ROUNDS {
+        let start = Instant::now();
+        for _ in 0..20 {
+            black_box(f(black_box(sheet)));
+        }
+        least = least.min(start.elapsed().as_nanos() as f64 / 20_000.0);
+    }
+    least
 }

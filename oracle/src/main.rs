@@ -52,11 +52,12 @@ fn main() {
     match words.as_slice() {
         ["vectors", file] => vectors::write(file),
         ["bench", "root"] => bench::root(),
+        ["bench", "check"] => bench::check(),
         ["list", kind] => list(kind.parse().unwrap_or(255)),
         #[cfg(port = "murshogi")]
         ["compare", turns, seed] => compare::run(turns.parse().unwrap(), seed.parse().unwrap()),
         _ => {
-            eprintln!("usage: oracle vectors FILE | bench root | list KIND < SHEET | compare TURNS SEED");
+            eprintln!("usage: oracle vectors FILE | bench root | bench check | list KIND < SHEET | compare TURNS SEED");
             std::process::exit(2);
         }
     }

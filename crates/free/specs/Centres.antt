@@ -19,7 +19,7 @@ centres xs ys = zip vec xs ys
 abbrev pub centre : List «V» → ℕ → «V»
 centre ps k = getD ps k (vec f0 f0)
 
--- the straight way from a to b; centres closer than 1e-9 count as side by side, in the direction (1, 0)
+-- the straight way from a to b; centres not further apart than 1e-9 have the direction (1, 0)
 abbrev pub chordOf : ℕ → ℕ → «V» → «V» → Chord
 chordOf from to a b = record { from = from; to = to; a = a; b = b; along = unitOr (sub b a) (vec f1 f0); len = dist a b }
 

@@ -38,7 +38,7 @@ withTrace s t = sceneOf (s .centres) (s .traces ++ (t ∷ [])) (s .boxes)
 unfoldable pub near : Rect → «V» → Bool
 near b c = lt (boxDist b c) (f22 ⊕ f4)
 
--- other arrows keep 4 from a label, other labels a character's width to the side
+-- other arrows keep 4 from a label, other labels a character's width to the side and 4 above and below
 abbrev pub wide : Rect → Rect
 wide b = grown b f4
 

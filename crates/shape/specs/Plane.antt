@@ -40,7 +40,7 @@ len a = hypot (a .x) (a .y)
 abbrev pub angle : «V» → Float
 angle a = atan2 (a .y) (a .x)
 
--- the unit vector in this direction; below the length 1e-9 a vector has none, and the fallback is taken
+-- the unit vector in this direction; where its length is not above 1e-9 a vector has none, and the fallback is taken
 unfoldable pub unitOr : «V» → «V» → «V»
 unitOr a fallback = cond (lt f1e-9 (len a)) (div a (len a)) fallback
 

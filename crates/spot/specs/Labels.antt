@@ -22,7 +22,7 @@ placed x y a = record { label = vec x y; anchor = a }
 unfoldable pub sideOf : «V» → Anchor
 sideOf dir = cond (lt f0 (dir .x)) Start End
 
--- A block of this size beyond the apex in direction dir, 4 away from the line through the apex normal to dir: centred above or below a
+-- A block of this size beyond the apex in direction dir, at least 4 away from the line through the apex normal to dir: centred above or below a
 -- nearly horizontal arrow, beside a nearly vertical one, and from its nearest corner on diagonal ones.
 unfoldable pub placeLabel : «V» → «V» → Float → Float → Placed
 placeLabel apex dir width height =

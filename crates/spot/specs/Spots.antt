@@ -47,7 +47,7 @@ outside t = (t, true)
 abbrev pub inside : Float → Listed
 inside t = (t, false)
 
--- "Straight labels try 0.5, 0.36, 0.64, 0.24, 0.76 along the arrow in `label_spots` order": above before below
+-- "Straight labels try 0.5, 0.36, 0.64, 0.24, 0.76 along the arrow in `label_spots` order": at the middle above, then below; at each further pair of places both above, then both below
 abbrev pub lineListed : List Listed
 lineListed =
     up f0-5 ∷ down f0-5

@@ -17,7 +17,7 @@ use Rattle.trace.specs.Traces.{Owner, nobody, arrow, Trace, ownerOf, sam
 
 -- ---- reading
 
--- the whole number that a float stands for, 0 where it is none
+-- a float cut to a whole number; 0 outside −1 .. 2^64
 unfoldable pub wholeOf : Float → ℕ
 wholeOf v = cond (lt (neg f1) v) (cond (lt v f2e64) (toUnsigned 64 v) 0) 0
 

@@ -28,7 +28,7 @@ pub fn rect_of(p: &[f64]) -> Rect
     }
 }
 
-// The whole number that a float stands for, 0 where it is none.
+// A float cut to a whole number; 0 outside -1 .. 2^64.
 pub fn whole_of(v: f64) -> usize
     ensures { λ r. ⌜ r ≡ F.wholeOf v ⌝ }
 {
