@@ -10,19 +10,15 @@ use Rattle.label.proofs.height.Reads as height-reads
 use Rattle.label.proofs.widest.Reads as widest-reads
 use Rattle.meaning.proofs.chain_length.Reads as chain-length-reads
 
--- src/lib.rt:136:9
 widest-requires : tie.Need-widest-requires
 widest-requires c κs = search needs
 
--- src/lib.rt:137:25
 chain-length-requires : tie.Need-chain-length-requires
 chain-length-requires c κs = search needs
 
--- src/lib.rt:137:9
 height-requires : tie.Need-height-requires
 height-requires c κs = search needs
 
--- src/lib.rt:132:1
 returns : tie.Need-returns
 returns c = block-is (now (c .before .before .before .before .args .s)) (c .before .before .before .before .args .first) (c .before .chain-length .result) (c .before .before .widest .result) (c .height .result) (c .before .before .widest .ensures) (c .before .chain-length .ensures .0) (c .height .ensures)
 

@@ -6,12 +6,10 @@ use Rattle.label.proofs.char_width.Tie as tie
 use Rattle.label.proofs.char_width.Reads as reads
 use Rattle.label.proofs.char_width.Lts as lts
 
--- src/lib.rt:26:9
 returns : tie.Need-returns
 unfolding charWidth
 returns c = rw (lt-ltb (c .before .args .c) 0x80 (c .if1 .taken))
 
--- src/lib.rt:22:1
 returns-2 : tie.Need-returns-2
 unfolding charWidth
 returns-2 c = rw (le-ltb (c .before .args .c) 0x80 (c .if1 .left))

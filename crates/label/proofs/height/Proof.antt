@@ -5,11 +5,9 @@ use Rattle.label.proofs.height.Reads as reads
 use Rattle.label.proofs.height.Lts as lts
 use Rattle.std.proofs.num.nearest_u64_to_f64.Reads as nearest-u64-to-f64-reads
 
--- src/lib.rt:73:5
 nearest-u64-to-f64-requires : tie.Need-nearest-u64-to-f64-requires
 nearest-u64-to-f64-requires c κs = tt
 
--- src/lib.rt:70:1
 returns : tie.Need-returns
 returns c = rw (c .nearest-u64-to-f64 .ensures)
 

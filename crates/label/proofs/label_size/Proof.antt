@@ -13,25 +13,20 @@ use Rattle.label.proofs.label_size.Lts as lts
 use Rattle.label.proofs.lengths_fit.Reads as lengths-fit-reads
 use Rattle.label.proofs.lines_size.Reads as lines-size-reads
 
--- src/lib.rt:127:9
 returns : tie.Need-returns
 returns c = sym (sized-many (c .before .before .before .before .args .m) (now (c .before .before .before .before .args .text)) (now (c .before .before .before .before .args .lengths)) (c .if1 .taken))
 
--- src/lib.rt:129:9
 lengths-fit-requires : tie.Need-lengths-fit-requires
 lengths-fit-requires c κs = tt
 
--- src/lib.rt:130:9
 returns-2 : tie.Need-returns-2
 returns-2 c =
     sym (sized-unfit (c .before .before .before .before .before .before .args .m) (now (c .before .before .before .before .before .before .args .text)) (now (c .before .before .before .before .before .before .args .lengths)) (c .before .before .if1 .left) (sym (c .before .lengths-fit .ensures) ∙ not-true _ (c .if2 .taken)))
 
--- src/lib.rt:132:5
 lines-size-requires : tie.Need-lines-size-requires
 lines-size-requires c κs =
     omega (arith, fit-total (c .before .before .before .before .before .before .args .m .bytes) (length (now (c .before .before .before .before .before .before .args .text))) (now (c .before .before .before .before .before .before .args .lengths)) (sym (c .before .lengths-fit .ensures) ∙ not-false _ (c .if2 .left)))
 
--- src/lib.rt:123:1
 returns-3 : tie.Need-returns-3
 returns-3 c =
     c .lines-size .ensures

@@ -18,39 +18,30 @@ Inv-loop lengths most bytes left₀ i₀ i-end left i = (i-end ≡ length length
 abbrev μ-loop : tie.MeasureT-loop
 μ-loop lengths most bytes left₀ i₀ i-end left i = i-end - i
 
--- src/lib.rt:82:5
 loop-holds : tie.Need-loop-holds Inv-loop μ-loop
 loop-holds c = (refl, omega arith, refl)
 
--- src/lib.rt:83:17
 mul-n : tie.Need-mul-n Inv-loop μ-loop
 mul-n c = search needs
 
--- src/lib.rt:83:17
 shared-slice-read-n : tie.Need-shared-slice-read-n Inv-loop μ-loop
 shared-slice-read-n c = search needs
 
--- src/lib.rt:85:13
 returns : tie.Need-returns Inv-loop μ-loop
 returns c = fit-over-at (c .before .before .before .before .args .most) (c .before .before .before .loop .left) (now (c .before .before .before .before .args .lengths)) (c .before .before .before .loop .i) (omega arith) (c .if1 .taken) ∙ c .before .before .before .loop .inv .2
 
--- src/lib.rt:88:13
 returns-2 : tie.Need-returns-2 Inv-loop μ-loop
 returns-2 c = fit-short-at (c .before .before .before .before .before .args .most) (c .before .before .before .before .loop .left) (now (c .before .before .before .before .before .args .lengths)) (c .before .before .before .before .loop .i) (omega arith) (c .if2 .taken) ∙ c .before .before .before .before .loop .inv .2
 
--- src/lib.rt:82:9
 add-i : tie.Need-add-i Inv-loop μ-loop
 add-i c = omega arith
 
--- src/lib.rt:82:5
 loop-less : tie.Need-loop-less Inv-loop μ-loop
 loop-less c = omega arith
 
--- src/lib.rt:82:5
 loop-again : tie.Need-loop-again Inv-loop μ-loop
 loop-again c = (c .before .before .before .before .loop .inv .0, omega arith, fit-turn-at (c .before .before .before .before .before .args .most) (c .before .before .before .before .loop .left) (now (c .before .before .before .before .before .args .lengths)) (c .before .before .before .before .loop .i) (omega arith) (c .before .if1 .left) (c .if2 .left) ∙ c .before .before .before .before .loop .inv .2)
 
--- src/lib.rt:78:1
 returns-3 : tie.Need-returns-3 Inv-loop μ-loop
 returns-3 c = fit-end-at (c .before .before .args .most) (c .before .loop .left) (now (c .before .before .args .lengths)) (c .before .loop .i) (omega arith) ∙ c .before .loop .inv .2
 

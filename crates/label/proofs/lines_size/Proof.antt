@@ -29,27 +29,21 @@ Inv-loop text lengths at₀ width₀ i₀ i-end at width i =
 abbrev μ-loop : tie.MeasureT-loop
 μ-loop text lengths at₀ width₀ i₀ i-end at width i = i-end - i
 
--- src/lib.rt:102:5
 loop-holds : tie.Need-loop-holds Inv-loop μ-loop
 loop-holds c = (refl, omega arith, omega (arith, c .before .before .pre), refl)
 
--- src/lib.rt:103:17
 mul-n : tie.Need-mul-n Inv-loop μ-loop
 mul-n c = search needs
 
--- src/lib.rt:103:17
 shared-slice-read-n : tie.Need-shared-slice-read-n Inv-loop μ-loop
 shared-slice-read-n c = search needs
 
--- src/lib.rt:104:43
 start-requires : tie.Need-start-requires Inv-loop μ-loop
 start-requires c κs = tt
 
--- src/lib.rt:104:13
 measure-part-requires : tie.Need-measure-part-requires Inv-loop μ-loop
 measure-part-requires c κs = tt
 
--- src/lib.rt:106:13
 returns : tie.Need-returns Inv-loop μ-loop
 returns c =
     let text = now (c .before .before .before .before .before .before .before .before .before .args .text) in
@@ -58,23 +52,18 @@ returns c =
     let e = c .before .before .measure-part .ensures ∙ ap (λ (m : Measure). measureAll m (take (getD lengths (c .before .before .before .before .before .before .loop .i) 0) (drop (c .before .before .before .before .before .before .loop .at) text))) (c .before .before .before .start .ensures) in
     line-ill h (c .before .before .before .before .before .before .loop .width) text lengths (c .before .before .before .before .before .before .loop .at) (c .before .before .before .before .before .before .loop .i) (omega arith) (c .before .before .measure-part .result .st) (ap (λ (m : Measure). m .st) e) (c .if1 .taken) ∙ c .before .before .before .before .before .before .loop .inv .3
 
--- src/lib.rt:108:9
 max-requires : tie.Need-max-requires Inv-loop μ-loop
 max-requires c κs = tt
 
--- src/lib.rt:109:9
 add-at : tie.Need-add-at Inv-loop μ-loop
 add-at c = omega (arith, total-at 0 0 (now (c .before .before .before .before .before .before .before .before .before .before .args .lengths)) (c .before .before .before .before .before .before .before .loop .i) (omega arith))
 
--- src/lib.rt:102:9
 add-i : tie.Need-add-i Inv-loop μ-loop
 add-i c = omega arith
 
--- src/lib.rt:102:5
 loop-less : tie.Need-loop-less Inv-loop μ-loop
 loop-less c = omega arith
 
--- src/lib.rt:102:5
 loop-again : tie.Need-loop-again Inv-loop μ-loop
 loop-again c =
     let text = now (c .before .before .before .before .before .before .before .before .before .before .args .text) in
@@ -90,11 +79,9 @@ loop-again c =
           ∙ c .before .before .before .before .before .before .before .loop .inv .3,
     )
 
--- src/lib.rt:111:24
 height-requires : tie.Need-height-requires Inv-loop μ-loop
 height-requires c κs = tt
 
--- src/lib.rt:96:1
 returns-2 : tie.Need-returns-2 Inv-loop μ-loop
 returns-2 c =
     let text = now (c .before .before .before .before .before .args .text) in

@@ -8,23 +8,18 @@ use Rattle.label.proofs.char_width.Reads as char-width-reads
 use Rattle.text.proofs.feed.Reads as feed-reads
 use Rattle.text.proofs.gather.Reads as gather-reads
 
--- src/lib.rt:42:9
 feed-requires : tie.Need-feed-requires
 feed-requires c κs = tt
 
--- src/lib.rt:43:9
 gather-requires : tie.Need-gather-requires
 gather-requires c κs = tt
 
--- src/lib.rt:45:31
 char-width-requires : tie.Need-char-width-requires
 char-width-requires c κs = tt
 
--- src/lib.rt:46:9
 returns : tie.Need-returns
 returns c = step-done (c .before .before .before .before .before .args .m) (c .before .before .before .before .before .args .b) (c .before .before .before .before .feed .result) (c .before .before .before .gather .result) (c .before .char-width .result) (c .before .before .before .before .feed .ensures) (c .before .before .before .gather .ensures) (c .before .before .if1 .taken) (c .before .char-width .ensures)
 
--- src/lib.rt:39:1
 returns-2 : tie.Need-returns-2
 returns-2 c = step-more (c .before .before .before .args .m) (c .before .before .before .args .b) (c .before .before .feed .result) (c .before .gather .result) (c .before .before .feed .ensures) (c .before .gather .ensures) (c .if1 .left)
 

@@ -27,59 +27,45 @@ Inv-loop s k m₀ i₀ left₀ m i left = (measureAll m (flatMap (piece s) (chai
 abbrev μ-loop : tie.MeasureT-loop
 μ-loop s k m₀ i₀ left₀ m i left = left
 
--- src/lib.rt:97:9
 start-requires : tie.Need-start-requires Inv-loop μ-loop
 start-requires c κs = tt
 
--- src/lib.rt:98:9
 first-text-at-requires : tie.Need-first-text-at-requires Inv-loop μ-loop
 first-text-at-requires c κs = search needs
 
--- src/lib.rt:99:20
 word-at-requires : tie.Need-word-at-requires Inv-loop μ-loop
 word-at-requires c κs = search needs
 
--- src/lib.rt:99:20
 add-left : tie.Need-add-left Inv-loop μ-loop
 add-left c = search needs
 
--- src/lib.rt:100:5
 loop-holds : tie.Need-loop-holds Inv-loop μ-loop
 loop-holds c = (line-start (now (c .before .before .before .before .args .s)) (c .before .before .before .before .args .k) (c .before .first-text-at .result) (c .word-at .result) (c .before .before .start .result) (c .before .before .start .ensures) (c .before .first-text-at .ensures .0) (c .word-at .ensures .0), omega arith)
 
--- src/lib.rt:102:13
 returns : tie.Need-returns Inv-loop μ-loop
 returns c = bytes-cut measureOf (now (c .before .before .before .before .before .before .before .args .s)) (piece (now (c .before .before .before .before .before .before .before .args .s))) (c .before .before .loop .left) (c .before .before .loop .i) (c .before .before .loop .m) (c .if1 .taken) ∙ c .before .before .loop .inv .0
 
--- src/lib.rt:104:29
 mul-measure-part : tie.Need-mul-measure-part Inv-loop μ-loop
 mul-measure-part c = search needs
 
--- src/lib.rt:104:29
 add-measure-part : tie.Need-add-measure-part Inv-loop μ-loop
 add-measure-part c = search needs
 
--- src/lib.rt:104:41
 one-at-requires : tie.Need-one-at-requires Inv-loop μ-loop
 one-at-requires c κs = search needs
 
--- src/lib.rt:104:9
 measure-part-requires : tie.Need-measure-part-requires Inv-loop μ-loop
 measure-part-requires c κs = tt
 
--- src/lib.rt:105:9
 next-at-requires : tie.Need-next-at-requires Inv-loop μ-loop
 next-at-requires c κs = search needs
 
--- src/lib.rt:106:9
 sub-left : tie.Need-sub-left Inv-loop μ-loop
 sub-left c = search needs
 
--- src/lib.rt:100:5
 loop-less : tie.Need-loop-less Inv-loop μ-loop
 loop-less c = search needs
 
--- src/lib.rt:100:5
 loop-again : tie.Need-loop-again Inv-loop μ-loop
 loop-again c =
     let s = now (c .before .before .before .before .before .before .before .before .before .before .args .s) in (
@@ -90,7 +76,6 @@ loop-again c =
       omega arith,
     )
 
--- src/lib.rt:93:1
 returns-2 : tie.Need-returns-2 Inv-loop μ-loop
 returns-2 c = bytes-end measureOf (now (c .before .before .before .before .before .before .args .s)) (piece (now (c .before .before .before .before .before .before .args .s))) (c .before .loop .left) (c .before .loop .i) (c .before .loop .m) (c .loop-test .left) ∙ c .before .loop .inv .0
 

@@ -19,35 +19,27 @@ Inv-loop s a n m i₀ left₀ t i left = measureAll t (take left (drop i s)) ≡
 abbrev μ-loop : tie.MeasureT-loop
 μ-loop s a n m i₀ left₀ t i left = left
 
--- src/lib.rt:58:5
 loop-holds : tie.Need-loop-holds Inv-loop μ-loop
 loop-holds c = refl
 
--- src/lib.rt:60:13
 returns : tie.Need-returns Inv-loop μ-loop
 returns c = sym (over-part-past measureOf 0 (now (c .before .before .before .before .args .s)) (c .before .before .loop .i) (c .before .before .loop .left) (c .before .before .loop .t) (c .if1 .taken)) ∙ c .before .before .loop .inv
 
--- src/lib.rt:62:29
 shared-slice-read-measure-byte : tie.Need-shared-slice-read-measure-byte Inv-loop μ-loop
 shared-slice-read-measure-byte c = omega arith
 
--- src/lib.rt:62:9
 measure-byte-requires : tie.Need-measure-byte-requires Inv-loop μ-loop
 measure-byte-requires c κs = tt
 
--- src/lib.rt:63:9
 add-i : tie.Need-add-i Inv-loop μ-loop
 add-i c = omega arith
 
--- src/lib.rt:64:9
 sub-left : tie.Need-sub-left Inv-loop μ-loop
 sub-left c = omega arith
 
--- src/lib.rt:58:5
 loop-less : tie.Need-loop-less Inv-loop μ-loop
 loop-less c = omega arith
 
--- src/lib.rt:58:5
 loop-again : tie.Need-loop-again Inv-loop μ-loop
 loop-again c =
     let s = now (c .before .before .before .before .before .before .args .s) in
@@ -55,7 +47,6 @@ loop-again c =
     ∙ over-part-turn measureOf 0 s (c .before .before .before .before .loop .i) (c .before .before .before .before .loop .left) (c .before .before .before .before .loop .t) (c .before .before .if1 .left) (c .before .before .before .loop-test .taken)
     ∙ c .before .before .before .before .loop .inv
 
--- src/lib.rt:52:1
 returns-2 : tie.Need-returns-2 Inv-loop μ-loop
 returns-2 c = sym (over-part-none measureOf 0 (now (c .before .before .before .args .s)) (c .before .loop .i) (c .before .loop .left) (c .before .loop .t) (c .loop-test .left)) ∙ c .before .loop .inv
 

@@ -25,43 +25,33 @@ Inv-loop s first w₀ i₀ left₀ w i left = (over wider w (map (lineOf s) (cha
 abbrev μ-loop : tie.MeasureT-loop
 μ-loop s first w₀ i₀ left₀ w i left = left
 
--- src/lib.rt:118:20
 word-at-requires : tie.Need-word-at-requires Inv-loop μ-loop
 word-at-requires c κs = search needs
 
--- src/lib.rt:118:20
 add-left : tie.Need-add-left Inv-loop μ-loop
 add-left c = search needs
 
--- src/lib.rt:119:5
 loop-holds : tie.Need-loop-holds Inv-loop μ-loop
 loop-holds c = (block-start (now (c .before .before .args .s)) (c .before .before .args .first) (c .word-at .result) (c .word-at .ensures .0), omega arith)
 
--- src/lib.rt:121:13
 returns : tie.Need-returns Inv-loop μ-loop
 returns c = things-cut wider (now (c .before .before .before .before .before .args .s)) (lineOf (now (c .before .before .before .before .before .args .s))) (c .before .before .loop .left) (c .before .before .loop .i) (c .before .before .loop .w) (c .if1 .taken) ∙ c .before .before .loop .inv .0
 
--- src/lib.rt:123:13
 measure-line-requires : tie.Need-measure-line-requires Inv-loop μ-loop
 measure-line-requires c κs = search needs
 
--- src/lib.rt:124:9
 max-requires : tie.Need-max-requires Inv-loop μ-loop
 max-requires c κs = tt
 
--- src/lib.rt:125:9
 next-at-requires : tie.Need-next-at-requires Inv-loop μ-loop
 next-at-requires c κs = search needs
 
--- src/lib.rt:126:9
 sub-left : tie.Need-sub-left Inv-loop μ-loop
 sub-left c = search needs
 
--- src/lib.rt:119:5
 loop-less : tie.Need-loop-less Inv-loop μ-loop
 loop-less c = search needs
 
--- src/lib.rt:119:5
 loop-again : tie.Need-loop-again Inv-loop μ-loop
 loop-again c =
     let s = now (c .before .before .before .before .before .before .before .before .args .s) in (
@@ -72,7 +62,6 @@ loop-again c =
       omega arith,
     )
 
--- src/lib.rt:112:1
 returns-2 : tie.Need-returns-2 Inv-loop μ-loop
 returns-2 c = things-end wider (now (c .before .before .before .before .args .s)) (lineOf (now (c .before .before .before .before .args .s))) (c .before .loop .left) (c .before .loop .i) (c .before .loop .w) (c .loop-test .left) ∙ c .before .loop .inv .0
 

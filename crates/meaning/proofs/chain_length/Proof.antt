@@ -19,42 +19,33 @@ Inv-loop s first i₀ left₀ n₀ i left n = (n + length (chainBy s left i) ≡
 abbrev μ-loop : tie.MeasureT-loop
 μ-loop s first i₀ left₀ n₀ i left n = left
 
--- src/lib.rt:19:20
 word-at-requires : tie.Need-word-at-requires Inv-loop μ-loop
 word-at-requires c κs = search needs
 
--- src/lib.rt:19:20
 add-left : tie.Need-add-left Inv-loop μ-loop
 add-left c = search needs
 
--- src/lib.rt:21:5
 loop-holds : tie.Need-loop-holds Inv-loop μ-loop
 loop-holds c =
     let s = now (c .before .before .args .s) in
     let e : 0 + length (chainBy s (c .word-at .result + 1) (c .before .before .args .first)) ≡ length (chainBy s (c .word-at .result + 1) (c .before .before .args .first)) = omega arith in
     (e ∙ ap (λ (m : ℕ). length (chainBy s (m + 1) (c .before .before .args .first))) (c .word-at .ensures .0), omega arith, omega arith, omega arith)
 
--- src/lib.rt:23:13
 returns : tie.Need-returns Inv-loop μ-loop
 returns c = (length-cut (now (c .before .before .before .before .before .args .s)) (c .before .before .loop .left) (c .before .before .loop .i) (c .before .before .loop .n) (c .if1 .taken) ∙ c .before .before .loop .inv .0, omega arith)
 
--- src/lib.rt:25:9
 add-n : tie.Need-add-n Inv-loop μ-loop
 add-n c = search needs
 
--- src/lib.rt:26:9
 next-at-requires : tie.Need-next-at-requires Inv-loop μ-loop
 next-at-requires c κs = search needs
 
--- src/lib.rt:27:9
 sub-left : tie.Need-sub-left Inv-loop μ-loop
 sub-left c = search needs
 
--- src/lib.rt:21:5
 loop-less : tie.Need-loop-less Inv-loop μ-loop
 loop-less c = search needs
 
--- src/lib.rt:21:5
 loop-again : tie.Need-loop-again Inv-loop μ-loop
 loop-again c =
     let s = now (c .before .before .before .before .before .before .args .s) in (
@@ -66,7 +57,6 @@ loop-again c =
       omega arith,
     )
 
--- src/lib.rt:14:1
 returns-2 : tie.Need-returns-2 Inv-loop μ-loop
 returns-2 c = (length-end (now (c .before .before .before .before .args .s)) (c .before .loop .left) (c .before .loop .i) (c .before .loop .n) (c .loop-test .left) ∙ c .before .loop .inv .0, omega arith)
 

@@ -23,55 +23,42 @@ Inv-loop s k i₀ left₀ st₀ i left st = (feedAll st (flatMap (piece s) (chai
 abbrev μ-loop : tie.MeasureT-loop
 μ-loop s k i₀ left₀ st₀ i left st = left
 
--- src/lib.rt:135:9
 first-text-at-requires : tie.Need-first-text-at-requires Inv-loop μ-loop
 first-text-at-requires c κs = search needs
 
--- src/lib.rt:136:20
 word-at-requires : tie.Need-word-at-requires Inv-loop μ-loop
 word-at-requires c κs = search needs
 
--- src/lib.rt:136:20
 add-left : tie.Need-add-left Inv-loop μ-loop
 add-left c = search needs
 
--- src/lib.rt:138:5
 loop-holds : tie.Need-loop-holds Inv-loop μ-loop
 loop-holds c = (feed-start (now (c .before .before .before .args .s)) (c .before .before .before .args .k) (c .before .first-text-at .result) (c .word-at .result) (c .before .first-text-at .ensures .0) (c .word-at .ensures .0), omega arith)
 
--- src/lib.rt:140:13
 returns : tie.Need-returns Inv-loop μ-loop
 returns c = feed-cut (now (c .before .before .before .before .before .before .args .s)) (c .before .before .loop .left) (c .before .before .loop .i) (c .before .before .loop .st) (c .if1 .taken) ∙ c .before .before .loop .inv .0
 
--- src/lib.rt:142:33
 mul-feed-part : tie.Need-mul-feed-part Inv-loop μ-loop
 mul-feed-part c = search needs
 
--- src/lib.rt:142:33
 add-feed-part : tie.Need-add-feed-part Inv-loop μ-loop
 add-feed-part c = search needs
 
--- src/lib.rt:142:45
 one-at-requires : tie.Need-one-at-requires Inv-loop μ-loop
 one-at-requires c κs = search needs
 
--- src/lib.rt:142:9
 feed-part-requires : tie.Need-feed-part-requires Inv-loop μ-loop
 feed-part-requires c κs = search needs
 
--- src/lib.rt:143:9
 next-at-requires : tie.Need-next-at-requires Inv-loop μ-loop
 next-at-requires c κs = search needs
 
--- src/lib.rt:144:9
 sub-left : tie.Need-sub-left Inv-loop μ-loop
 sub-left c = search needs
 
--- src/lib.rt:138:5
 loop-less : tie.Need-loop-less Inv-loop μ-loop
 loop-less c = search needs
 
--- src/lib.rt:138:5
 loop-again : tie.Need-loop-again Inv-loop μ-loop
 loop-again c =
     let s = now (c .before .before .before .before .before .before .before .before .before .args .s) in (
@@ -81,7 +68,6 @@ loop-again c =
       omega arith,
     )
 
--- src/lib.rt:131:1
 returns-2 : tie.Need-returns-2 Inv-loop μ-loop
 returns-2 c = feed-end (now (c .before .before .before .before .before .args .s)) (c .before .loop .left) (c .before .loop .i) (c .before .loop .st) (c .loop-test .left) ∙ c .before .loop .inv .0
 

@@ -24,62 +24,48 @@ Inv-loop s out₀ i₀ left₀ k₀ out i left k = (put out k (map (firstLine s)
 abbrev μ-loop : tie.MeasureT-loop
 μ-loop s out₀ i₀ left₀ k₀ out i left k = left
 
--- src/lib.rt:294:9
 word-at-requires : tie.Need-word-at-requires Inv-loop μ-loop
 word-at-requires c κs = search needs
 
--- src/lib.rt:295:20
 word-at-requires-2 : tie.Need-word-at-requires-2 Inv-loop μ-loop
 word-at-requires-2 c κs = search needs
 
--- src/lib.rt:295:20
 add-left : tie.Need-add-left Inv-loop μ-loop
 add-left c = search needs
 
--- src/lib.rt:297:5
 loop-holds : tie.Need-loop-holds Inv-loop μ-loop
 unfolding heads
 loop-holds c =
     let s = now (c .before .before .before .before .args .s) in
     (ap₂ (λ (i : ℕ) (m : ℕ). put (now (c .before .before .before .before .args .out)) 0 (map (firstLine s) (chainBy s (m + 1) i))) (c .before .word-at .ensures .0) (c .word-at2 .ensures .0), omega arith, omega arith, omega arith, refl)
 
--- src/lib.rt:299:13
 same-length : tie.Need-same-length Inv-loop μ-loop
 same-length c = c .before .before .loop .inv .4
 
--- src/lib.rt:299:13
 returns : tie.Need-returns Inv-loop μ-loop
 returns c = put-cut (now (c .before .before .before .before .before .before .before .args .s)) (firstLine (now (c .before .before .before .before .before .before .before .args .s))) (c .before .before .loop .left) (c .before .before .loop .i) (c .before .before .loop .k) (c .before .before .loop .out) (c .if1 .taken) ∙ c .before .before .loop .inv .0
 
--- src/lib.rt:301:27
 first-line-at-requires : tie.Need-first-line-at-requires Inv-loop μ-loop
 first-line-at-requires c κs = search needs
 
--- src/lib.rt:301:27
 cast-store-u16 : tie.Need-cast-store-u16 Inv-loop μ-loop
 cast-store-u16 c = search needs
 
--- src/lib.rt:301:9
 store-u16-requires : tie.Need-store-u16-requires Inv-loop μ-loop
 store-u16-requires c κs = search needs
 
--- src/lib.rt:302:9
 add-k : tie.Need-add-k Inv-loop μ-loop
 add-k c = search needs
 
--- src/lib.rt:303:9
 next-at-requires : tie.Need-next-at-requires Inv-loop μ-loop
 next-at-requires c κs = search needs
 
--- src/lib.rt:304:9
 sub-left : tie.Need-sub-left Inv-loop μ-loop
 sub-left c = search needs
 
--- src/lib.rt:297:5
 loop-less : tie.Need-loop-less Inv-loop μ-loop
 loop-less c = search needs
 
--- src/lib.rt:297:5
 loop-again : tie.Need-loop-again Inv-loop μ-loop
 loop-again c =
     let s = now (c .before .before .before .before .before .before .before .before .before .before .before .before .before .args .s) in (
@@ -92,11 +78,9 @@ loop-again c =
       c .before .before .before .store-u16 .kept .0 ∙ c .before .before .before .before .before .before .before .before .loop .inv .4,
     )
 
--- src/lib.rt:291:1
 same-length-2 : tie.Need-same-length-2 Inv-loop μ-loop
 same-length-2 c = c .before .loop .inv .4
 
--- src/lib.rt:291:1
 returns-2 : tie.Need-returns-2 Inv-loop μ-loop
 returns-2 c = put-end (now (c .before .before .before .before .before .before .args .s)) (firstLine (now (c .before .before .before .before .before .before .args .s))) (c .before .loop .left) (c .before .loop .i) (c .before .loop .k) (c .before .loop .out) (c .loop-test .left) ∙ c .before .loop .inv .0
 

@@ -23,53 +23,41 @@ Inv-loop s i₀ left₀ i left = (any illArrow (map (arrowOf s) (chainBy s left 
 abbrev μ-loop : tie.MeasureT-loop
 μ-loop s i₀ left₀ i left = left
 
--- src/lib.rt:193:9
 word-at-requires : tie.Need-word-at-requires Inv-loop μ-loop
 word-at-requires c κs = search needs
 
--- src/lib.rt:194:20
 word-at-requires-2 : tie.Need-word-at-requires-2 Inv-loop μ-loop
 word-at-requires-2 c κs = search needs
 
--- src/lib.rt:194:20
 add-left : tie.Need-add-left Inv-loop μ-loop
 add-left c = search needs
 
--- src/lib.rt:195:5
 loop-holds : tie.Need-loop-holds Inv-loop μ-loop
 unfolding illFormed
 loop-holds c = (arrows-start illArrow (now (c .before .before .before .args .s)) (c .before .word-at .result) (c .word-at2 .result) (c .before .word-at .ensures .0) (c .word-at2 .ensures .0), omega arith)
 
--- src/lib.rt:197:13
 returns : tie.Need-returns Inv-loop μ-loop
 returns c = any-cut (now (c .before .before .before .before .before .before .args .s)) (arrowOf (now (c .before .before .before .before .before .before .args .s))) illArrow (c .before .before .loop .left) (c .before .before .loop .i) (c .if1 .taken) ∙ c .before .before .loop .inv .0
 
--- src/lib.rt:199:24
 first-line-at-requires : tie.Need-first-line-at-requires Inv-loop μ-loop
 first-line-at-requires c κs = search needs
 
--- src/lib.rt:199:12
 some-ill-requires : tie.Need-some-ill-requires Inv-loop μ-loop
 some-ill-requires c κs = search needs
 
--- src/lib.rt:200:13
 returns-2 : tie.Need-returns-2 Inv-loop μ-loop
 returns-2 c = any-hit (now (c .before .before .before .before .before .before .before .before .before .args .s)) (arrowOf (now (c .before .before .before .before .before .before .before .before .before .args .s))) illArrow (c .before .before .before .before .before .loop .left) (c .before .before .before .before .before .loop .i) (c .before .before .before .if1 .left) (c .before .before .before .before .loop-test .taken)
     (ill-arrow (now (c .before .before .before .before .before .before .before .before .before .args .s)) (c .before .before .before .before .before .loop .i) (c .before .before .first-line-at .result) (c .before .some-ill .result) (c .before .before .first-line-at .ensures .0) (c .before .some-ill .ensures) ∙ c .if2 .taken) ∙ c .before .before .before .before .before .loop .inv .0
 
--- src/lib.rt:202:9
 next-at-requires : tie.Need-next-at-requires Inv-loop μ-loop
 next-at-requires c κs = search needs
 
--- src/lib.rt:203:9
 sub-left : tie.Need-sub-left Inv-loop μ-loop
 sub-left c = search needs
 
--- src/lib.rt:195:5
 loop-less : tie.Need-loop-less Inv-loop μ-loop
 loop-less c = search needs
 
--- src/lib.rt:195:5
 loop-again : tie.Need-loop-again Inv-loop μ-loop
 loop-again c =
     let s = now (c .before .before .before .before .before .before .before .before .before .before .args .s) in (
@@ -79,7 +67,6 @@ loop-again c =
       omega arith,
     )
 
--- src/lib.rt:190:1
 returns-3 : tie.Need-returns-3 Inv-loop μ-loop
 returns-3 c = any-end (now (c .before .before .before .before .before .args .s)) (arrowOf (now (c .before .before .before .before .before .args .s))) illArrow (c .before .loop .left) (c .before .loop .i) (c .loop-test .left) ∙ c .before .loop .inv .0
 

@@ -7,11 +7,9 @@ use Rattle.meaning.proofs.ill_line.Reads as reads
 use Rattle.meaning.proofs.ill_line.Lts as lts
 use Rattle.meaning.proofs.feed_line.Reads as feed-line-reads
 
--- src/lib.rt:154:5
 feed-line-requires : tie.Need-feed-line-requires
 feed-line-requires c κs = search needs
 
--- src/lib.rt:150:1
 returns : tie.Need-returns
 returns c = ill-line (now (c .before .before .args .s)) (c .before .before .args .k) (c .feed-line .result) (c .feed-line .ensures)
 

@@ -10,23 +10,18 @@ use Rattle.meaning.proofs.chain_length.Reads as chain-length-reads
 use Rattle.meaning.proofs.some_long.Reads as some-long-reads
 use Rattle.sheet.proofs.first_line_at.Reads as first-line-at-reads
 
--- src/lib.rt:92:9
 first-line-at-requires : tie.Need-first-line-at-requires
 first-line-at-requires c κs = search needs
 
--- src/lib.rt:93:18
 chain-length-requires : tie.Need-chain-length-requires
 chain-length-requires c κs = search needs
 
--- src/lib.rt:94:9
 returns : tie.Need-returns
 returns c = large-lines (c .before .before .before .before .before .args .m) (now (c .before .before .before .before .before .args .s)) (c .before .before .before .before .before .args .k) (c .before .before .before .first-line-at .result) (c .before .before .chain-length .result) (c .before .before .before .first-line-at .ensures .0) (c .before .before .chain-length .ensures .0) (c .if1 .taken)
 
--- src/lib.rt:96:5
 some-long-requires : tie.Need-some-long-requires
 some-long-requires c κs = search needs
 
--- src/lib.rt:88:1
 returns-2 : tie.Need-returns-2
 returns-2 c = large-rest (c .before .before .before .before .before .before .args .m) (now (c .before .before .before .before .before .before .args .s)) (c .before .before .before .before .before .before .args .k) (c .before .before .before .before .first-line-at .result) (c .before .before .before .chain-length .result) (c .before .before .before .before .first-line-at .ensures .0) (c .before .before .before .chain-length .ensures .0) (c .some-long .result) (c .before .if1 .left) (c .some-long .ensures)
 

@@ -22,59 +22,45 @@ Inv-loop s k i₀ left₀ n₀ i left n = (n + length (flatMap (piece s) (chainB
 abbrev μ-loop : tie.MeasureT-loop
 μ-loop s k i₀ left₀ n₀ i left n = left
 
--- src/lib.rt:53:9
 first-text-at-requires : tie.Need-first-text-at-requires Inv-loop μ-loop
 first-text-at-requires c κs = search needs
 
--- src/lib.rt:54:20
 word-at-requires : tie.Need-word-at-requires Inv-loop μ-loop
 word-at-requires c κs = search needs
 
--- src/lib.rt:54:20
 add-left : tie.Need-add-left Inv-loop μ-loop
 add-left c = search needs
 
--- src/lib.rt:56:5
 loop-holds : tie.Need-loop-holds Inv-loop μ-loop
 loop-holds c = (line-start (now (c .before .before .before .args .s)) (c .before .before .before .args .k) (c .before .first-text-at .result) (c .word-at .result) (c .before .first-text-at .ensures .0) (c .word-at .ensures .0), omega arith, omega arith)
 
--- src/lib.rt:58:13
 returns : tie.Need-returns Inv-loop μ-loop
 returns c = bytes-cut (now (c .before .before .before .before .before .before .args .s)) (c .before .before .loop .left) (c .before .before .loop .i) (c .before .before .loop .n) (c .if1 .taken) ∙ c .before .before .loop .inv .0
 
--- src/lib.rt:60:14
 piece-end-requires : tie.Need-piece-end-requires Inv-loop μ-loop
 piece-end-requires c κs = search needs
 
--- src/lib.rt:60:33
 mul-n : tie.Need-mul-n Inv-loop μ-loop
 mul-n c = search needs
 
--- src/lib.rt:60:33
 add-n : tie.Need-add-n Inv-loop μ-loop
 add-n c = search needs
 
--- src/lib.rt:60:14
 sub-n : tie.Need-sub-n Inv-loop μ-loop
 sub-n c = search needs
 
--- src/lib.rt:60:9
 add-n-2 : tie.Need-add-n-2 Inv-loop μ-loop
 add-n-2 c = search needs
 
--- src/lib.rt:61:9
 next-at-requires : tie.Need-next-at-requires Inv-loop μ-loop
 next-at-requires c κs = search needs
 
--- src/lib.rt:62:9
 sub-left : tie.Need-sub-left Inv-loop μ-loop
 sub-left c = search needs
 
--- src/lib.rt:56:5
 loop-less : tie.Need-loop-less Inv-loop μ-loop
 loop-less c = search needs
 
--- src/lib.rt:56:5
 loop-again : tie.Need-loop-again Inv-loop μ-loop
 loop-again c =
     let s = now (c .before .before .before .before .before .before .before .before .args .s) in
@@ -86,7 +72,6 @@ loop-again c =
       omega arith,
     )
 
--- src/lib.rt:49:1
 returns-2 : tie.Need-returns-2 Inv-loop μ-loop
 returns-2 c = bytes-end (now (c .before .before .before .before .before .args .s)) (c .before .loop .left) (c .before .loop .i) (c .before .loop .n) (c .loop-test .left) ∙ c .before .loop .inv .0
 

@@ -11,38 +11,30 @@ use Rattle.meaning.proofs.chain_length.Reads as chain-length-reads
 use Rattle.meaning.proofs.some_large.Reads as some-large-reads
 use Rattle.sheet.proofs.word_at.Reads as word-at-reads
 
--- src/lib.rt:121:35
 word-at-requires : tie.Need-word-at-requires
 word-at-requires c κs = search needs
 
--- src/lib.rt:121:19
 chain-length-requires : tie.Need-chain-length-requires
 chain-length-requires c κs = search needs
 
--- src/lib.rt:122:9
 returns : tie.Need-returns
 returns c = let s = now (c .before .before .before .before .before .args .s) in let m = c .before .before .before .before .before .args .m in
     over-states m s (sym (states-by m s (c .before .before .before .word-at .result) (c .before .before .chain-length .result) (c .before .before .before .word-at .ensures .0) (c .before .before .chain-length .ensures .0)) ∙ lt-ltb _ _ (c .if1 .taken))
 
--- src/lib.rt:124:35
 word-at-requires-2 : tie.Need-word-at-requires-2
 word-at-requires-2 c κs = search needs
 
--- src/lib.rt:124:19
 chain-length-requires-2 : tie.Need-chain-length-requires-2
 chain-length-requires-2 c κs = search needs
 
--- src/lib.rt:125:9
 returns-2 : tie.Need-returns-2
 returns-2 c = let s = now (c .before .before .before .before .before .before .before .before .before .args .s) in let m = c .before .before .before .before .before .before .before .before .before .args .m in
     over-arrows m s (sym (states-by m s (c .before .before .before .before .before .before .before .word-at .result) (c .before .before .before .before .before .before .chain-length .result) (c .before .before .before .before .before .before .before .word-at .ensures .0) (c .before .before .before .before .before .before .chain-length .ensures .0)) ∙ le-ltb _ _ (c .before .before .before .before .if1 .left))
     (sym (arrows-by m s (c .before .before .before .word-at2 .result) (c .before .before .chain-length2 .result) (c .before .before .before .word-at2 .ensures .0) (c .before .before .chain-length2 .ensures .0)) ∙ lt-ltb _ _ (c .if2 .taken))
 
--- src/lib.rt:127:5
 some-large-requires : tie.Need-some-large-requires
 some-large-requires c κs = search needs
 
--- src/lib.rt:118:1
 returns-3 : tie.Need-returns-3
 returns-3 c = let s = now (c .before .before .before .before .before .before .before .before .before .before .args .s) in let m = c .before .before .before .before .before .before .before .before .before .before .args .m in
     over-rest m s (c .some-large .result) (sym (states-by m s (c .before .before .before .before .before .before .before .before .word-at .result) (c .before .before .before .before .before .before .before .chain-length .result) (c .before .before .before .before .before .before .before .before .word-at .ensures .0) (c .before .before .before .before .before .before .before .chain-length .ensures .0)) ∙ le-ltb _ _ (c .before .before .before .before .before .if1 .left))

@@ -22,44 +22,34 @@ Inv-loop s first i₀ left₀ i left = (any illLine (map (lineOf s) (chainBy s l
 abbrev μ-loop : tie.MeasureT-loop
 μ-loop s first i₀ left₀ i left = left
 
--- src/lib.rt:175:20
 word-at-requires : tie.Need-word-at-requires Inv-loop μ-loop
 word-at-requires c κs = search needs
 
--- src/lib.rt:175:20
 add-left : tie.Need-add-left Inv-loop μ-loop
 add-left c = search needs
 
--- src/lib.rt:176:5
 loop-holds : tie.Need-loop-holds Inv-loop μ-loop
 loop-holds c = (lines-start illLine (now (c .before .before .args .s)) (c .before .before .args .first) (c .word-at .result) (c .word-at .ensures .0), omega arith)
 
--- src/lib.rt:178:13
 returns : tie.Need-returns Inv-loop μ-loop
 returns c = any-cut (now (c .before .before .before .before .before .args .s)) (lineOf (now (c .before .before .before .before .before .args .s))) illLine (c .before .before .loop .left) (c .before .before .loop .i) (c .if1 .taken) ∙ c .before .before .loop .inv .0
 
--- src/lib.rt:180:12
 ill-line-requires : tie.Need-ill-line-requires Inv-loop μ-loop
 ill-line-requires c κs = search needs
 
--- src/lib.rt:181:13
 returns-2 : tie.Need-returns-2 Inv-loop μ-loop
 returns-2 c = any-hit (now (c .before .before .before .before .before .before .before .args .s)) (lineOf (now (c .before .before .before .before .before .before .before .args .s))) illLine (c .before .before .before .before .loop .left) (c .before .before .before .before .loop .i) (c .before .before .if1 .left) (c .before .before .before .loop-test .taken)
     (sym (c .before .ill-line .ensures) ∙ c .if2 .taken) ∙ c .before .before .before .before .loop .inv .0
 
--- src/lib.rt:183:9
 next-at-requires : tie.Need-next-at-requires Inv-loop μ-loop
 next-at-requires c κs = search needs
 
--- src/lib.rt:184:9
 sub-left : tie.Need-sub-left Inv-loop μ-loop
 sub-left c = search needs
 
--- src/lib.rt:176:5
 loop-less : tie.Need-loop-less Inv-loop μ-loop
 loop-less c = search needs
 
--- src/lib.rt:176:5
 loop-again : tie.Need-loop-again Inv-loop μ-loop
 loop-again c =
     let s = now (c .before .before .before .before .before .before .before .before .args .s) in (
@@ -69,7 +59,6 @@ loop-again c =
       omega arith,
     )
 
--- src/lib.rt:170:1
 returns-3 : tie.Need-returns-3 Inv-loop μ-loop
 returns-3 c = any-end (now (c .before .before .before .before .args .s)) (lineOf (now (c .before .before .before .before .args .s))) illLine (c .before .loop .left) (c .before .loop .i) (c .loop-test .left) ∙ c .before .loop .inv .0
 

@@ -22,48 +22,37 @@ Inv-loop s m i₀ left₀ i left = (any (largeArrow m) (map (arrowOf s) (chainBy
 abbrev μ-loop : tie.MeasureT-loop
 μ-loop s m i₀ left₀ i left = left
 
--- src/lib.rt:102:9
 word-at-requires : tie.Need-word-at-requires Inv-loop μ-loop
 word-at-requires c κs = search needs
 
--- src/lib.rt:103:20
 word-at-requires-2 : tie.Need-word-at-requires-2 Inv-loop μ-loop
 word-at-requires-2 c κs = search needs
 
--- src/lib.rt:103:20
 add-left : tie.Need-add-left Inv-loop μ-loop
 add-left c = search needs
 
--- src/lib.rt:104:5
 loop-holds : tie.Need-loop-holds Inv-loop μ-loop
 loop-holds c = (arrows-start (largeArrow (c .before .before .before .args .m)) (now (c .before .before .before .args .s)) (c .before .word-at .result) (c .word-at2 .result) (c .before .word-at .ensures .0) (c .word-at2 .ensures .0), omega arith)
 
--- src/lib.rt:106:13
 returns : tie.Need-returns Inv-loop μ-loop
 returns c = any-cut (now (c .before .before .before .before .before .before .args .s)) (arrowOf (now (c .before .before .before .before .before .before .args .s))) (largeArrow (c .before .before .before .before .before .before .args .m)) (c .before .before .loop .left) (c .before .before .loop .i) (c .if1 .taken) ∙ c .before .before .loop .inv .0
 
--- src/lib.rt:108:12
 large-arrow-requires : tie.Need-large-arrow-requires Inv-loop μ-loop
 large-arrow-requires c κs = search needs
 
--- src/lib.rt:109:13
 returns-2 : tie.Need-returns-2 Inv-loop μ-loop
 returns-2 c = any-hit (now (c .before .before .before .before .before .before .before .before .args .s)) (arrowOf (now (c .before .before .before .before .before .before .before .before .args .s))) (largeArrow (c .before .before .before .before .before .before .before .before .args .m)) (c .before .before .before .before .loop .left) (c .before .before .before .before .loop .i) (c .before .before .if1 .left) (c .before .before .before .loop-test .taken)
     (sym (c .before .large-arrow .ensures) ∙ c .if2 .taken) ∙ c .before .before .before .before .loop .inv .0
 
--- src/lib.rt:111:9
 next-at-requires : tie.Need-next-at-requires Inv-loop μ-loop
 next-at-requires c κs = search needs
 
--- src/lib.rt:112:9
 sub-left : tie.Need-sub-left Inv-loop μ-loop
 sub-left c = search needs
 
--- src/lib.rt:104:5
 loop-less : tie.Need-loop-less Inv-loop μ-loop
 loop-less c = search needs
 
--- src/lib.rt:104:5
 loop-again : tie.Need-loop-again Inv-loop μ-loop
 loop-again c =
     let s = now (c .before .before .before .before .before .before .before .before .before .args .s) in (
@@ -73,7 +62,6 @@ loop-again c =
       omega arith,
     )
 
--- src/lib.rt:99:1
 returns-3 : tie.Need-returns-3 Inv-loop μ-loop
 returns-3 c = any-end (now (c .before .before .before .before .before .args .s)) (arrowOf (now (c .before .before .before .before .before .args .s))) (largeArrow (c .before .before .before .before .before .args .m)) (c .before .loop .left) (c .before .loop .i) (c .loop-test .left) ∙ c .before .loop .inv .0
 

@@ -24,44 +24,34 @@ Inv-loop s first m i₀ left₀ i left = (any (longLine m) (map (lineOf s) (chai
 abbrev μ-loop : tie.MeasureT-loop
 μ-loop s first m i₀ left₀ i left = left
 
--- src/lib.rt:73:20
 word-at-requires : tie.Need-word-at-requires Inv-loop μ-loop
 word-at-requires c κs = search needs
 
--- src/lib.rt:73:20
 add-left : tie.Need-add-left Inv-loop μ-loop
 add-left c = search needs
 
--- src/lib.rt:74:5
 loop-holds : tie.Need-loop-holds Inv-loop μ-loop
 loop-holds c = (lines-start (longLine (c .before .before .args .m)) (now (c .before .before .args .s)) (c .before .before .args .first) (c .word-at .result) (c .word-at .ensures .0), omega arith)
 
--- src/lib.rt:76:13
 returns : tie.Need-returns Inv-loop μ-loop
 returns c = any-cut (now (c .before .before .before .before .before .args .s)) (lineOf (now (c .before .before .before .before .before .args .s))) (longLine (c .before .before .before .before .before .args .m)) (c .before .before .loop .left) (c .before .before .loop .i) (c .if1 .taken) ∙ c .before .before .loop .inv .0
 
--- src/lib.rt:78:22
 line-length-requires : tie.Need-line-length-requires Inv-loop μ-loop
 line-length-requires c κs = search needs
 
--- src/lib.rt:79:13
 returns-2 : tie.Need-returns-2 Inv-loop μ-loop
 returns-2 c = any-hit (now (c .before .before .before .before .before .before .before .before .args .s)) (lineOf (now (c .before .before .before .before .before .before .before .before .args .s))) (longLine (c .before .before .before .before .before .before .before .before .args .m)) (c .before .before .before .before .before .loop .left) (c .before .before .before .before .before .loop .i) (c .before .before .before .if1 .left) (c .before .before .before .before .loop-test .taken)
     (ap (ltb (c .before .before .before .before .before .before .before .before .args .m .bytes)) (sym (c .before .before .line-length .ensures)) ∙ lt-ltb _ _ (c .if2 .taken)) ∙ c .before .before .before .before .before .loop .inv .0
 
--- src/lib.rt:81:9
 next-at-requires : tie.Need-next-at-requires Inv-loop μ-loop
 next-at-requires c κs = search needs
 
--- src/lib.rt:82:9
 sub-left : tie.Need-sub-left Inv-loop μ-loop
 sub-left c = search needs
 
--- src/lib.rt:74:5
 loop-less : tie.Need-loop-less Inv-loop μ-loop
 loop-less c = search needs
 
--- src/lib.rt:74:5
 loop-again : tie.Need-loop-again Inv-loop μ-loop
 loop-again c =
     let s = now (c .before .before .before .before .before .before .before .before .before .args .s) in (
@@ -71,7 +61,6 @@ loop-again c =
       omega arith,
     )
 
--- src/lib.rt:68:1
 returns-3 : tie.Need-returns-3 Inv-loop μ-loop
 returns-3 c = any-end (now (c .before .before .before .before .args .s)) (lineOf (now (c .before .before .before .before .args .s))) (longLine (c .before .before .before .before .args .m)) (c .before .loop .left) (c .before .loop .i) (c .loop-test .left) ∙ c .before .loop .inv .0
 

@@ -10,15 +10,12 @@ use Rattle.meaning.proofs.state_count.Lts as lts
 use Rattle.meaning.proofs.chain_length.Reads as chain-length-reads
 use Rattle.sheet.proofs.word_at.Reads as word-at-reads
 
--- src/lib.rt:205:21
 word-at-requires : tie.Need-word-at-requires
 word-at-requires c κs = search needs
 
--- src/lib.rt:205:5
 chain-length-requires : tie.Need-chain-length-requires
 chain-length-requires c κs = search needs
 
--- src/lib.rt:202:1
 returns : tie.Need-returns
 returns c = count-states (now (c .before .before .before .args .s)) (c .before .word-at .result) (c .chain-length .result) (c .before .word-at .ensures .0) (c .chain-length .ensures .0)
 

@@ -7,23 +7,18 @@ use Rattle.meaning.proofs.store_u16.Tie as tie
 use Rattle.meaning.proofs.store_u16.Reads as reads
 use Rattle.meaning.proofs.store_u16.Lts as lts
 
--- src/lib.rt:227:9
 mul-out : tie.Need-mul-out
 mul-out c = search needs
 
--- src/lib.rt:227:9
 slice-write-out : tie.Need-slice-write-out
 slice-write-out c = search needs
 
--- src/lib.rt:223:1
 same-length : tie.Need-same-length
 same-length c = search needs
 
--- src/lib.rt:223:1
 returns : tie.Need-returns
 returns c = search needs
 
--- src/lib.rt:223:1
 returns-2 : tie.Need-returns-2
 returns-2 c = sym (set-out (now (c .before .args .out)) (c .before .args .k) (c .before .args .v) (c .if1 .left))
 

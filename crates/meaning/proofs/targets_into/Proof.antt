@@ -11,15 +11,12 @@ use Rattle.meaning.proofs.targets_into.Reads as reads
 use Rattle.meaning.proofs.targets_into.Lts as lts
 use Rattle.meaning.proofs.words_into.Reads as words-into-reads
 
--- src/lib.rt:287:5
 words-into-requires : tie.Need-words-into-requires
 words-into-requires c κs = search needs
 
--- src/lib.rt:284:1
 same-length : tie.Need-same-length
 same-length c = search needs
 
--- src/lib.rt:284:1
 returns : tie.Need-returns
 returns c = c .before .before .words-into .ensures ∙ ap (λ (l : List ℕ). put (now (c .before .before .before .before .before .before .args .out)) 0 l) (sym (targets-are (now (c .before .before .before .before .before .before .args .s))))
 

@@ -23,65 +23,50 @@ Inv-loop s b out₀ i₀ left₀ k₀ out i left k = (put out k (map (wordOf s b
 abbrev μ-loop : tie.MeasureT-loop
 μ-loop s b out₀ i₀ left₀ k₀ out i left k = left
 
--- src/lib.rt:262:9
 word-at-requires : tie.Need-word-at-requires Inv-loop μ-loop
 word-at-requires c κs = search needs
 
--- src/lib.rt:263:20
 word-at-requires-2 : tie.Need-word-at-requires-2 Inv-loop μ-loop
 word-at-requires-2 c κs = search needs
 
--- src/lib.rt:263:20
 add-left : tie.Need-add-left Inv-loop μ-loop
 add-left c = search needs
 
--- src/lib.rt:265:5
 loop-holds : tie.Need-loop-holds Inv-loop μ-loop
 loop-holds c =
     let s = now (c .before .before .before .before .args .s) in
     (ap₂ (λ (i : ℕ) (m : ℕ). put (now (c .before .before .before .before .args .out)) 0 (map (wordOf s (c .before .before .before .before .args .b)) (chainBy s (m + 1) i))) (c .before .word-at .ensures .0) (c .word-at2 .ensures .0), omega arith, omega arith, omega arith, refl)
 
--- src/lib.rt:267:13
 same-length : tie.Need-same-length Inv-loop μ-loop
 same-length c = c .before .before .loop .inv .4
 
--- src/lib.rt:267:13
 returns : tie.Need-returns Inv-loop μ-loop
 returns c = put-cut (now (c .before .before .before .before .before .before .before .args .s)) (wordOf (now (c .before .before .before .before .before .before .before .args .s)) (c .before .before .before .before .before .before .before .args .b)) (c .before .before .loop .left) (c .before .before .loop .i) (c .before .before .loop .k) (c .before .before .loop .out) (c .if1 .taken) ∙ c .before .before .loop .inv .0
 
--- src/lib.rt:269:34
 mul-word-at : tie.Need-mul-word-at Inv-loop μ-loop
 mul-word-at c = search needs
 
--- src/lib.rt:269:34
 add-word-at : tie.Need-add-word-at Inv-loop μ-loop
 add-word-at c = search needs
 
--- src/lib.rt:269:23
 word-at-requires-3 : tie.Need-word-at-requires-3 Inv-loop μ-loop
 word-at-requires-3 c κs = search needs
 
--- src/lib.rt:269:9
 store-requires : tie.Need-store-requires Inv-loop μ-loop
 store-requires c κs = search needs
 
--- src/lib.rt:270:9
 add-k : tie.Need-add-k Inv-loop μ-loop
 add-k c = search needs
 
--- src/lib.rt:271:9
 next-at-requires : tie.Need-next-at-requires Inv-loop μ-loop
 next-at-requires c κs = search needs
 
--- src/lib.rt:272:9
 sub-left : tie.Need-sub-left Inv-loop μ-loop
 sub-left c = search needs
 
--- src/lib.rt:265:5
 loop-less : tie.Need-loop-less Inv-loop μ-loop
 loop-less c = search needs
 
--- src/lib.rt:265:5
 loop-again : tie.Need-loop-again Inv-loop μ-loop
 loop-again c =
     let s = now (c .before .before .before .before .before .before .before .before .before .before .before .before .before .args .s) in (
@@ -94,11 +79,9 @@ loop-again c =
       c .before .before .before .store .kept .0 ∙ c .before .before .before .before .before .before .before .before .loop .inv .4,
     )
 
--- src/lib.rt:258:1
 same-length-2 : tie.Need-same-length-2 Inv-loop μ-loop
 same-length-2 c = c .before .loop .inv .4
 
--- src/lib.rt:258:1
 returns-2 : tie.Need-returns-2 Inv-loop μ-loop
 returns-2 c = put-end (now (c .before .before .before .before .before .before .args .s)) (wordOf (now (c .before .before .before .before .before .before .args .s)) (c .before .before .before .before .before .before .args .b)) (c .before .loop .left) (c .before .loop .i) (c .before .loop .k) (c .before .loop .out) (c .loop-test .left) ∙ c .before .loop .inv .0
 

@@ -11,21 +11,17 @@ use Rattle.root.proofs.by_digits.Reads as reads
 use Rattle.root.proofs.by_digits.Lts as lts
 use Rattle.root.proofs.whole_root.Reads as whole-root-reads
 
--- src/lib.rt:107:9
 whole-root-requires : tie.Need-whole-root-requires
 whole-root-requires c κs = search needs
 
--- src/lib.rt:108:20
 add-result : tie.Need-add-result
 add-result c = omega (arith, c .before .before .before .whole-root .ensures .0, whole-root-lt (c .before .before .before .before .args .a * 2 ^ 52) (omega arith))
 
--- src/lib.rt:103:1
 returns : tie.Need-returns
 returns c =
     let e = digits-up (c .before .before .before .before .args .a * 2 ^ 52) (c .before .before .before .whole-root .result .q) (c .before .before .before .whole-root .result .r) (c .before .before .before .whole-root .ensures .0) (c .before .before .before .whole-root .ensures .1) (c .before .if1 .taken) in
     (e, nearest-fits (c .before .before .before .before .args .a) _ (c .before .before .before .before .pre) e)
 
--- src/lib.rt:103:1
 returns-2 : tie.Need-returns-2
 returns-2 c =
     let e = digits-stay (c .before .before .before .args .a * 2 ^ 52) (c .before .before .whole-root .result .q) (c .before .before .whole-root .result .r) (c .before .before .whole-root .ensures .0) (c .before .before .whole-root .ensures .1) (c .if1 .left) in

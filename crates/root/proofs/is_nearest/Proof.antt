@@ -11,67 +11,51 @@ use Rattle.root.proofs.is_nearest.Tie as tie
 use Rattle.root.proofs.is_nearest.Reads as reads
 use Rattle.root.proofs.is_nearest.Lts as lts
 
--- src/lib.rt:155:14
 mul-hh : tie.Need-mul-hh
 mul-hh c = omega (arith, high-square (c .args .p) (c .pre .1))
 
--- src/lib.rt:157:9
 returns : tie.Need-returns
 returns c = not-claimed
 
--- src/lib.rt:161:9
 returns-2 : tie.Need-returns-2
 returns-2 c = not-claimed
 
--- src/lib.rt:163:13
 mul-m : tie.Need-mul-m
 mul-m c = search needs
 
--- src/lib.rt:163:13
 add-m : tie.Need-add-m
 add-m c = search needs
 
--- src/lib.rt:164:14
 mul-hl : tie.Need-mul-hl
 mul-hl c = search needs
 
--- src/lib.rt:164:14
 mul-hl-2 : tie.Need-mul-hl-2
 mul-hl-2 c = omega (arith, cross-small (c .before .before .args .p) (c .before .before .pre .1))
 
--- src/lib.rt:166:9
 returns-3 : tie.Need-returns-3
 returns-3 c = not-claimed
 
--- src/lib.rt:170:9
 returns-4 : tie.Need-returns-4
 returns-4 c = not-claimed
 
--- src/lib.rt:172:13
 mul-z : tie.Need-mul-z
 mul-z c = search needs
 
--- src/lib.rt:172:13
 add-z : tie.Need-add-z
 add-z c = omega (arith, low-half-is (c .before .before .before .before .args .p))
 
--- src/lib.rt:173:14
 mul-ll : tie.Need-mul-ll
 mul-ll c = omega (arith, low-square (c .before .before .before .before .args .p))
 
--- src/lib.rt:175:9
 returns-5 : tie.Need-returns-5
 returns-5 c = not-claimed
 
--- src/lib.rt:177:15
 mul-result : tie.Need-mul-result
 mul-result c = search needs
 
--- src/lib.rt:177:10
 add-result : tie.Need-add-result
 add-result c = omega (arith, low-square (c .before .before .before .before .before .args .p))
 
--- src/lib.rt:149:1
 returns-6 : tie.Need-returns-6
 returns-6 c e =
     let a = c .before .before .before .before .before .args .a in

@@ -19,33 +19,26 @@ Inv-loop s a e i₀ i = anyUp (isSet s) i e ≡ anyUp (isSet s) a e
 abbrev μ-loop : tie.MeasureT-loop
 μ-loop s a e i₀ i = e - i
 
--- src/lib.rt:76:5
 loop-holds : tie.Need-loop-holds Inv-loop μ-loop
 loop-holds c = refl
 
--- src/lib.rt:77:12
 byte-at-requires : tie.Need-byte-at-requires Inv-loop μ-loop
 byte-at-requires c κs = search needs
 
--- src/lib.rt:78:13
 returns : tie.Need-returns Inv-loop μ-loop
 unfolding isSet
 returns c = sym (any-hit (isSet (now (c .before .before .before .before .before .args .s))) (c .before .before .before .loop .i) (c .before .before .before .before .before .args .e) (c .before .before .loop-test .taken) (ap not (ne-eqb _ _ (λ q. c .if1 .taken (c .before .byte-at .ensures .0 ∙ q))))) ∙ c .before .before .before .loop .inv
 
--- src/lib.rt:80:9
 add-i : tie.Need-add-i Inv-loop μ-loop
 add-i c = search needs
 
--- src/lib.rt:76:5
 loop-less : tie.Need-loop-less Inv-loop μ-loop
 loop-less c = search needs
 
--- src/lib.rt:76:5
 loop-again : tie.Need-loop-again Inv-loop μ-loop
 unfolding isSet
 loop-again c = sym (any-miss (isSet (now (c .before .before .before .before .before .args .s))) (c .before .before .before .loop .i) (c .before .before .before .before .before .args .e) (c .before .before .loop-test .taken) (ap not (eq-eqb _ _ (sym (c .before .byte-at .ensures .0) ∙ c .if1 .left)))) ∙ c .before .before .before .loop .inv
 
--- src/lib.rt:72:1
 returns-2 : tie.Need-returns-2 Inv-loop μ-loop
 returns-2 c = sym (any-done (isSet (now (c .before .before .before .args .s))) (c .before .loop .i) (c .before .before .before .args .e) (omega arith)) ∙ c .before .loop .inv
 

@@ -17,35 +17,27 @@ Inv-loop s n k₀ k = anyUp (wrongRecord s) k (n + 1) ≡ anyUp (wrongRecord s) 
 abbrev μ-loop : tie.MeasureT-loop
 μ-loop s n k₀ k = n + 1 - k
 
--- src/lib.rt:129:5
 loop-holds : tie.Need-loop-holds Inv-loop μ-loop
 loop-holds c = refl
 
--- src/lib.rt:129:15
 add-loop : tie.Need-add-loop Inv-loop μ-loop
 add-loop c = search needs
 
--- src/lib.rt:130:12
 wrong-record-requires : tie.Need-wrong-record-requires Inv-loop μ-loop
 wrong-record-requires c κs = search needs
 
--- src/lib.rt:131:13
 returns : tie.Need-returns Inv-loop μ-loop
 returns c = sym (any-hit (wrongRecord (now (c .before .before .before .before .before .args .s))) (c .before .before .before .loop .k) (c .before .before .before .before .before .args .n + 1) (c .before .before .loop-test .taken) (sym (c .before .wrong-record .ensures) ∙ c .if1 .taken)) ∙ c .before .before .before .loop .inv
 
--- src/lib.rt:133:9
 add-k : tie.Need-add-k Inv-loop μ-loop
 add-k c = search needs
 
--- src/lib.rt:129:5
 loop-less : tie.Need-loop-less Inv-loop μ-loop
 loop-less c = search needs
 
--- src/lib.rt:129:5
 loop-again : tie.Need-loop-again Inv-loop μ-loop
 loop-again c = sym (any-miss (wrongRecord (now (c .before .before .before .before .before .args .s))) (c .before .before .before .loop .k) (c .before .before .before .before .before .args .n + 1) (c .before .before .loop-test .taken) (sym (c .before .wrong-record .ensures) ∙ c .if1 .left)) ∙ c .before .before .before .loop .inv
 
--- src/lib.rt:124:1
 returns-2 : tie.Need-returns-2 Inv-loop μ-loop
 returns-2 c = sym (any-done (wrongRecord (now (c .before .before .before .args .s))) (c .before .loop .k) (c .before .before .before .args .n + 1) (omega arith)) ∙ c .before .loop .inv
 

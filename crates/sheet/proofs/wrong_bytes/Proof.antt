@@ -9,24 +9,19 @@ use Rattle.sheet.proofs.some_set.Reads as some-set-reads
 use Rattle.sheet.proofs.some_wrong.Reads as some-wrong-reads
 use Rattle.sheet.proofs.word_at.Reads as word-at-reads
 
--- src/lib.rt:142:8
 some-set-requires : tie.Need-some-set-requires
 some-set-requires c κs = search needs
 
--- src/lib.rt:143:9
 returns : tie.Need-returns
 unfolding wrongBytes
 returns c = simp (sym (c .before .some-set .ensures), c .if1 .taken)
 
--- src/lib.rt:145:19
 word-at-requires : tie.Need-word-at-requires
 word-at-requires c κs = search needs
 
--- src/lib.rt:145:5
 some-wrong-requires : tie.Need-some-wrong-requires
 some-wrong-requires c κs = search needs
 
--- src/lib.rt:139:1
 returns-2 : tie.Need-returns-2
 unfolding wrongBytes
 returns-2 c = simp (sym (c .before .before .before .some-set .ensures), c .before .before .if1 .left, sym (c .before .word-at .ensures .0)) (c .some-wrong .ensures)

@@ -26,7 +26,6 @@ abbrev put-number-below : ℕ → In 1 put-number-kinds.ps
 put-number-below t =
     and 1 put-number-kinds.ps (falls 1 put-number-kinds.ps _<_ μ-put-number t) put-number.Pre
 
--- src/lib.rt:35:34
 put-number-digit-requires : (t : ℕ) → put-number-lts.Need-digit-requires (
   digit-reads.Asked,
   digit-reads.Learnt,
@@ -37,7 +36,6 @@ put-number-digit-requires : (t : ℕ) → put-number-lts.Need-digit-requires (
 ) (put-number-at t) put-number.Post
 put-number-digit-requires t c κs = omega arith
 
--- src/lib.rt:35:9
 put-number-put-byte-requires : (t : ℕ) → put-number-lts.Need-put-byte-requires (
   digit-reads.Asked,
   digit-reads.Learnt,
@@ -48,7 +46,6 @@ put-number-put-byte-requires : (t : ℕ) → put-number-lts.Need-put-byte-requir
 ) (put-number-at t) put-number.Post
 put-number-put-byte-requires t c κs = tt
 
--- src/lib.rt:35:9
 put-number-same-length : (t : ℕ) → put-number-lts.Need-same-length (
   digit-reads.Asked,
   digit-reads.Learnt,
@@ -59,7 +56,6 @@ put-number-same-length : (t : ℕ) → put-number-lts.Need-same-length (
 ) (put-number-at t) put-number.Post
 put-number-same-length t c = c .before .before .put-byte .kept .0
 
--- src/lib.rt:35:9
 put-number-returns : (t : ℕ) → put-number-lts.Need-returns (
   digit-reads.Asked,
   digit-reads.Learnt,
@@ -70,7 +66,6 @@ put-number-returns : (t : ℕ) → put-number-lts.Need-returns (
 ) (put-number-at t) put-number.Post
 put-number-returns t c = wrote-as (ap (λ (d : ℕ). d ∷ []) (c .before .before .before .digit .ensures) ∙ sym (digits-one (c .before .before .before .before .before .before .before .args .n) (c .before .before .before .before .before .if1 .taken))) (c .before .before .put-byte .ensures)
 
--- src/lib.rt:37:9
 put-number-put-number-requires : (t : ℕ) → put-number-lts.Need-put-number-requires (
   digit-reads.Asked,
   digit-reads.Learnt,
@@ -81,7 +76,6 @@ put-number-put-number-requires : (t : ℕ) → put-number-lts.Need-put-number-re
 ) (put-number-at t) put-number.Post
 put-number-put-number-requires t c κs = (omega (arith, c .before .before .before .pre .0), tt)
 
--- src/lib.rt:38:25
 put-number-digit-requires-2 : (t : ℕ) → put-number-lts.Need-digit-requires-2 (
   digit-reads.Asked,
   digit-reads.Learnt,
@@ -92,7 +86,6 @@ put-number-digit-requires-2 : (t : ℕ) → put-number-lts.Need-digit-requires-2
 ) (put-number-at t) put-number.Post
 put-number-digit-requires-2 t c κs = omega arith
 
--- src/lib.rt:38:5
 put-number-put-byte-requires-2 : (t : ℕ) → put-number-lts.Need-put-byte-requires-2 (
   digit-reads.Asked,
   digit-reads.Learnt,
@@ -103,7 +96,6 @@ put-number-put-byte-requires-2 : (t : ℕ) → put-number-lts.Need-put-byte-requ
 ) (put-number-at t) put-number.Post
 put-number-put-byte-requires-2 t c κs = tt
 
--- src/lib.rt:31:1
 put-number-same-length-2 : (t : ℕ) → put-number-lts.Need-same-length-2 (
   digit-reads.Asked,
   digit-reads.Learnt,
@@ -114,7 +106,6 @@ put-number-same-length-2 : (t : ℕ) → put-number-lts.Need-same-length-2 (
 ) (put-number-at t) put-number.Post
 put-number-same-length-2 t c = c .before .before .put-byte2 .kept .0 ∙ c .before .before .before .before .before .before .before .put-number .kept .0
 
--- src/lib.rt:31:1
 put-number-returns-2 : (t : ℕ) → put-number-lts.Need-returns-2 (
   digit-reads.Asked,
   digit-reads.Learnt,

@@ -6,57 +6,46 @@ use Rattle.text.proofs.first.Tie as tie
 use Rattle.text.proofs.first.Reads as reads
 use Rattle.text.proofs.first.Lts as lts
 
--- src/lib.rt:24:9
 returns : tie.Need-returns
 unfolding lead
 returns c = simp (le-leb _ _ (c .if1 .taken))
 
--- src/lib.rt:27:9
 returns-2 : tie.Need-returns-2
 unfolding lead
 returns-2 c = simp (lt-leb _ _ (c .before .if1 .left), le-leb _ _ (c .if2 .taken))
 
--- src/lib.rt:30:9
 returns-3 : tie.Need-returns-3
 unfolding lead
 returns-3 c = simp (lt-leb _ _ (c .before .before .if1 .left), lt-leb _ _ (c .before .if2 .left), le-leb _ _ (c .if3 .taken))
 
--- src/lib.rt:33:9
 returns-4 : tie.Need-returns-4
 unfolding lead
 returns-4 c = simp (lt-leb _ _ (c .before .before .before .if1 .left), lt-leb _ _ (c .before .before .if2 .left), lt-leb _ _ (c .before .if3 .left), le-leb _ _ (c .if4 .taken))
 
--- src/lib.rt:36:9
 returns-5 : tie.Need-returns-5
 unfolding lead
 returns-5 c = simp (lt-leb _ _ (c .before .before .before .before .if1 .left), lt-leb _ _ (c .before .before .before .if2 .left), lt-leb _ _ (c .before .before .if3 .left), lt-leb _ _ (c .before .if4 .left), le-leb _ _ (c .if5 .taken))
 
--- src/lib.rt:39:9
 returns-6 : tie.Need-returns-6
 unfolding lead
 returns-6 c = simp (lt-leb _ _ (c .before .before .before .before .before .if1 .left), lt-leb _ _ (c .before .before .before .before .if2 .left), lt-leb _ _ (c .before .before .before .if3 .left), lt-leb _ _ (c .before .before .if4 .left), lt-leb _ _ (c .before .if5 .left), le-leb _ _ (c .if6 .taken))
 
--- src/lib.rt:42:9
 returns-7 : tie.Need-returns-7
 unfolding lead
 returns-7 c = simp (lt-leb _ _ (c .before .before .before .before .before .before .if1 .left), lt-leb _ _ (c .before .before .before .before .before .if2 .left), lt-leb _ _ (c .before .before .before .before .if3 .left), lt-leb _ _ (c .before .before .before .if4 .left), lt-leb _ _ (c .before .before .if5 .left), lt-leb _ _ (c .before .if6 .left), le-leb _ _ (c .if7 .taken))
 
--- src/lib.rt:45:9
 returns-8 : tie.Need-returns-8
 unfolding lead
 returns-8 c = simp (lt-leb _ _ (c .before .before .before .before .before .before .before .if1 .left), lt-leb _ _ (c .before .before .before .before .before .before .if2 .left), lt-leb _ _ (c .before .before .before .before .before .if3 .left), lt-leb _ _ (c .before .before .before .before .if4 .left), lt-leb _ _ (c .before .before .before .if5 .left), lt-leb _ _ (c .before .before .if6 .left), lt-leb _ _ (c .before .if7 .left), le-leb _ _ (c .if8 .taken))
 
--- src/lib.rt:48:9
 returns-9 : tie.Need-returns-9
 unfolding lead
 returns-9 c = simp (lt-leb _ _ (c .before .before .before .before .before .before .before .before .if1 .left), lt-leb _ _ (c .before .before .before .before .before .before .before .if2 .left), lt-leb _ _ (c .before .before .before .before .before .before .if3 .left), lt-leb _ _ (c .before .before .before .before .before .if4 .left), lt-leb _ _ (c .before .before .before .before .if5 .left), lt-leb _ _ (c .before .before .before .if6 .left), lt-leb _ _ (c .before .before .if7 .left), lt-leb _ _ (c .before .if8 .left), le-leb _ _ (c .if9 .taken))
 
--- src/lib.rt:51:9
 returns-10 : tie.Need-returns-10
 unfolding lead
 returns-10 c = simp (lt-leb _ _ (c .before .before .before .before .before .before .before .before .before .if1 .left), lt-leb _ _ (c .before .before .before .before .before .before .before .before .if2 .left), lt-leb _ _ (c .before .before .before .before .before .before .before .if3 .left), lt-leb _ _ (c .before .before .before .before .before .before .if4 .left), lt-leb _ _ (c .before .before .before .before .before .if5 .left), lt-leb _ _ (c .before .before .before .before .if6 .left), lt-leb _ _ (c .before .before .before .if7 .left), lt-leb _ _ (c .before .before .if8 .left), lt-leb _ _ (c .before .if9 .left), le-leb _ _ (c .if10 .taken))
 
--- src/lib.rt:20:1
 returns-11 : tie.Need-returns-11
 unfolding lead
 returns-11 c = simp (lt-leb _ _ (c .before .before .before .before .before .before .before .before .before .if1 .left), lt-leb _ _ (c .before .before .before .before .before .before .before .before .if2 .left), lt-leb _ _ (c .before .before .before .before .before .before .before .if3 .left), lt-leb _ _ (c .before .before .before .before .before .before .if4 .left), lt-leb _ _ (c .before .before .before .before .before .if5 .left), lt-leb _ _ (c .before .before .before .before .if6 .left), lt-leb _ _ (c .before .before .before .if7 .left), lt-leb _ _ (c .before .before .if8 .left), lt-leb _ _ (c .before .if9 .left), lt-leb _ _ (c .if10 .left))

@@ -8,32 +8,25 @@ use Rattle.text.proofs.gather.Reads as reads
 use Rattle.text.proofs.gather.Lts as lts
 use Rattle.text.proofs.payload.Reads as payload-reads
 
--- src/lib.rt:117:16
 payload-requires : tie.Need-payload-requires
 payload-requires c κs = search needs
 
--- src/lib.rt:117:16
 cast-result : tie.Need-cast-result
 cast-result c = search needs
 
--- src/lib.rt:117:9
 returns : tie.Need-returns
 unfolding gatherOf
 returns c = rw (eq-eqb _ _ (c .before .if1 .taken)) (c .payload .ensures)
 
--- src/lib.rt:119:5
 mul-result : tie.Need-mul-result
 mul-result c = search needs
 
--- src/lib.rt:119:24
 cast-result-2 : tie.Need-cast-result-2
 cast-result-2 c = search needs
 
--- src/lib.rt:119:5
 add-result : tie.Need-add-result
 add-result c = search needs
 
--- src/lib.rt:113:1
 returns-2 : tie.Need-returns-2
 unfolding gatherOf
 returns-2 c = rw (ne-eqb _ _ (c .if1 .left))

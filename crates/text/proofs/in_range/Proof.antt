@@ -5,15 +5,12 @@ use Rattle.text.proofs.in_range.Tie as tie
 use Rattle.text.proofs.in_range.Reads as reads
 use Rattle.text.proofs.in_range.Lts as lts
 
--- src/lib.rt:13:13
 returns : tie.Need-returns
 returns c = simp (le-leb _ _ (c .before .if1 .taken), le-leb _ _ (c .if2 .taken))
 
--- src/lib.rt:8:1
 returns-2 : tie.Need-returns-2
 returns-2 c = simp (le-leb _ _ (c .before .if1 .taken), lt-leb _ _ (c .if2 .left))
 
--- src/lib.rt:8:1
 returns-3 : tie.Need-returns-3
 returns-3 c = simp (lt-leb _ _ (c .if1 .left))
 

@@ -6,22 +6,18 @@ use Rattle.text.proofs.payload.Tie as tie
 use Rattle.text.proofs.payload.Reads as reads
 use Rattle.text.proofs.payload.Lts as lts
 
--- src/lib.rt:101:9
 returns : tie.Need-returns
 unfolding payload
 returns c = rw (lt-ltb _ _ (c .if1 .taken))
 
--- src/lib.rt:104:9
 returns-2 : tie.Need-returns-2
 unfolding payload
 returns-2 c = rw (le-ltb _ _ (c .before .if1 .left), lt-ltb _ _ (c .if2 .taken))
 
--- src/lib.rt:107:9
 returns-3 : tie.Need-returns-3
 unfolding payload
 returns-3 c = rw (le-ltb _ _ (c .before .before .if1 .left), le-ltb _ _ (c .before .if2 .left), lt-ltb _ _ (c .if3 .taken))
 
--- src/lib.rt:97:1
 returns-4 : tie.Need-returns-4
 unfolding payload
 returns-4 c = rw (le-ltb _ _ (c .before .before .if1 .left), le-ltb _ _ (c .before .if2 .left), le-ltb _ _ (c .if3 .left))

@@ -16,55 +16,42 @@ use Rattle.sheet.proofs.wrong_bytes.Reads as wrong-bytes-reads
 use Rattle.walk.proofs.wrong_chains.Reads as wrong-chains-reads
 use Rattle.walk.proofs.wrong_length.Reads as wrong-length-reads
 
--- src/lib.rt:173:8
 wrong-length-requires : tie.Need-wrong-length-requires
 wrong-length-requires c κs = search needs
 
--- src/lib.rt:174:9
 returns : tie.Need-returns
 returns c = verdict-is (by-1 (sym (c .before .wrong-length .ensures) ∙ c .if1 .taken))
 
--- src/lib.rt:176:8
 word-at-requires : tie.Need-word-at-requires
 word-at-requires c κs = search needs
 
--- src/lib.rt:177:9
 returns-2 : tie.Need-returns-2
 returns-2 c = verdict-is (by-2 (sym (c .before .before .before .wrong-length .ensures) ∙ c .before .before .if1 .left) (ap not (ne-eqb _ _ (λ e. c .if2 .taken (c .before .word-at .ensures .0 ∙ e)))))
 
--- src/lib.rt:179:8
 wrong-bytes-requires : tie.Need-wrong-bytes-requires
 wrong-bytes-requires c κs = search needs
 
--- src/lib.rt:180:9
 returns-3 : tie.Need-returns-3
 returns-3 c = verdict-is (by-4 (sym (c .before .before .before .before .before .wrong-length .ensures) ∙ c .before .before .before .before .if1 .left) (ap not (eq-eqb _ _ (sym (c .before .before .before .word-at .ensures .0) ∙ c .before .before .if2 .left))) (sym (c .before .wrong-bytes .ensures) ∙ c .if3 .taken))
 
--- src/lib.rt:182:8
 wrong-chains-requires : tie.Need-wrong-chains-requires
 wrong-chains-requires c κs = few (now (c .before .before .before .before .before .before .before .args .sheet)) (sym (c .before .before .before .before .before .wrong-length .ensures) ∙ c .before .before .before .before .if1 .left)
 
--- src/lib.rt:183:9
 returns-4 : tie.Need-returns-4
 returns-4 c = verdict-is (by-3 (sym (c .before .before .before .before .before .before .before .wrong-length .ensures) ∙ c .before .before .before .before .before .before .if1 .left) (ap not (eq-eqb _ _ (sym (c .before .before .before .before .before .word-at .ensures .0) ∙ c .before .before .before .before .if2 .left))) (sym (c .before .before .before .wrong-bytes .ensures) ∙ c .before .before .if3 .left) (sym (c .before .wrong-chains .ensures) ∙ c .if4 .taken))
 
--- src/lib.rt:185:8
 over-limits-requires : tie.Need-over-limits-requires
 over-limits-requires c κs = search needs
 
--- src/lib.rt:186:9
 returns-5 : tie.Need-returns-5
 returns-5 c = verdict-is (by-5 (sym (c .before .before .before .before .before .before .before .before .before .wrong-length .ensures) ∙ c .before .before .before .before .before .before .before .before .if1 .left) (ap not (eq-eqb _ _ (sym (c .before .before .before .before .before .before .before .word-at .ensures .0) ∙ c .before .before .before .before .before .before .if2 .left))) (sym (c .before .before .before .before .before .wrong-bytes .ensures) ∙ c .before .before .before .before .if3 .left) (sym (c .before .before .before .wrong-chains .ensures) ∙ c .before .before .if4 .left) (sym (c .before .over-limits .ensures) ∙ c .if5 .taken))
 
--- src/lib.rt:188:8
 ill-formed-requires : tie.Need-ill-formed-requires
 ill-formed-requires c κs = search needs
 
--- src/lib.rt:189:9
 returns-6 : tie.Need-returns-6
 returns-6 c = verdict-is (by-6 (sym (c .before .before .before .before .before .before .before .before .before .before .before .wrong-length .ensures) ∙ c .before .before .before .before .before .before .before .before .before .before .if1 .left) (ap not (eq-eqb _ _ (sym (c .before .before .before .before .before .before .before .before .before .word-at .ensures .0) ∙ c .before .before .before .before .before .before .before .before .if2 .left))) (sym (c .before .before .before .before .before .before .before .wrong-bytes .ensures) ∙ c .before .before .before .before .before .before .if3 .left) (sym (c .before .before .before .before .before .wrong-chains .ensures) ∙ c .before .before .before .before .if4 .left) (sym (c .before .before .before .over-limits .ensures) ∙ c .before .before .if5 .left) (sym (c .before .ill-formed .ensures) ∙ c .if6 .taken))
 
--- src/lib.rt:170:1
 returns-7 : tie.Need-returns-7
 returns-7 c = verdict-is (by-none (sym (c .before .before .before .before .before .before .before .before .before .before .before .wrong-length .ensures) ∙ c .before .before .before .before .before .before .before .before .before .before .if1 .left) (ap not (eq-eqb _ _ (sym (c .before .before .before .before .before .before .before .before .before .word-at .ensures .0) ∙ c .before .before .before .before .before .before .before .before .if2 .left))) (sym (c .before .before .before .before .before .before .before .wrong-bytes .ensures) ∙ c .before .before .before .before .before .before .if3 .left) (sym (c .before .before .before .before .before .wrong-chains .ensures) ∙ c .before .before .before .before .if4 .left) (sym (c .before .before .before .over-limits .ensures) ∙ c .before .before .if5 .left) (sym (c .before .ill-formed .ensures) ∙ c .if6 .left))
 

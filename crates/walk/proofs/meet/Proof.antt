@@ -12,43 +12,33 @@ use Rattle.walk.proofs.meet.Lts as lts
 use Rattle.sheet.proofs.kind_at.Reads as kind-at-reads
 use Rattle.sheet.proofs.word_at.Reads as word-at-reads
 
--- src/lib.rt:18:8
 word-at-requires : tie.Need-word-at-requires
 word-at-requires c κs = search needs
 
--- src/lib.rt:19:9
 returns : tie.Need-returns
 returns c = meet-above (now (c .before .before .before .before .args .s)) (c .before .before .before .before .args .kind) (c .before .before .before .before .args .i) (now (c .before .before .before .before .args .marks)) (omega (arith, c .before .word-at .ensures .0))
 
--- src/lib.rt:21:8
 kind-at-requires : tie.Need-kind-at-requires
 kind-at-requires c κs = search needs
 
--- src/lib.rt:22:9
 returns-2 : tie.Need-returns-2
 returns-2 c = meet-other (now (c .before .before .before .before .before .before .args .s)) (c .before .before .before .before .before .before .args .kind) (c .before .before .before .before .before .before .args .i) (now (c .before .before .before .before .before .before .args .marks)) (omega (arith, c .before .before .before .word-at .ensures .0)) (λ e. c .if2 .taken (c .before .kind-at .ensures .0 ∙ e))
 
--- src/lib.rt:25:9
 returns-3 : tie.Need-returns-3
 returns-3 c = meet-past (now (c .before .before .before .before .before .before .before .args .s)) (c .before .before .before .before .before .before .before .args .kind) (c .before .before .before .before .before .before .before .args .i) (now (c .before .before .before .before .before .before .before .args .marks)) (omega (arith, c .before .before .before .before .word-at .ensures .0)) (sym (c .before .before .kind-at .ensures .0) ∙ c .before .if2 .left) (c .if3 .taken)
 
--- src/lib.rt:27:8
 slice-read-if4 : tie.Need-slice-read-if4
 slice-read-if4 c = search needs
 
--- src/lib.rt:28:9
 returns-4 : tie.Need-returns-4
 returns-4 c = meet-again (now (c .before .before .before .before .before .before .before .before .before .args .s)) (c .before .before .before .before .before .before .before .before .before .args .kind) (c .before .before .before .before .before .before .before .before .before .args .i) (now (c .before .before .before .before .before .before .before .before .before .args .marks)) (omega (arith, c .before .before .before .before .before .before .word-at .ensures .0)) (sym (c .before .before .before .before .kind-at .ensures .0) ∙ c .before .before .before .if2 .left) (c .before .before .if3 .left) (c .if4 .taken)
 
--- src/lib.rt:30:5
 slice-write-marks : tie.Need-slice-write-marks
 slice-write-marks c = search needs
 
--- src/lib.rt:14:1
 same-length : tie.Need-same-length
 same-length c = search needs
 
--- src/lib.rt:14:1
 returns-5 : tie.Need-returns-5
 returns-5 c = meet-first (now (c .before .before .before .before .before .before .before .before .before .args .s)) (c .before .before .before .before .before .before .before .before .before .args .kind) (c .before .before .before .before .before .before .before .before .before .args .i) (now (c .before .before .before .before .before .before .before .before .before .args .marks)) (omega (arith, c .before .before .before .before .before .before .word-at .ensures .0)) (sym (c .before .before .before .before .kind-at .ensures .0) ∙ c .before .before .before .if2 .left) (c .before .before .if3 .left) (c .if4 .left)
 

@@ -18,37 +18,29 @@ Inv-loop marks n k₀ k = anyUp (unmarked marks) k (n + 1) ≡ anyUp (unmarked m
 abbrev μ-loop : tie.MeasureT-loop
 μ-loop marks n k₀ k = n + 1 - k
 
--- src/lib.rt:130:5
 loop-holds : tie.Need-loop-holds Inv-loop μ-loop
 loop-holds c = refl
 
--- src/lib.rt:130:15
 add-loop : tie.Need-add-loop Inv-loop μ-loop
 add-loop c = search needs
 
--- src/lib.rt:131:12
 byte-at-requires : tie.Need-byte-at-requires Inv-loop μ-loop
 byte-at-requires c κs = search needs
 
--- src/lib.rt:132:13
 returns : tie.Need-returns Inv-loop μ-loop
 unfolding unmarked
 returns c = sym (any-hit (unmarked (now (c .before .before .before .before .before .args .marks))) (c .before .before .before .loop .k) (c .before .before .before .before .before .args .n + 1) (c .before .before .loop-test .taken) (eq-eqb _ _ (sym (c .before .byte-at .ensures .0) ∙ c .if1 .taken))) ∙ c .before .before .before .loop .inv
 
--- src/lib.rt:134:9
 add-k : tie.Need-add-k Inv-loop μ-loop
 add-k c = search needs
 
--- src/lib.rt:130:5
 loop-less : tie.Need-loop-less Inv-loop μ-loop
 loop-less c = search needs
 
--- src/lib.rt:130:5
 loop-again : tie.Need-loop-again Inv-loop μ-loop
 unfolding unmarked
 loop-again c = sym (any-miss (unmarked (now (c .before .before .before .before .before .args .marks))) (c .before .before .before .loop .k) (c .before .before .before .before .before .args .n + 1) (c .before .before .loop-test .taken) (ne-eqb _ _ (λ q. c .if1 .left (c .before .byte-at .ensures .0 ∙ q)))) ∙ c .before .before .before .loop .inv
 
--- src/lib.rt:125:1
 returns-2 : tie.Need-returns-2 Inv-loop μ-loop
 returns-2 c = sym (any-done (unmarked (now (c .before .before .before .args .marks))) (c .before .loop .k) (c .before .before .before .args .n + 1) (omega arith)) ∙ c .before .loop .inv
 

@@ -11,31 +11,24 @@ use Rattle.sheet.proofs.first_line_at.Reads as first-line-at-reads
 use Rattle.walk.proofs.meet.Reads as meet-reads
 use Rattle.walk.proofs.walk_lines.Reads as walk-lines-reads
 
--- src/lib.rt:89:9
 meet-requires : tie.Need-meet-requires
 meet-requires c κs = search needs
 
--- src/lib.rt:90:9
 same-length : tie.Need-same-length
 same-length c = search needs
 
--- src/lib.rt:90:9
 returns : tie.Need-returns
 returns c = arrow-bad (now (c .before .before .before .before .before .before .before .args .s)) (c .before .before .before .before .before .before .before .args .i) (now (c .before .before .before .before .before .before .before .args .marks)) (c .before .before .before .meet .last .1 .1 .1 .0) (c .before .before .before .meet .result) (not-true _ (c .if1 .taken)) (c .before .before .before .meet .ensures)
 
--- src/lib.rt:92:19
 first-line-at-requires : tie.Need-first-line-at-requires
 first-line-at-requires c κs = search needs
 
--- src/lib.rt:92:5
 walk-lines-requires : tie.Need-walk-lines-requires
 walk-lines-requires c κs = search needs
 
--- src/lib.rt:85:1
 same-length-2 : tie.Need-same-length-2
 same-length-2 c = search needs
 
--- src/lib.rt:85:1
 returns-2 : tie.Need-returns-2
 returns-2 c = arrow-on (now (c .before .before .before .before .before .before .before .before .before .before .before .before .args .s)) (c .before .before .before .before .before .before .before .before .before .before .before .before .args .i) (now (c .before .before .before .before .before .before .before .before .before .before .before .before .args .marks)) (c .before .before .before .before .before .before .before .before .meet .last .1 .1 .1 .0) (c .before .before .before .before .before .before .before .before .meet .result) (c .before .before .before .before .first-line-at .result) (at (c .before .before .walk-lines .result) (c .before .before .walk-lines .last .1 .1 .0)) (not-false _ (c .before .before .before .before .before .if1 .left)) (c .before .before .before .before .before .before .before .before .meet .ensures) (c .before .before .before .before .first-line-at .ensures .0) (c .before .before .walk-lines .ensures)
 

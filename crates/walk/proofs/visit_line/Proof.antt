@@ -11,31 +11,24 @@ use Rattle.sheet.proofs.first_text_at.Reads as first-text-at-reads
 use Rattle.walk.proofs.meet.Reads as meet-reads
 use Rattle.walk.proofs.walk_alone.Reads as walk-alone-reads
 
--- src/lib.rt:59:9
 meet-requires : tie.Need-meet-requires
 meet-requires c κs = search needs
 
--- src/lib.rt:60:9
 same-length : tie.Need-same-length
 same-length c = search needs
 
--- src/lib.rt:60:9
 returns : tie.Need-returns
 returns c = line-bad (now (c .before .before .before .before .before .before .before .args .s)) (c .before .before .before .before .before .before .before .args .i) (now (c .before .before .before .before .before .before .before .args .marks)) (c .before .before .before .meet .last .1 .1 .1 .0) (c .before .before .before .meet .result) (not-true _ (c .if1 .taken)) (c .before .before .before .meet .ensures)
 
--- src/lib.rt:62:22
 first-text-at-requires : tie.Need-first-text-at-requires
 first-text-at-requires c κs = search needs
 
--- src/lib.rt:62:5
 walk-alone-requires : tie.Need-walk-alone-requires
 walk-alone-requires c κs = search needs
 
--- src/lib.rt:55:1
 same-length-2 : tie.Need-same-length-2
 same-length-2 c = search needs
 
--- src/lib.rt:55:1
 returns-2 : tie.Need-returns-2
 returns-2 c = line-on (now (c .before .before .before .before .before .before .before .before .before .before .before .before .args .s)) (c .before .before .before .before .before .before .before .before .before .before .before .before .args .i) (now (c .before .before .before .before .before .before .before .before .before .before .before .before .args .marks)) (c .before .before .before .before .before .before .before .before .meet .last .1 .1 .1 .0) (c .before .before .before .before .before .before .before .before .meet .result) (c .before .before .before .before .first-text-at .result) (at (c .before .before .walk-alone .result) (c .before .before .walk-alone .last .1 .1 .1 .0)) (not-false _ (c .before .before .before .before .before .if1 .left)) (c .before .before .before .before .before .before .before .before .meet .ensures) (c .before .before .before .before .first-text-at .ensures .0) (c .before .before .walk-alone .ensures)
 

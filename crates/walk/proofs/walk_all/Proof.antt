@@ -11,35 +11,27 @@ use Rattle.sheet.proofs.word_at.Reads as word-at-reads
 use Rattle.walk.proofs.walk_alone.Reads as walk-alone-reads
 use Rattle.walk.proofs.walk_arrows.Reads as walk-arrows-reads
 
--- src/lib.rt:118:26
 word-at-requires : tie.Need-word-at-requires
 word-at-requires c κs = search needs
 
--- src/lib.rt:118:9
 walk-alone-requires : tie.Need-walk-alone-requires
 walk-alone-requires c κs = search needs
 
--- src/lib.rt:119:9
 same-length : tie.Need-same-length
 same-length c = search needs
 
--- src/lib.rt:119:9
 returns : tie.Need-returns
 returns c = all-bad (now (c .before .before .before .before .before .before .before .before .args .s)) (now (c .before .before .before .before .before .before .before .before .args .marks)) (c .before .before .before .walk-alone .last .1 .1 .1 .0) (c .before .before .before .walk-alone .result) (c .before .before .before .before .before .word-at .result) (c .before .before .before .before .before .word-at .ensures .0) (c .before .before .before .walk-alone .ensures) (not-true _ (c .if1 .taken))
 
--- src/lib.rt:121:20
 word-at-requires-2 : tie.Need-word-at-requires-2
 word-at-requires-2 c κs = search needs
 
--- src/lib.rt:121:5
 walk-arrows-requires : tie.Need-walk-arrows-requires
 walk-arrows-requires c κs = search needs
 
--- src/lib.rt:115:1
 same-length-2 : tie.Need-same-length-2
 same-length-2 c = search needs
 
--- src/lib.rt:115:1
 returns-2 : tie.Need-returns-2
 returns-2 c = all-on (now (c .before .before .before .before .before .before .before .before .before .before .before .before .before .args .s)) (now (c .before .before .before .before .before .before .before .before .before .before .before .before .before .args .marks)) (c .before .before .before .before .before .before .before .before .walk-alone .last .1 .1 .1 .0) (c .before .before .before .before .before .before .before .before .walk-alone .result) (c .before .before .before .before .before .before .before .before .before .before .word-at .result) (c .before .before .before .before .before .before .before .before .before .before .word-at .ensures .0) (c .before .before .before .before .before .before .before .before .walk-alone .ensures) (c .before .before .before .before .word-at2 .result) (at (c .before .before .walk-arrows .result) (c .before .before .walk-arrows .last .1 .1 .0)) (not-false _ (c .before .before .before .before .before .if1 .left)) (c .before .before .before .before .word-at2 .ensures .0) (c .before .before .walk-arrows .ensures)
 

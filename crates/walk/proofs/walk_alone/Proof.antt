@@ -23,51 +23,39 @@ Inv-loop s kind first marks₀ i₀ left₀ marks i left = (walk s (flatMap (met
 abbrev μ-loop : tie.MeasureT-loop
 μ-loop s kind first marks₀ i₀ left₀ marks i left = left
 
--- src/lib.rt:40:20
 word-at-requires : tie.Need-word-at-requires Inv-loop μ-loop
 word-at-requires c κs = search needs
 
--- src/lib.rt:40:20
 add-left : tie.Need-add-left Inv-loop μ-loop
 add-left c = search needs
 
--- src/lib.rt:41:5
 loop-holds : tie.Need-loop-holds Inv-loop μ-loop
 loop-holds c = (ap (λ (n : ℕ). walk (now (c .before .before .before .args .s)) (flatMap (metAlone (c .before .before .before .args .kind)) (chainBy (now (c .before .before .before .args .s)) (n + 1) (c .before .before .before .args .first))) (now (c .before .before .before .args .marks))) (c .word-at .ensures .0), omega arith, refl)
 
--- src/lib.rt:43:13
 same-length : tie.Need-same-length Inv-loop μ-loop
 same-length c = c .before .before .loop .inv .2
 
--- src/lib.rt:43:13
 returns : tie.Need-returns Inv-loop μ-loop
 returns c = chain-short (now (c .before .before .before .before .before .before .args .s)) (metAlone (c .before .before .before .before .before .before .args .kind)) (c .before .before .loop .left) (c .before .before .loop .i) (c .before .before .loop .marks) (c .if1 .taken) ∙ c .before .before .loop .inv .0
 
--- src/lib.rt:45:13
 meet-requires : tie.Need-meet-requires Inv-loop μ-loop
 meet-requires c κs = search needs
 
--- src/lib.rt:46:13
 same-length-2 : tie.Need-same-length-2 Inv-loop μ-loop
 same-length-2 c = c .before .before .before .meet .kept .1 .1 .1 .0 ∙ c .before .before .before .before .before .before .before .loop .inv .2
 
--- src/lib.rt:46:13
 returns-2 : tie.Need-returns-2 Inv-loop μ-loop
 returns-2 c = chain-bad (now (c .before .before .before .before .before .before .before .before .before .before .before .args .s)) (metAlone (c .before .before .before .before .before .before .before .before .before .before .before .args .kind)) (c .before .before .before .before .before .before .before .loop .left) (c .before .before .before .before .before .before .before .loop .i) (c .before .before .before .before .before .before .before .loop .marks) (c .before .before .before .meet .last .1 .1 .1 .0) (c .before .before .before .before .before .if1 .left) (c .before .before .before .before .before .before .loop-test .taken) (c .before .before .before .meet .result) (c .before .before .before .meet .ensures) (not-true _ (c .if2 .taken)) ∙ c .before .before .before .before .before .before .before .loop .inv .0
 
--- src/lib.rt:48:9
 next-at-requires : tie.Need-next-at-requires Inv-loop μ-loop
 next-at-requires c κs = search needs
 
--- src/lib.rt:49:9
 sub-left : tie.Need-sub-left Inv-loop μ-loop
 sub-left c = search needs
 
--- src/lib.rt:41:5
 loop-less : tie.Need-loop-less Inv-loop μ-loop
 loop-less c = search needs
 
--- src/lib.rt:41:5
 loop-again : tie.Need-loop-again Inv-loop μ-loop
 loop-again c =
     let s = now (c .before .before .before .before .before .before .before .before .before .before .before .before .args .s) in (
@@ -78,11 +66,9 @@ loop-again c =
       c .before .before .before .before .meet .kept .1 .1 .1 .0 ∙ c .before .before .before .before .before .before .before .before .loop .inv .2,
     )
 
--- src/lib.rt:35:1
 same-length-3 : tie.Need-same-length-3 Inv-loop μ-loop
 same-length-3 c = c .before .loop .inv .2
 
--- src/lib.rt:35:1
 returns-3 : tie.Need-returns-3 Inv-loop μ-loop
 returns-3 c = chain-over (now (c .before .before .before .before .before .args .s)) (metAlone (c .before .before .before .before .before .args .kind)) (c .before .loop .left) (c .before .loop .i) (c .before .loop .marks) (c .loop-test .left) ∙ c .before .loop .inv .0
 

@@ -23,51 +23,39 @@ Inv-loop s first marks₀ i₀ left₀ marks i left = (walk s (flatMap (metArrow
 abbrev μ-loop : tie.MeasureT-loop
 μ-loop s first marks₀ i₀ left₀ marks i left = left
 
--- src/lib.rt:100:20
 word-at-requires : tie.Need-word-at-requires Inv-loop μ-loop
 word-at-requires c κs = search needs
 
--- src/lib.rt:100:20
 add-left : tie.Need-add-left Inv-loop μ-loop
 add-left c = search needs
 
--- src/lib.rt:101:5
 loop-holds : tie.Need-loop-holds Inv-loop μ-loop
 loop-holds c = (ap (λ (n : ℕ). walk (now (c .before .before .before .args .s)) (flatMap (metArrow (now (c .before .before .before .args .s))) (chainBy (now (c .before .before .before .args .s)) (n + 1) (c .before .before .before .args .first))) (now (c .before .before .before .args .marks))) (c .word-at .ensures .0), omega arith, refl)
 
--- src/lib.rt:103:13
 same-length : tie.Need-same-length Inv-loop μ-loop
 same-length c = c .before .before .loop .inv .2
 
--- src/lib.rt:103:13
 returns : tie.Need-returns Inv-loop μ-loop
 returns c = chain-short (now (c .before .before .before .before .before .before .args .s)) (metArrow (now (c .before .before .before .before .before .before .args .s))) (c .before .before .loop .left) (c .before .before .loop .i) (c .before .before .loop .marks) (c .if1 .taken) ∙ c .before .before .loop .inv .0
 
--- src/lib.rt:105:13
 visit-arrow-requires : tie.Need-visit-arrow-requires Inv-loop μ-loop
 visit-arrow-requires c κs = search needs
 
--- src/lib.rt:106:13
 same-length-2 : tie.Need-same-length-2 Inv-loop μ-loop
 same-length-2 c = c .before .before .before .visit-arrow .kept .1 .1 .0 ∙ c .before .before .before .before .before .before .before .loop .inv .2
 
--- src/lib.rt:106:13
 returns-2 : tie.Need-returns-2 Inv-loop μ-loop
 returns-2 c = chain-bad (now (c .before .before .before .before .before .before .before .before .before .before .before .args .s)) (metArrow (now (c .before .before .before .before .before .before .before .before .before .before .before .args .s))) (c .before .before .before .before .before .before .before .loop .left) (c .before .before .before .before .before .before .before .loop .i) (c .before .before .before .before .before .before .before .loop .marks) (c .before .before .before .visit-arrow .last .1 .1 .0) (c .before .before .before .before .before .if1 .left) (c .before .before .before .before .before .before .loop-test .taken) (c .before .before .before .visit-arrow .result) (c .before .before .before .visit-arrow .ensures) (not-true _ (c .if2 .taken)) ∙ c .before .before .before .before .before .before .before .loop .inv .0
 
--- src/lib.rt:108:9
 next-at-requires : tie.Need-next-at-requires Inv-loop μ-loop
 next-at-requires c κs = search needs
 
--- src/lib.rt:109:9
 sub-left : tie.Need-sub-left Inv-loop μ-loop
 sub-left c = search needs
 
--- src/lib.rt:101:5
 loop-less : tie.Need-loop-less Inv-loop μ-loop
 loop-less c = search needs
 
--- src/lib.rt:101:5
 loop-again : tie.Need-loop-again Inv-loop μ-loop
 loop-again c =
     let s = now (c .before .before .before .before .before .before .before .before .before .before .before .before .args .s) in (
@@ -78,11 +66,9 @@ loop-again c =
       c .before .before .before .before .visit-arrow .kept .1 .1 .0 ∙ c .before .before .before .before .before .before .before .before .loop .inv .2,
     )
 
--- src/lib.rt:95:1
 same-length-3 : tie.Need-same-length-3 Inv-loop μ-loop
 same-length-3 c = c .before .loop .inv .2
 
--- src/lib.rt:95:1
 returns-3 : tie.Need-returns-3 Inv-loop μ-loop
 returns-3 c = chain-over (now (c .before .before .before .before .before .args .s)) (metArrow (now (c .before .before .before .before .before .args .s))) (c .before .loop .left) (c .before .loop .i) (c .before .loop .marks) (c .loop-test .left) ∙ c .before .loop .inv .0
 

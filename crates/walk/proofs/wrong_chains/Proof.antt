@@ -18,31 +18,24 @@ use Rattle.sheet.proofs.word_at.Reads as word-at-reads
 use Rattle.walk.proofs.some_unmarked.Reads as some-unmarked-reads
 use Rattle.walk.proofs.walk_all.Reads as walk-all-reads
 
--- src/lib.rt:145:21
 slice-aggregate-walk-all : tie.Need-slice-aggregate-walk-all
 slice-aggregate-walk-all c = search needs
 
--- src/lib.rt:145:9
 walk-all-requires : tie.Need-walk-all-requires
 walk-all-requires c κs = search needs
 
--- src/lib.rt:146:9
 returns : tie.Need-returns
 returns c = chains-wrong (now (c .before .before .before .before .before .args .s)) (c .before .before .walk-all .last .1 .0) (c .before .before .before .before .before .pre) (ap (λ (b : Bool). at b (c .before .before .walk-all .last .1 .0)) (sym (not-true _ (c .if1 .taken))) ∙ c .before .before .walk-all .ensures)
 
--- src/lib.rt:148:19
 slice-aggregate-some-unmarked : tie.Need-slice-aggregate-some-unmarked
 slice-aggregate-some-unmarked c = search needs
 
--- src/lib.rt:148:27
 word-at-requires : tie.Need-word-at-requires
 word-at-requires c κs = search needs
 
--- src/lib.rt:148:5
 some-unmarked-requires : tie.Need-some-unmarked-requires
 some-unmarked-requires c κs = search needs
 
--- src/lib.rt:140:1
 returns-2 : tie.Need-returns-2
 returns-2 c = c .some-unmarked .ensures ∙ ap (λ (n : ℕ). anyUp (unmarked (c .before .before .before .before .before .walk-all .last .1 .0)) 1 (n + 1)) (c .before .word-at .ensures .0)
     ∙ chains-marked (now (c .before .before .before .before .before .before .before .before .args .s)) (c .before .before .before .before .before .walk-all .last .1 .0) (c .before .before .before .before .before .before .before .before .pre) (ap (λ (b : Bool). at b (c .before .before .before .before .before .walk-all .last .1 .0)) (sym (not-false _ (c .before .before .before .if1 .left))) ∙ c .before .before .before .before .before .walk-all .ensures)

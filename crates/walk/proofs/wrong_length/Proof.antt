@@ -7,27 +7,21 @@ use Rattle.walk.proofs.wrong_length.Reads as reads
 use Rattle.walk.proofs.wrong_length.Lts as lts
 use Rattle.sheet.proofs.word_at.Reads as word-at-reads
 
--- src/lib.rt:156:9
 returns : tie.Need-returns
 returns c = simp (lt-ltb _ _ (c .if1 .taken))
 
--- src/lib.rt:159:9
 returns-2 : tie.Need-returns-2
 returns-2 c = simp (le-ltb _ _ (c .before .if1 .left), lt-ltb _ _ (c .if2 .taken))
 
--- src/lib.rt:161:26
 word-at-requires : tie.Need-word-at-requires
 word-at-requires c κs = search needs
 
--- src/lib.rt:161:22
 add-result : tie.Need-add-result
 add-result c = search needs
 
--- src/lib.rt:161:16
 mul-result : tie.Need-mul-result
 mul-result c = search needs
 
--- src/lib.rt:152:1
 returns-3 : tie.Need-returns-3
 returns-3 c = simp (le-ltb _ _ (c .before .before .if1 .left), le-ltb _ _ (c .before .if2 .left), sym (c .word-at .ensures .0))
 
