@@ -1,7 +1,7 @@
 -- Routing as a plain run over graph and centres alone: document 01, 'Turns, places and costs'.
 use mathlib.Core.Bool.{Bool, true, false, not, cond, _&&_}
 use mathlib.Core.List.{List, [], _∷_, _++_, map, flatMap}
-use Prim.Native.Nat.{ℕ, zero, suc, _+_, _-_, _*_, _%_}
+use Prim.Native.Nat.{ℕ, suc, _-_, _%_}
 use lib.Dec.{ltb, eqb}
 use lib.ListN.{length, getD}
 use lib.Ieee.{Float}
@@ -9,14 +9,13 @@ use Rattle.laws.specs.Filter.{filter}
 use Rattle.laws.specs.Counting.{number}
 use Rattle.laws.specs.Zip.{zip}
 use Rattle.laws.specs.Run as Run
-use Rattle.float.specs.Constants.{f0, f0-75, f1, f22, f28, π}
-use Rattle.float.specs.Ops.{lt}
+use Rattle.float.specs.Constants.{f0, f22, f28, π}
 use Rattle.shape.specs.declared.«V».{«V»}
 use Rattle.shape.specs.declared.Curve.{Curve}
 use Rattle.shape.specs.declared.Curve.the-variants.{Line}
-use Rattle.shape.specs.Plane.{vec, sub, polar, angle}
-use Rattle.shape.specs.Curves.{start, end, tangent}
-use Rattle.trace.specs.Traces.{Trace, nobody, arrow, traceOf, foreign, crosses, near}
+use Rattle.shape.specs.Plane.{vec, sub, angle}
+use Rattle.shape.specs.Curves.{start, end}
+use Rattle.trace.specs.Traces.{Trace, nobody, arrow, traceOf}
 use Rattle.free.specs.Centres.{centre}
 use Rattle.bow.specs.declared.Routed.{Routed}
 use Rattle.bow.specs.declared.Joined.{Joined}
@@ -30,8 +29,8 @@ use Rattle.spot.specs.declared.Geometry.{Geometry}
 use Rattle.spot.specs.Spots.{labelSpots}
 use Rattle.place.specs.Scene.{Scene, sceneOf, withBox, withTrace, boxCost}
 use Rattle.place.specs.Turn as Place
-use Rattle.rim.specs.Directions.{directions, room, upwards}
-use Rattle.rim.specs.Loop.{loopCurve}
+use Rattle.looped.specs.Looped.{Loop, loopOf, loopDrawn, traceBy, directionCost}
+use Rattle.looped.specs.Looped as Looped
 
 -- ---- what is routed: no label enters the frame
 
@@ -184,59 +183,28 @@ steps f sizes = map (stepOf sizes) (order f)
 abbrev pub turnOf : ℕ → Routed → Size → Turn
 turnOf edge r size = record { edge = edge; arrow = r; width = size .width; height = size .height }
 
-abbrev pub loopRouted : «V» → Float → Routed
-loopRouted c phi = let k = loopCurve c phi in record { curve = k; «tip_angle» = angle (tangent k f1); shape = Shape.Loop (polar phi) }
-
--- the directions of a loop
-abbrev pub directionsOf : Frame → Numbered → List Float
-directionsOf f a = directions (rim f (a .ends .source))
-
-abbrev pub direction : Frame → Numbered → ℕ → Float
-direction f a j = getD (directionsOf f a) j upwards
-
--- the drawing that a loop has in a direction: its curve, and the label that it brings
-abbrev pub loopTurn : Frame → Numbered → Size → ℕ → Turn
-loopTurn f a size j = turnOf (a .edge) (loopRouted (centre (f .centres) (a .ends .source)) (direction f a j)) size
+-- a loop's turn
+abbrev pub loopTurn : Frame → Numbered → Size → Loop
+loopTurn f a size = let k = a .ends .source in loopOf (a .edge) k (centre (f .centres) k) (rim f k) (size .width) (size .height)
 
 abbrev pub labelTurn : Route → Size → Turn
 labelTurn r size = turnOf (r .from .edge) (r .routed) size
 
 -- "Listed are the places named above, in that order; for a loop, the directions of `self_loop` in its order": how many
 abbrev pub listedBy : Frame → Item → ℕ
-listedBy f (loop a) = length (directionsOf f a)
+listedBy f (loop a) = Looped.listed (loopTurn f a none)
 listedBy f (label r) = length (labelSpots (r .routed .curve) (r .routed .shape))
 
 -- place or direction j of a turn, drawn
 abbrev pub drawnBy : Frame → Item → Size → ℕ → Geometry
-drawnBy f (loop a) size j = Place.drawnAt (loopTurn f a size j) 0
+drawnBy f (loop a) size j = let l = loopTurn f a size in loopDrawn l (Looped.direction l j)
 drawnBy f (label r) size j = Place.drawnAt (labelTurn r size) j
 
 -- ---- full costs
 
--- the states but number k
-unfoldable pub others : ℕ → List «V» → List «V»
-others k [] = []
-others zero (c ∷ cs) = cs
-others (suc k) (c ∷ cs) = c ∷ others k cs
-
--- a foreign trace that the loop crosses
-abbrev pub crossed : ℕ → Trace → Trace → Bool
-crossed edge looped t = foreign edge t && crosses t looped
-
--- "for a loop, what `self_loop` adds too": 10 a state nearer than 25, 3 a foreign trace crossed, 20 where another arrow or the start mark is nearer than 0.75
-abbrev pub loopAdds : Frame → Scene → Numbered → Float → Trace → ℕ
-loopAdds f s a phi looped =
-    10 * number (near looped) (others (a .ends .source) (s .centres))
-    + 3 * number (crossed (a .edge) looped) (s .traces)
-    + cond (lt (room phi (rim f (a .ends .source))) f0-75) 20 0
-
-abbrev pub traceBy : Geometry → Trace
-traceBy g = traceOf (arrow (g .edge)) (g .curve)
-
+-- "for a loop, what `self_loop` adds too": `directionCost` of Looped
 abbrev pub costBy : Frame → Scene → Item → Size → ℕ → ℕ
-costBy f s (loop a) size j =
-    let g = drawnBy f (loop a) size j in
-    boxCost s (a .edge) (g .bounds) + loopAdds f s a (direction f a j) (traceBy g)
+costBy f s (loop a) size j = directionCost s (loopTurn f a size) j
 costBy f s (label r) size j = boxCost s (r .from .edge) (drawnBy f (label r) size j .bounds)
 
 -- "what `geometry` adds before the next turn goes into the scene"

@@ -1,0 +1,2 @@
+pub mod Looped
+pub mod Early
