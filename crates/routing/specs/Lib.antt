@@ -1,3 +1,4 @@
 pub mod Routing
 pub mod Demand
 pub mod Sheets
+pub mod Passes
