@@ -1,0 +1,155 @@
+-- The first start state; the places on the ring, each taken once; the start state at the left. Assumes nothing.
+use mathlib.Core.Path.{_≡_, refl, sym, ap, _∙_, subst}
+use mathlib.Core.Bool.{true, false}
+use mathlib.Core.List.{List, [], _∷_}
+use Prim.Native.Nat.{ℕ, zero, suc, _+_, _-_, _*_, _%_, _^_, _≤_, _<_}
+use native.Mathlib.Nat.{mod-eq-of-lt, mod-lt, add-mod-right, mul-pos, zero-mul, add-zero, add-suc, suc-add}
+use native.Mathlib.Omega.{arith}
+use borrow.Author.Tests.{ne-eqb}
+use lib.Dec.{T}
+use lib.IntN.{ℤ}
+use lib.ListN.{length, getD}
+use lib.Ieee.{Float, nan, inf, fin, up, down, binary64, ofBits, ofInt, round, sum}
+use lib.Ieee as Ieee
+use lib.Ieee.Exact.{HasValue}
+use lib.Ieee.Fits.{up-pos, down-pos}
+use lib.Ieee.Back.{round-whole}
+use lib.Ieee.Scale.{round-same}
+use Rattle.laws.specs.Cases.{by-bool, by-lt}
+use Rattle.laws.specs.Flat.{table}
+use Rattle.laws.specs.Loops as Loops
+use Rattle.float.specs.Constants.{f0, f1, π, τ}
+use Rattle.float.specs.Ops.{_⊕_, _⊗_, _⊘_, neg, count}
+use Rattle.float.specs.Standins.{sin, cos, reduced, series}
+use Rattle.ring.specs.Ring.{isStart, startFrom, startIndex, radius, place, angle, cosAt, sinAt, around, ringed, circularXs, circularYs}
+
+-- ---- the start state
+
+-- the search from state k on finds k + j, where j is the first start state of the list, or 0
+start-at : (k j : ℕ) (l : List ℕ) → j < length l → isStart (getD l j 0) ≡ true → ((i : ℕ) → i < j → isStart (getD l i 0) ≡ false) → startFrom k l ≡ k + j
+unfolding startFrom
+start-at k j [] h e none = absurd (omega arith)
+start-at k zero (f ∷ l) h e none = rw (e, add-zero)
+start-at k (suc j) (f ∷ l) h e none =
+    rw (none 0 (omega arith)) (start-at (suc k) j l (omega arith) e (λ i m. none (suc i) (omega arith)) ∙ suc-add k j ∙ sym (add-suc k j))
+
+-- a start state with none before it is the one found
+pub start-first : (j : ℕ) (l : List ℕ) → j < length l → isStart (getD l j 0) ≡ true → ((i : ℕ) → i < j → isStart (getD l i 0) ≡ false) → startIndex l ≡ j
+start-first j l h e none = start-at 0 j l h e none ∙ omega arith
+
+start-nowhere : (k : ℕ) (l : List ℕ) → ((i : ℕ) → i < length l → isStart (getD l i 0) ≡ false) → startFrom k l ≡ 0
+unfolding startFrom
+start-nowhere k [] none = refl
+start-nowhere k (f ∷ l) none = rw (none 0 (omega arith)) (start-nowhere (suc k) l (λ i h. none (suc i) (omega arith)))
+
+-- "or 0"
+pub start-none : (l : List ℕ) → ((i : ℕ) → i < length l → isStart (getD l i 0) ≡ false) → startIndex l ≡ 0
+start-none l none = start-nowhere 0 l none
+
+start-within : (k n : ℕ) (l : List ℕ) → 0 < n → k + length l ≤ n → startFrom k l < n
+unfolding startFrom
+start-within k n [] p h = p
+start-within k n (f ∷ l) p h = by-bool (isStart f) (λ e. rw e (omega arith)) (λ e. rw e (start-within (suc k) n l p (omega arith)))
+
+-- it is a state
+pub start-below : (l : List ℕ) → 0 < length l → startIndex l < length l
+start-below l h = start-within 0 (length l) l h (omega arith)
+
+-- ---- places
+
+-- the state at place k
+abbrev pub stateAt : ℕ → ℕ → ℕ → ℕ
+stateAt n start k = (k + start) % n
+
+before : (n start i : ℕ) → start < n → i < start → place n start i ≡ i + (n - start)
+before n start i h k = let e : i + n - start ≡ i + (n - start) = omega arith in rw e (mod-eq-of-lt (omega arith))
+
+after : (n start i : ℕ) → i < n → start ≤ i → place n start i ≡ i - start
+after n start i h k = let e : i + n - start ≡ (i - start) + n = omega arith in rw e (add-mod-right (i - start) n ∙ mod-eq-of-lt (omega arith))
+
+early : (n start k : ℕ) → k + start < n → stateAt n start k ≡ k + start
+early n start k h = mod-eq-of-lt h
+
+late : (n start k : ℕ) → k < n → start < n → n ≤ k + start → stateAt n start k ≡ k + start - n
+late n start k h g m = let e : k + start ≡ (k + start - n) + n = omega arith in ap (λ (x : ℕ). x % n) e ∙ add-mod-right (k + start - n) n ∙ mod-eq-of-lt (omega arith)
+
+module _ (n start : ℕ) (h : start < n) where
+  pub place-start : place n start start ≡ 0
+  place-start = after n start start h (omega arith) ∙ omega arith
+
+  pub place-below : (i : ℕ) → place n start i < n
+  place-below i = mod-lt (i + n - start) (omega arith)
+
+  -- the places are the numbers below n, each taken by one state: each place has its state, and each state its place
+  pub place-back : (k : ℕ) → k < n → place n start (stateAt n start k) ≡ k
+  place-back k l =
+      by-lt (k + start) n
+      (λ (m : k + start < n). ap (place n start) (early n start k m) ∙ after n start (k + start) m (omega arith) ∙ omega arith)
+      (λ (m : n ≤ k + start). ap (place n start) (late n start k l h m) ∙ before n start (k + start - n) h (omega arith) ∙ omega arith)
+
+  pub state-back : (i : ℕ) → i < n → stateAt n start (place n start i) ≡ i
+  state-back i l =
+      by-lt i start
+      (λ (m : i < start). ap (stateAt n start) (before n start i h m) ∙ late n start (i + (n - start)) (omega arith) h (omega arith) ∙ omega arith)
+      (λ (m : start ≤ i). ap (stateAt n start) (after n start i l m) ∙ early n start (i - start) (omega arith) ∙ omega arith)
+
+-- ---- the direction of place 0
+
+over-count : (x : Float) (n : ℕ) → 0 < n → HasValue x false n 1 → f0 ⊘ x ≡ f0
+unfolding ofBits Ieee.div
+over-count nan n p v = absurd v
+over-count (inf s) n p v = absurd v
+over-count (fin true m e) n p v = absurd (subst T (v .0) tt)
+over-count (fin false zero e) n p v = absurd (none e (v .1))
+  where
+    none : (e : ℤ) → 0 * up e * 1 ≡ n * down e → ⊥
+    none e w = omega (arith, w, zero-mul (up e), mul-pos p (down-pos e))
+over-count (fin false (suc m) e) n p v =
+    let z : suc m ≡ 0 → ⊥ = λ z. omega arith in
+    rw (ne-eqb _ _ z)
+    (round-same binary64 false (0 * 1 * down e) (suc m * up e * 1) 0 1 (mul-pos (mul-pos (omega arith) (up-pos e)) (omega arith)) (omega arith) (omega arith) ∙ unfold round in refl)
+
+zero-turn : τ ⊗ count 0 ≡ f0
+unfolding Ieee.mul ofInt ofBits round
+zero-turn = refl
+
+no-turn : π ⊕ f0 ≡ π
+unfolding Ieee.add ofBits round sum
+no-turn = refl
+
+zero-over : (n : ℕ) → 0 < n → n ≤ 2 ^ 53 → f0 ⊘ count n ≡ f0
+unfolding ofInt
+zero-over n p h = over-count (round binary64 false n 1) n p (round-whole binary64 false n h)
+
+pub left-angle : (n : ℕ) → 0 < n → n ≤ 64 → angle n 0 ≡ π
+left-angle n p h = ap (λ (x : Float). π ⊕ x ⊘ count n) zero-turn ∙ ap (λ (x : Float). π ⊕ x) (zero-over n p (omega arith)) ∙ no-turn
+
+pub cos-left : cos π ≡ neg f1
+unfolding cos reduced series Loops.down Ieee.add Ieee.sub Ieee.mul Ieee.div Ieee.rem Ieee.neg Ieee.lt ofInt round sum ofBits
+cos-left = refl
+
+pub sin-left : sin π ≡ f0
+unfolding sin reduced series Loops.down Ieee.add Ieee.sub Ieee.mul Ieee.div Ieee.rem Ieee.neg Ieee.lt ofInt round sum ofBits
+sin-left = refl
+
+-- ---- the start state is at the left: x is the radius times -1, y the radius times 0
+
+table-at : {A : Type 0} (f : ℕ → A) (d : A) (k n i : ℕ) → i < n → getD (table f k n) i d ≡ f (k + i)
+unfolding table
+table-at f d k zero i h = absurd (omega arith)
+table-at f d k (suc n) zero h = rw add-zero
+table-at f d k (suc n) (suc i) h = table-at f d (suc k) n i (omega arith) ∙ ap f (suc-add k i ∙ sym (add-suc k i))
+
+module _ (n start : ℕ) (label : Float) (m : 1 < n) (l : n ≤ 64) (h : start < n) where
+  at-start : (part : ℕ → ℕ → Float) (x : Float) → part n 0 ≡ x → getD (ringed part n start label) start nan ≡ radius n label ⊗ x
+  unfolding ringed around
+  at-start part x e =
+      let z : n ≡ 1 → ⊥ = λ z. omega arith in
+      rw (ne-eqb n 1 z)
+      (table-at (λ i. radius n label ⊗ part n (place n start i)) nan 0 n start h
+      ∙ ap (λ (k : ℕ). radius n label ⊗ part n k) (ap (place n start) (omega arith) ∙ place-start n start h) ∙ ap (λ (y : Float). radius n label ⊗ y) e)
+
+  pub start-left : (getD (circularXs n start label) start nan ≡ radius n label ⊗ neg f1) × (getD (circularYs n start label) start nan ≡ radius n label ⊗ f0)
+  start-left =
+      let p : 0 < n = omega arith in
+      (at-start cosAt (neg f1) (ap cos (left-angle n p l) ∙ cos-left), at-start sinAt f0 (ap sin (left-angle n p l) ∙ sin-left))

@@ -1,0 +1,70 @@
+-- The ring: "Circular: one state at 0, 0", else the states evenly on a circle in their order, the start state at the left. y points down.
+use mathlib.Core.Bool.{Bool, cond}
+use mathlib.Core.List.{List, [], _∷_}
+use Prim.Native.Nat.{ℕ, suc, _+_, _-_, _%_}
+use lib.Dec.{eqb}
+use lib.Ieee.{Float}
+use Rattle.laws.specs.Loops.{over}
+use Rattle.laws.specs.Flat.{table}
+use Rattle.float.specs.Constants.{f0, f2, f20, f22, f24, f150, π, τ}
+use Rattle.float.specs.Ops.{_⊕_, _⊗_, _⊘_, count}
+use Rattle.float.specs.Standins.{max, clamp, sin, cos}
+
+-- ---- the start state
+
+-- "bit 0 start" of a state's flags
+abbrev pub isStart : ℕ → Bool
+isStart flag = eqb (flag % 2) 1
+
+-- "the first start state or 0"; the first of the list is state k
+unfoldable pub startFrom : ℕ → List ℕ → ℕ
+startFrom k [] = 0
+startFrom k (flag ∷ flags) = let later = startFrom (suc k) flags in cond (isStart flag) k later
+
+abbrev pub startIndex : List ℕ → ℕ
+startIndex flags = startFrom 0 flags
+
+-- ---- the widest, or the tallest, label block of the graph
+
+unfoldable pub largest : List Float → Float
+largest sizes = over max f0 sizes
+
+-- ---- places on the circle
+
+-- the distance between neighbours: room for a label and both radii, 22 each, and 24; from 150 to 2·150 + 20
+abbrev pub chord : Float → Float
+chord label = clamp (label ⊕ f2 ⊗ f22 ⊕ f24) f150 (f2 ⊗ f150 ⊕ f20)
+
+-- the radius of the circle that n such chords go round in
+abbrev pub radius : ℕ → Float → Float
+radius n label = chord label ⊘ (f2 ⊗ sin (π ⊘ count n))
+
+-- the place of state i among n: places are counted from the start state
+abbrev pub place : ℕ → ℕ → ℕ → ℕ
+place n start i = (i + n - start) % n
+
+-- the direction of place k; place 0 is at the left
+abbrev pub angle : ℕ → ℕ → Float
+angle n k = π ⊕ τ ⊗ count k ⊘ count n
+
+abbrev pub cosAt : ℕ → ℕ → Float
+cosAt n k = cos (angle n k)
+
+abbrev pub sinAt : ℕ → ℕ → Float
+sinAt n k = sin (angle n k)
+
+-- ---- centres
+
+-- the radius r times what `part` gives for each state's place, in the order of the states
+unfoldable pub around : (ℕ → ℕ → Float) → ℕ → ℕ → Float → List Float
+around part n start r = table (λ i. r ⊗ part n (place n start i)) 0 n
+
+-- one state at 0; else around the circle
+unfoldable pub ringed : (ℕ → ℕ → Float) → ℕ → ℕ → Float → List Float
+ringed part n start label = cond (eqb n 1) (f0 ∷ []) (around part n start (radius n label))
+
+abbrev pub circularXs : ℕ → ℕ → Float → List Float
+circularXs n start label = ringed cosAt n start label
+
+abbrev pub circularYs : ℕ → ℕ → Float → List Float
+circularYs n start label = ringed sinAt n start label

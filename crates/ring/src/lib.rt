@@ -1,0 +1,101 @@
+// The ring: the states on a circle, in their order, the start state at the left.
+ghost use mathlib.Core.Path.{_≡_};
+ghost use Prim.Native.Nat.{_<_, _≤_};
+ghost use lib.ListN.{length};
+ghost use Rattle.ring.specs.Ring as S;
+
+const PI: f64 = 3.141592653589793;
+
+const TAU: f64 = 6.283185307179586;
+
+const NODE_RADIUS: f64 = 22.0;
+
+const CIRCLE_GAP: f64 = 150.0;
+
+// Whether bit 0 of a state's flags is set.
+pub fn is_start(flag: u8) -> bool
+    ensures { λ r. ⌜ r ≡ S.isStart flag ⌝ }
+{
+    flag % 2 == 1
+}
+
+// The first start state, or 0.
+pub fn start_index(flags: &[u8]) -> usize
+    ensures { λ r. ⌜ r ≡ S.startIndex (now (flags .entry)) ⌝ }
+{
+    for i in 0..flags.len() {
+        if is_start(flags[i]) {
+            return i;
+        }
+    }
+    0
+}
+
+// The largest of the widths, or of the heights, of the label blocks.
+pub fn largest(sizes: &[f64]) -> f64
+    ensures { λ r. ⌜ r ≡ S.largest (now (sizes .entry)) ⌝ }
+{
+    let mut most = 0.0;
+    for i in 0..sizes.len() {
+        most = float::max(most, sizes[i]);
+    }
+    most
+}
+
+// The radius of the circle for n states, the widest label `label` wide.
+fn radius(n: usize, label: f64) -> f64
+    requires { ⌜ n ≤ 64 ⌝ }
+    ensures { λ r. ⌜ r ≡ S.radius n label ⌝ }
+{
+    let chord = float::clamp(
+        label + 2.0 * NODE_RADIUS + 24.0,
+        CIRCLE_GAP,
+        2.0 * CIRCLE_GAP + 20.0,
+    );
+    chord / (2.0 * float::sin(PI / (n as f64)))
+}
+
+// The place of state i, counted from the start state.
+fn place(n: usize, start: usize, i: usize) -> usize
+    requires { ⌜ (n ≤ 64) × (start < n) × (i < n) ⌝ }
+    ensures { λ r. ⌜ (r ≡ S.place n start i) × (r < n) ⌝ }
+{
+    (i + n - start) % n
+}
+
+// The direction of place k.
+fn angle(n: usize, k: usize) -> f64
+    requires { ⌜ (n ≤ 64) × (k < n) ⌝ }
+    ensures { λ r. ⌜ r ≡ S.angle n k ⌝ }
+{
+    PI + TAU * (k as f64) / (n as f64)
+}
+
+// The states on the circle with radius r.
+fn fill(start: usize, r: f64, xs: &mut [f64], ys: &mut [f64])
+    requires { ⌜ (length (now ys) ≡ length (now xs)) × (length (now xs) ≤ 64) × (start < length (now xs)) ⌝ }
+    ensures { λ _. ⌜ (now (xs .exit) ≡ S.around S.cosAt (length (now (xs .entry))) start r) × (now (ys .exit) ≡ S.around S.sinAt (length (now (xs .entry))) start r) ⌝ }
+{
+    let n = xs.len();
+    let mut i: usize = 0;
+    while i < n {
+        let a = angle(n, place(n, start, i));
+        xs[i] = r * float::cos(a);
+        ys[i] = r * float::sin(a);
+        i += 1;
+    }
+}
+
+// The centres on the ring; one state at 0, 0.
+pub fn circular(start: usize, label: f64, xs: &mut [f64], ys: &mut [f64])
+    requires { ⌜ (length (now ys) ≡ length (now xs)) × (length (now xs) ≤ 64) × (start < length (now xs)) ⌝ }
+    ensures { λ _. ⌜ (now (xs .exit) ≡ S.circularXs (length (now (xs .entry))) start label) × (now (ys .exit) ≡ S.circularYs (length (now (xs .entry))) start label) ⌝ }
+{
+    let n = xs.len();
+    if n == 1 {
+        xs[0] = 0.0;
+        ys[0] = 0.0;
+        return;
+    }
+    fill(start, radius(n, label), xs, ys);
+}
