@@ -2,3 +2,4 @@ pub mod Routing
 pub mod Demand
 pub mod Sheets
 pub mod Passes
+pub mod Turns
