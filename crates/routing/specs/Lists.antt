@@ -1,0 +1,77 @@
+-- Lists of lists joined, and how map, filter, counting and folds go through them. Assumes nothing.
+use mathlib.Core.Path.{_≡_, refl, sym, ap, ap₂, _∙_}
+use mathlib.Core.Bool.{Bool, true, false, cond, _&&_}
+use mathlib.Core.List.{List, [], _∷_, _++_, map, flatMap, append-assoc}
+use Prim.Native.Nat.{ℕ, _+_}
+use native.Mathlib.Nat.{zero-add}
+use native.Mathlib.Omega.{arith}
+use Rattle.laws.specs.Cases.{by-bool}
+use Rattle.laws.specs.Counting.{number}
+use Rattle.laws.specs.Filter.{filter, filter-join}
+use Rattle.laws.specs.Loops.{over, over-join}
+
+module _ {A B : Type 0} where
+  pub map-join : (h : A → B) (l m : List A) → map h (l ++ m) ≡ map h l ++ map h m
+  map-join h [] m = refl
+  map-join h (a ∷ l) m = ap (λ (r : List B). h a ∷ r) (map-join h l m)
+
+  pub flat-join : (g : A → List B) (l m : List A) → flatMap g (l ++ m) ≡ flatMap g l ++ flatMap g m
+  unfolding flatMap
+  flat-join g [] m = refl
+  flat-join g (a ∷ l) m = ap (λ (r : List B). g a ++ r) (flat-join g l m) ∙ sym (append-assoc (g a) (flatMap g l) (flatMap g m))
+
+  pub map-flat-one : (h : A → B) (l : List A) → map h l ≡ flatMap (λ a. h a ∷ []) l
+  unfolding flatMap
+  map-flat-one h [] = refl
+  map-flat-one h (a ∷ l) = ap (λ (r : List B). h a ∷ r) (map-flat-one h l)
+
+  -- only of those that pass a test
+  pub flat-filter : (g : A → List B) (p : A → Bool) (l : List A) → flatMap g (filter p l) ≡ flatMap (λ a. cond (p a) (g a) []) l
+  unfolding flatMap filter
+  flat-filter g p [] = refl
+  flat-filter g p (a ∷ l) = by-bool (p a) (λ t. rw t (ap (λ (r : List B). g a ++ r) (flat-filter g p l))) (λ t. rw t (flat-filter g p l))
+
+  pub filter-flat : (p : B → Bool) (g : A → List B) (l : List A) → filter p (flatMap g l) ≡ flatMap (λ a. filter p (g a)) l
+  unfolding flatMap
+  filter-flat p g [] = unfold filter in refl
+  filter-flat p g (a ∷ l) = filter-join p (g a) (flatMap g l) ∙ ap (λ (r : List B). filter p (g a) ++ r) (filter-flat p g l)
+
+  -- a fold over all
+  pub over-flat : {S : Type 0} (h : S → B → S) (s : S) (g : A → List B) (l : List A) → over h s (flatMap g l) ≡ over (λ r a. over h r (g a)) s l
+  unfolding flatMap over
+  over-flat h s g [] = refl
+  over-flat h s g (a ∷ l) = over-join h s (g a) (flatMap g l) ∙ over-flat h (over h s (g a)) g l
+
+  -- two ways that agree where a test fails, over a list of which none passes it
+  pub flat-agree : (bad : A → Bool) (g h : A → List B) (l : List A) → number bad l ≡ 0 → ((a : A) → bad a ≡ false → g a ≡ h a) → flatMap g l ≡ flatMap h l
+  unfolding flatMap number
+  flat-agree bad g h [] n e = refl
+  flat-agree bad g h (a ∷ l) n e =
+      by-bool (bad a) (λ t. absurd (some t)) (λ t. ap₂ (λ (x y : List B). x ++ y) (e a t) (flat-agree bad g h l (rest t) e))
+    where
+      some : bad a ≡ true → ⊥
+      some t = let m : 1 + number bad l ≡ 0 = rw t at n in omega arith
+
+      rest : bad a ≡ false → number bad l ≡ 0
+      rest t = let m : 0 + number bad l ≡ 0 = rw t at n in omega arith
+
+  pub flat-same : (g h : A → List B) (l : List A) → ((a : A) → g a ≡ h a) → flatMap g l ≡ flatMap h l
+  unfolding flatMap
+  flat-same g h [] e = refl
+  flat-same g h (a ∷ l) e = ap₂ (λ (x y : List B). x ++ y) (e a) (flat-same g h l e)
+
+module _ {A B C : Type 0} where
+  pub map-flat : (h : B → C) (g : A → List B) (l : List A) → map h (flatMap g l) ≡ flatMap (λ a. map h (g a)) l
+  unfolding flatMap
+  map-flat h g [] = refl
+  map-flat h g (a ∷ l) = map-join h (g a) (flatMap g l) ∙ ap (λ (r : List C). map h (g a) ++ r) (map-flat h g l)
+
+  pub flat-flat : (h : B → List C) (g : A → List B) (l : List A) → flatMap h (flatMap g l) ≡ flatMap (λ a. flatMap h (g a)) l
+  unfolding flatMap
+  flat-flat h g [] = refl
+  flat-flat h g (a ∷ l) = flat-join h (g a) (flatMap g l) ∙ ap (λ (r : List C). flatMap h (g a) ++ r) (flat-flat h g l)
+
+pub number-filter : {A : Type 0} (p q : A → Bool) (l : List A) → number p (filter q l) ≡ number (λ a. q a && p a) l
+unfolding number filter
+number-filter p q [] = refl
+number-filter p q (a ∷ l) = by-bool (q a) (λ t. rw t (ap (λ (n : ℕ). cond (p a) 1 0 + n) (number-filter p q l))) (λ t. rw (t, zero-add) (number-filter p q l))
