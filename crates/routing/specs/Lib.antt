@@ -5,3 +5,5 @@ pub mod Passes
 pub mod Turns
 pub mod Lists
 pub mod Order
+pub mod Numbers
+pub mod Slots

@@ -75,3 +75,13 @@ pub number-filter : {A : Type 0} (p q : A → Bool) (l : List A) → number p (f
 unfolding number filter
 number-filter p q [] = refl
 number-filter p q (a ∷ l) = by-bool (q a) (λ t. rw t (ap (λ (n : ℕ). cond (p a) 1 0 + n) (number-filter p q l))) (λ t. rw (t, zero-add) (number-filter p q l))
+
+module _ {A B : Type 0} where
+  pub filter-map : (p : B → Bool) (h : A → B) (l : List A) → filter p (map h l) ≡ map h (filter (λ a. p (h a)) l)
+  unfolding filter
+  filter-map p h [] = refl
+  filter-map p h (a ∷ l) = by-bool (p (h a)) (λ t. rw t (ap (λ (r : List B). h a ∷ r) (filter-map p h l))) (λ t. rw t (filter-map p h l))
+
+pub map-map : {A B C : Type 0} (g : B → C) (h : A → B) (l : List A) → map g (map h l) ≡ map (λ a. g (h a)) l
+map-map g h [] = refl
+map-map {C = C} g h (a ∷ l) = ap (λ (r : List C). g (h a) ∷ r) (map-map g h l)

@@ -1,0 +1,241 @@
+-- The passes leave in the slots what the run draws, and what is gathered from there is the records, one for each kept arrow. Assumes nothing.
+use mathlib.Core.Path.{_≡_, refl, sym, ap, ap₂, _∙_}
+use mathlib.Core.Bool.{Bool, true, false, cond}
+use mathlib.Core.List.{List, [], _∷_, _++_, map, flatMap, append-nil}
+use Prim.Native.Nat.{ℕ, zero, suc, _+_, _*_, _≤_, _<_}
+use native.Mathlib.Omega.{arith}
+use borrow.Author.Tests.{eqb-true, eqb-false, ne-eqb}
+use lib.Dec.{eqb}
+use lib.ListN.{length, length-map}
+use lib.Ieee.{Float}
+use Rattle.laws.specs.Cases.{by-bool}
+use Rattle.laws.specs.Filter.{filter, filter-join}
+use Rattle.laws.specs.Flat.{part, part-new}
+use Rattle.laws.specs.Loops.{over, over-join}
+use Rattle.laws.specs.Put.{put, length-put}
+use Rattle.laws.specs.Run as Run
+use Rattle.laws.specs.Zip.{zip}
+use Rattle.bow.specs.declared.Routed.{Routed}
+use Rattle.spot.specs.declared.Geometry.{Geometry}
+use Rattle.spot.specs.Labels.{labelled}
+use Rattle.records.specs.Records.{fields}
+use Rattle.records.specs.Flats.{part-kept}
+use Rattle.place.specs.Scene.{Scene}
+use Rattle.looped.specs.Looped.{loopAt}
+use Rattle.routing.specs.Routing.{Frame, Size, Numbered, numbered, isKept, isLoop, kept, beyond, firstScene, Item, loop, label, edgeOf, isArc, order, Step, stepOf, steps, drawnBy, more, cost, after, drawnStep, drawing, drawnFor, records}
+use Rattle.routing.specs.Passes.{routeOf, routedOf, kindOf, itemsOf, Drawn, drawnOf, store, takenAt, played, turned, passed, slotsOf, gathered}
+use Rattle.routing.specs.Lists.{map-join, map-flat, map-flat-one, over-flat, filter-flat, flat-same, flat-filter, flat-flat, filter-map, map-map}
+use Rattle.routing.specs.Numbers.{numberedAt, isNumber, number-one, flat-numbered}
+use Rattle.routing.specs.Order.{order-passes}
+
+-- ---- the passes are the run
+
+pass-run : (f : Frame) (sizes : List Size) (p : ℕ) (d : Drawn) → passed f sizes p d ≡ over (played f) d (map (stepOf sizes) (flatMap (itemsOf f p) (numbered f)))
+unfolding passed turned
+pass-run f sizes p d =
+    sym (over-flat (played f) d (λ a. map (stepOf sizes) (itemsOf f p a)) (numbered f))
+    ∙ ap (over (played f) d) (sym (map-flat (stepOf sizes) (itemsOf f p) (numbered f)))
+
+pub run-passes : (f : Frame) (sizes : List Size) (d : Drawn) → beyond f ≡ false
+    → passed f sizes 2 (passed f sizes 1 (passed f sizes 0 d)) ≡ over (played f) d (steps f sizes)
+run-passes f sizes d h =
+    let turns : ℕ → List Step = λ p. map (stepOf sizes) (flatMap (itemsOf f p) (numbered f)) in
+    pass-run f sizes 2 (passed f sizes 1 (passed f sizes 0 d))
+    ∙ ap (λ (c : Drawn). over (played f) c (turns 2)) (pass-run f sizes 1 (passed f sizes 0 d) ∙ ap (λ (c : Drawn). over (played f) c (turns 1)) (pass-run f sizes 0 d))
+    ∙ sym
+    (ap (λ (l : List Item). over (played f) d (map (stepOf sizes) l)) (order-passes f h)
+    ∙ ap (over (played f) d) (map-join (stepOf sizes) (flatMap (itemsOf f 0) (numbered f) ++ flatMap (itemsOf f 1) (numbered f)) (flatMap (itemsOf f 2) (numbered f)))
+    ∙ over-join (played f) d (map (stepOf sizes) (flatMap (itemsOf f 0) (numbered f) ++ flatMap (itemsOf f 1) (numbered f))) (turns 2)
+    ∙ ap (λ (l : List Step). over (played f) (over (played f) d l) (turns 2)) (map-join (stepOf sizes) (flatMap (itemsOf f 0) (numbered f)) (flatMap (itemsOf f 1) (numbered f)))
+    ∙ ap (λ (c : Drawn). over (played f) c (turns 2)) (over-join (played f) d (turns 0) (turns 1)))
+
+slots-run : (f : Frame) (s : Scene) (l : List Float) (ts : List Step)
+    → over (played f) (drawnOf s l) ts .slots ≡ over store l (zip (drawnStep f) ts (Run.run (more f) (cost f) (after f) s ts))
+unfolding over played zip Run.run
+slots-run f s l [] = refl
+slots-run f s l (t ∷ ts) = slots-run f (after f s t (takenAt f s t)) (store l (drawnStep f t (takenAt f s t))) ts
+
+-- after the three passes, each drawing is stored in its slot, in the order of the turns
+pub passes : (f : Frame) (sizes : List Size) (l : List Float) → beyond f ≡ false
+    → passed f sizes 2 (passed f sizes 1 (passed f sizes 0 (drawnOf (firstScene f) l))) .slots ≡ over store l (drawing f sizes)
+unfolding drawing
+passes f sizes l h = ap (λ (d : Drawn). d .slots) (run-passes f sizes (drawnOf (firstScene f) l) h) ∙ slots-run f (firstScene f) l (steps f sizes)
+
+-- ---- each kept arrow is drawn once
+
+pub drawn-edge : (f : Frame) (i : Item) (z : Size) (j : ℕ) → drawnBy f i z j .edge ≡ edgeOf i
+unfolding loopAt labelled
+drawn-edge f (loop a) z j = refl
+drawn-edge f (label r) z j = refl
+
+edges-run : (f : Frame) (s : Scene) (ts : List Step)
+    → map (λ g. g .edge) (zip (drawnStep f) ts (Run.run (more f) (cost f) (after f) s ts)) ≡ map (λ t. edgeOf (t .item)) ts
+unfolding zip Run.run
+edges-run f s [] = refl
+edges-run f s (t ∷ ts) = ap₂ (λ (x : ℕ) (y : List ℕ). x ∷ y) (drawn-edge f (t .item) (t .size) (takenAt f s t)) (edges-run f (after f s t (takenAt f s t)) ts)
+
+-- the drawings have the numbers of the turns
+pub edges-drawn : (f : Frame) (sizes : List Size) → map (λ g. g .edge) (drawing f sizes) ≡ map edgeOf (order f)
+unfolding drawing
+edges-drawn f sizes = edges-run f (firstScene f) (steps f sizes) ∙ map-map (λ t. edgeOf (t .item)) (stepOf sizes) (order f)
+
+own-item : (k : ℕ) (b : Bool) (i : Item) → filter (λ j. eqb (edgeOf j) k) (cond b (i ∷ []) []) ≡ cond (eqb (edgeOf i) k) (cond b (i ∷ []) []) []
+unfolding filter
+own-item k true i = refl
+own-item k false i = by-bool (eqb (edgeOf i) k) (λ t. rw t) (λ t. rw t)
+
+own-items : (k p : ℕ) (f : Frame) (a : Numbered) → filter (λ i. eqb (edgeOf i) k) (itemsOf f p a) ≡ cond (isNumber k a) (itemsOf f p a) []
+unfolding itemsOf
+own-items k zero f a = own-item k (eqb (kindOf f a) 1) (loop a)
+own-items k (suc p) f a = own-item k (eqb (kindOf f a) (suc (suc p))) (label (routeOf f a))
+
+-- the turns of arrow k in a pass
+pass-items : (f : Frame) (p k : ℕ) → k < length (f .arrows) → filter (λ i. eqb (edgeOf i) k) (flatMap (itemsOf f p) (numbered f)) ≡ itemsOf f p (numberedAt f k)
+pass-items f p k h =
+    filter-flat (λ i. eqb (edgeOf i) k) (itemsOf f p) (numbered f)
+    ∙ flat-same _ _ (numbered f) (own-items k p f)
+    ∙ sym (flat-filter (itemsOf f p) (isNumber k) (numbered f))
+    ∙ ap (flatMap (itemsOf f p)) (number-one f k h)
+    ∙ unfold flatMap in append-nil (itemsOf f p (numberedAt f k))
+
+-- an arrow has one turn, or none where it is left out
+one-turn : (f : Frame) (a : Numbered) → map edgeOf (itemsOf f 0 a ++ itemsOf f 1 a ++ itemsOf f 2 a) ≡ cond (isKept f a) (a .edge ∷ []) []
+unfolding itemsOf kindOf
+one-turn f a = go (isKept f a) (isLoop a) (isArc (routeOf f a)) (routedOf f a)
+  where
+    go : (k l c : Bool) (r : Routed)
+        → map edgeOf (cond (eqb (cond k (cond l 1 (cond c 2 3)) 0) 1) (loop a ∷ []) []
+        ++ cond (eqb (cond k (cond l 1 (cond c 2 3)) 0) 2) (label (record { from = a; routed = r }) ∷ []) []
+        ++ cond (eqb (cond k (cond l 1 (cond c 2 3)) 0) 3) (label (record { from = a; routed = r }) ∷ []) []) ≡ cond k (a .edge ∷ []) []
+    go true true c r = refl
+    go true false true r = refl
+    go true false false r = refl
+    go false l c r = refl
+
+-- "Each arrow of the records has one turn": the numbers of the drawings of arrow k
+pub drawn-once : (f : Frame) (sizes : List Size) (k : ℕ) → beyond f ≡ false → k < length (f .arrows)
+    → map (λ g. g .edge) (drawnFor (drawing f sizes) (numberedAt f k)) ≡ cond (isKept f (numberedAt f k)) (k ∷ []) []
+drawn-once f sizes k h l =
+    let own : Item → Bool = λ i. eqb (edgeOf i) k in
+    sym (filter-map (λ e. eqb e k) (λ g. g .edge) (drawing f sizes))
+    ∙ ap (filter (λ e. eqb e k)) (edges-drawn f sizes ∙ ap (map edgeOf) (order-passes f h))
+    ∙ filter-map (λ e. eqb e k) edgeOf (flatMap (itemsOf f 0) (numbered f) ++ flatMap (itemsOf f 1) (numbered f) ++ flatMap (itemsOf f 2) (numbered f))
+    ∙ ap (map edgeOf)
+    (filter-join own (flatMap (itemsOf f 0) (numbered f) ++ flatMap (itemsOf f 1) (numbered f)) (flatMap (itemsOf f 2) (numbered f))
+    ∙ ap₂ (λ (x y : List Item). x ++ y)
+    (filter-join own (flatMap (itemsOf f 0) (numbered f)) (flatMap (itemsOf f 1) (numbered f))
+    ∙ ap₂ (λ (x y : List Item). x ++ y) (pass-items f 0 k l) (pass-items f 1 k l))
+    (pass-items f 2 k l))
+    ∙ one-turn f (numberedAt f k)
+
+-- ---- a record for each kept arrow, in arrow order
+
+-- the records by all arrows
+records-each : (f : Frame) (sizes : List Size) → records f sizes ≡ flatMap (λ a. cond (isKept f a) (drawnFor (drawing f sizes) a) []) (numbered f)
+unfolding records kept
+records-each f sizes = flat-filter (drawnFor (drawing f sizes)) (isKept f) (numbered f)
+
+pub records-edges : (f : Frame) (sizes : List Size) → beyond f ≡ false → map (λ g. g .edge) (records f sizes) ≡ map (λ a. a .edge) (kept f)
+records-edges f sizes h =
+    ap (map (λ g. g .edge)) (records-each f sizes)
+    ∙ map-flat (λ g. g .edge) (λ a. cond (isKept f a) (drawnFor (drawing f sizes) a) []) (numbered f)
+    ∙ flat-numbered _ (λ a. cond (isKept f a) (a .edge ∷ []) []) f
+    (λ k l. go k (isKept f (numberedAt f k)) (drawnFor (drawing f sizes) (numberedAt f k)) (drawn-once f sizes k h l))
+    ∙ sym (flat-filter (λ a. a .edge ∷ []) (isKept f) (numbered f))
+    ∙ sym (map-flat-one (λ a. a .edge) (filter (isKept f) (numbered f)))
+    ∙ unfold kept in refl
+  where
+    go : (k : ℕ) (b : Bool) (gs : List Geometry) → map (λ g. g .edge) gs ≡ cond b (k ∷ []) [] → map (λ g. g .edge) (cond b gs []) ≡ cond b (k ∷ []) []
+    go k true gs e = e
+    go k false gs e = refl
+
+pub records-length : (f : Frame) (sizes : List Size) → beyond f ≡ false → length (records f sizes) ≡ length (kept f)
+records-length f sizes h = sym (length-map (records f sizes) (λ g. g .edge)) ∙ ap length (records-edges f sizes h) ∙ length-map (kept f) (λ a. a .edge)
+
+-- ---- the slots hold the records
+
+abbrev isEdge : ℕ → Geometry → Bool
+isEdge k g = eqb (g .edge) k
+
+abbrev latest : List Float → Geometry → List Float
+latest p g = fields g
+
+-- slot k has what was stored there last
+slot-last : (k : ℕ) (l : List Float) (gs : List Geometry) → 20 * k + 20 ≤ length l → part 20 k (over store l gs) ≡ over latest (part 20 k l) (filter (isEdge k) gs)
+unfolding over filter
+slot-last k l [] h = refl
+slot-last k l (g ∷ gs) h =
+    let room : 20 * k + 20 ≤ length (store l g) = omega (arith, length-put l (20 * g .edge) (fields g)) in
+    let go : part 20 k (over store (store l g) gs) ≡ over latest (part 20 k (store l g)) (filter (isEdge k) gs) = slot-last k (store l g) gs room in
+    by-bool (isEdge k g)
+    (λ t. rw t
+    (go
+    ∙ ap (λ (p : List Float). over latest p (filter (isEdge k) gs))
+    (ap (λ (m : ℕ). part 20 k (put l (20 * m) (fields g))) (eqb-true (g .edge) k t) ∙ part-new 20 (20 * k) l (fields g) refl h)))
+    (λ t. rw t (go ∙ ap (λ (p : List Float). over latest p (filter (isEdge k) gs)) (part-kept 20 k (g .edge) l (fields g) refl (λ q. eqb-false (g .edge) k t (sym q)))))
+
+-- the slot of an arrow that is drawn once
+slot-one : (k : ℕ) (l : List Float) (gs : List Geometry) → map (λ g. g .edge) gs ≡ k ∷ [] → over latest l gs ≡ flatMap fields gs
+unfolding over flatMap
+slot-one k l [] e = absurd (omega (arith, ap length e))
+slot-one k l (g ∷ []) e = refl
+slot-one k l (g ∷ h ∷ gs) e = absurd (omega (arith, ap length e))
+
+pub slots-gathered : (f : Frame) (sizes : List Size) (l : List Float) → beyond f ≡ false → 20 * length (f .arrows) ≤ length l
+    → gathered f (over store l (drawing f sizes)) ≡ flatMap fields (records f sizes)
+unfolding gathered slotsOf kindOf flatMap
+slots-gathered f sizes l h room =
+    flat-numbered _ (λ a. flatMap fields (cond (isKept f a) (drawnFor (drawing f sizes) a) [])) f
+    (λ k i. go k (isKept f (numberedAt f k)) (isLoop (numberedAt f k)) (isArc (routeOf f (numberedAt f k))) (drawnFor (drawing f sizes) (numberedAt f k))
+    (slot-last k l (drawing f sizes) (omega arith)) (drawn-once f sizes k h i))
+    ∙ sym (flat-flat fields (λ a. cond (isKept f a) (drawnFor (drawing f sizes) a) []) (numbered f))
+    ∙ ap (flatMap fields) (sym (records-each f sizes))
+  where
+    go : (k : ℕ) (b c d : Bool) (gs : List Geometry) → part 20 k (over store l (drawing f sizes)) ≡ over latest (part 20 k l) gs
+        → map (λ g. g .edge) gs ≡ cond b (k ∷ []) []
+        → cond (eqb (cond b (cond c 1 (cond d 2 3)) 0) 0) [] (part 20 k (over store l (drawing f sizes))) ≡ flatMap fields (cond b gs [])
+    go k true true d gs e n = e ∙ slot-one k (part 20 k l) gs n
+    go k true false true gs e n = e ∙ slot-one k (part 20 k l) gs n
+    go k true false false gs e n = e ∙ slot-one k (part 20 k l) gs n
+    go k false c d gs e n = refl
+
+-- what the three passes leave, gathered: the records
+pub passes-gathered : (f : Frame) (sizes : List Size) (l : List Float) → beyond f ≡ false → 20 * length (f .arrows) ≤ length l
+    → gathered f (passed f sizes 2 (passed f sizes 1 (passed f sizes 0 (drawnOf (firstScene f) l))) .slots) ≡ flatMap fields (records f sizes)
+passes-gathered f sizes l h room = ap (gathered f) (passes f sizes l h) ∙ slots-gathered f sizes l h room
+
+-- ---- the other slots stay
+
+played-slot : (f : Frame) (d : Drawn) (t : Step) (k : ℕ) → (edgeOf (t .item) ≡ k → ⊥) → part 20 k (played f d t .slots) ≡ part 20 k (d .slots)
+unfolding played
+played-slot f d t k o =
+    let g : Geometry = drawnStep f t (takenAt f (d .scene) t) in
+    part-kept 20 k (g .edge) (d .slots) (fields g) refl (λ q. o (sym (drawn-edge f (t .item) (t .size) (takenAt f (d .scene) t)) ∙ sym q))
+
+run-slot : (f : Frame) (d : Drawn) (ts : List Step) (k : ℕ) → filter (λ t. eqb (edgeOf (t .item)) k) ts ≡ [] → part 20 k (over (played f) d ts .slots) ≡ part 20 k (d .slots)
+unfolding over filter
+run-slot f d [] k e = refl
+run-slot f d (t ∷ ts) k e =
+    by-bool (eqb (edgeOf (t .item)) k)
+    (λ c. let n : t ∷ filter (λ u. eqb (edgeOf (u .item)) k) ts ≡ [] = rw c at e in absurd (omega (arith, ap length n)))
+    (λ c. run-slot f (played f d t) ts k (rw c at e) ∙ played-slot f d t k (eqb-false (edgeOf (t .item)) k c))
+
+-- a turn leaves the slots of other arrows
+pub turned-slot : (f : Frame) (sizes : List Size) (p : ℕ) (d : Drawn) (a : Numbered) (k : ℕ) → (a .edge ≡ k → ⊥)
+    → part 20 k (turned f sizes p d a .slots) ≡ part 20 k (d .slots)
+unfolding turned
+turned-slot f sizes p d a k o =
+    run-slot f d (map (stepOf sizes) (itemsOf f p a)) k
+    (filter-map (λ t. eqb (edgeOf (t .item)) k) (stepOf sizes) (itemsOf f p a)
+    ∙ ap (map (stepOf sizes)) (own-items k p f a ∙ ap (λ (b : Bool). cond b (itemsOf f p a) []) (ne-eqb (a .edge) k o)))
+
+-- a pass leaves the slots of arrows of another kind
+pub passed-slot : (f : Frame) (sizes : List Size) (p : ℕ) (d : Drawn) (k : ℕ) → k < length (f .arrows) → (kindOf f (numberedAt f k) ≡ suc p → ⊥)
+    → part 20 k (passed f sizes p d .slots) ≡ part 20 k (d .slots)
+passed-slot f sizes p d k h o =
+    let items : List Item = flatMap (itemsOf f p) (numbered f) in
+    let none : itemsOf f p (numberedAt f k) ≡ [] = unfold itemsOf in rw (ne-eqb _ _ o) in
+    ap (λ (c : Drawn). part 20 k (c .slots)) (pass-run f sizes p d)
+    ∙ run-slot f d (map (stepOf sizes) items) k
+    (filter-map (λ t. eqb (edgeOf (t .item)) k) (stepOf sizes) items
+    ∙ ap (map (stepOf sizes)) (pass-items f p k h ∙ none))
