@@ -1,1 +1,3 @@
 pub mod Fit
+pub mod Worked
+pub mod Inside
