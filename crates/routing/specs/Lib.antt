@@ -7,3 +7,4 @@ pub mod Lists
 pub mod Order
 pub mod Numbers
 pub mod Slots
+pub mod Rim

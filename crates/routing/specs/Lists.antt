@@ -85,3 +85,8 @@ module _ {A B : Type 0} where
 pub map-map : {A B C : Type 0} (g : B → C) (h : A → B) (l : List A) → map g (map h l) ≡ map (λ a. g (h a)) l
 map-map g h [] = refl
 map-map {C = C} g h (a ∷ l) = ap (λ (r : List C). g (h a) ∷ r) (map-map g h l)
+
+pub flat-map : {A B C : Type 0} (g : B → List C) (h : A → B) (l : List A) → flatMap g (map h l) ≡ flatMap (λ a. g (h a)) l
+unfolding flatMap
+flat-map g h [] = refl
+flat-map {C = C} g h (a ∷ l) = ap (λ (r : List C). g (h a) ++ r) (flat-map g h l)
