@@ -1,0 +1,65 @@
+-- `route::loop_turn` meets its contract.
+use native.Mathlib.Omega.{arith}
+use denote.Ref.{now}
+use Rattle.free.specs.Centres.{centres}
+use Rattle.place.specs.Scene.{Scene, scene}
+use Rattle.looped.specs.Looped.{Loop, looped}
+use Rattle.routing.specs.Passes.{sizesBy}
+use Rattle.route.specs.Steps.{rimBy, loopFor}
+use Rattle.route.proofs.Laws.{loop-edge, loop-left}
+use borrow.Author.Needs.{needs}
+use Rattle.route.proofs.loop_turn.Statement.{statement}
+use Rattle.route.proofs.loop_turn.Tie as tie
+
+draw-loop-requires : tie.Need-draw-loop-requires
+draw-loop-requires c κs = search needs
+
+write-at-requires : tie.Need-write-at-requires
+write-at-requires c κs =
+    let p = c .before .before .before .before .before .before .before .before .before .before .before .before .before .before .before .before .pre in
+    omega arith
+
+add-push-trace : tie.Need-add-push-trace
+add-push-trace c =
+    let p = c .before .before .before .before .before .before .before .before .before .before .before .before .before .before .before .before .before .before .before .before .pre in
+    omega arith
+
+push-trace-requires : tie.Need-push-trace-requires
+push-trace-requires c κs =
+    let p = c .before .before .before .before .before .before .before .before .before .before .before .before .before .before .before .before .before .before .before .before .pre in
+    (omega arith, omega arith)
+
+push-box-requires : tie.Need-push-box-requires
+push-box-requires c κs =
+    let p = c .before .before .before .before .before .before .before .before .before .before .before .before .before .before .before .before .before .before .before .before .before .before .before .before .pre in
+    omega arith
+
+same-length : tie.Need-same-length
+same-length c = search needs
+
+same-length-2 : tie.Need-same-length-2
+same-length-2 c = search needs
+
+same-length-3 : tie.Need-same-length-3
+same-length-3 c = search needs
+
+returns : tie.Need-returns
+returns c =
+    let a = c .before .before .before .before .before .before .before .before .before .before .before .before .before .before .before .before .before .before .before .before .before .before .before .before .before .before .before .args in
+    let s : Scene = scene (now (a .xs)) (now (a .ys)) (a .c .nb) (now (a .boxes)) (a .c .nt) (now (a .traces)) in
+    let l : Loop = loopFor (rimBy (now (a .flags)) (now (a .sources)) (now (a .targets)) (now (a .leaves)) (now (a .reaches))) (centres (now (a .xs)) (now (a .ys))) (now (a .sources)) (sizesBy (now (a .widths)) (now (a .heights))) (a .i) in
+    (c .before .before .push-box .ensures .0, c .before .before .before .before .before .before .push-trace .ensures .0, loop-left (now (a .xs)) (now (a .ys)) (a .i) (a .c .nb) (a .c .nt) (c .before .before .push-box .result) (c .before .before .before .before .before .before .push-trace .result) (now (a .boxes)) (now (a .traces)) (now (a .drawn)) _ _ _ (c .before .before .before .before .before .before .before .before .before .before .before .before .draw-loop .result) (looped s l) (c .before .before .before .before .before .before .before .before .before .before .before .before .draw-loop .ensures) (loop-edge s l) (c .before .before .before .before .before .before .before .before .before .before .write-at .ensures) (c .before .before .before .before .before .before .push-trace .ensures .1) (c .before .before .push-box .ensures .1))
+
+pub loop-turn-spec : {M : Type 1} → statement M
+loop-turn-spec =
+    tie.close
+    (tie.spec
+    draw-loop-requires
+    write-at-requires
+    add-push-trace
+    push-trace-requires
+    push-box-requires
+    same-length
+    same-length-2
+    same-length-3
+    returns)

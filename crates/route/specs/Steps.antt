@@ -1,0 +1,106 @@
+-- The turns as the code runs them, arrow by arrow, from the slices that hold what is known of each arrow before any label is placed.
+use mathlib.Core.Path.{_≡_}
+use mathlib.Core.Bool.{cond}
+use mathlib.Core.List.{List, [], flatMap}
+use Prim.Native.Nat.{ℕ, _*_, _≤_, _<_}
+use lib.Dec.{eqb}
+use lib.ListN.{length, getD}
+use lib.Ieee.{Float}
+use Rattle.laws.specs.Flat.{part, table}
+use Rattle.laws.specs.Loops.{up}
+use Rattle.shape.specs.declared.«V».{«V»}
+use Rattle.free.specs.Centres.{centre}
+use Rattle.spot.specs.declared.Turn.{Turn}
+use Rattle.records.specs.Slots.{decodeRouted}
+use Rattle.place.specs.Scene.{scene}
+use Rattle.place.specs.Turn.{placed}
+use Rattle.rim.specs.Rims.{rimAngles, allEnds}
+use Rattle.looped.specs.Looped.{Loop, loopOf, looped}
+use Rattle.routing.specs.Routing.{Size, none, isStart, turnOf}
+use Rattle.routing.specs.Passes.{Drawn, drawnOf}
+use Rattle.routing.specs.Turns.{withLoop, withLabel}
+
+-- ---- what the slices hold
+
+-- a flag byte and a centre for each state
+pub record States (flags : List ℕ) (xs ys : List Float) : Type 0 where
+  pub flagged : length flags ≡ length xs
+  pub level : length ys ≡ length xs
+  pub few : length xs ≤ 64
+
+-- two ends for each arrow, and the angles at which it leaves the first and reaches the second
+pub record Arrows (sources targets : List ℕ) (leaves reaches : List Float) : Type 0 where
+  pub reached : length targets ≡ length sources
+  pub leaving : length leaves ≡ length sources
+  pub reaching : length reaches ≡ length sources
+  pub few : length sources ≤ 256
+
+-- n kinds and label sizes, and room for what is drawn
+pub record Turns (n : ℕ) (kinds : List ℕ) (widths heights drawn : List Float) : Type 0 where
+  pub kinded : length kinds ≡ n
+  pub wide : length widths ≡ n
+  pub high : length heights ≡ n
+  pub room : 20 * n ≤ length drawn
+  pub few : n ≤ 256
+
+-- the scene and what is drawn
+abbrev pub drawnBy : List Float → List Float → ℕ → List Float → ℕ → List Float → List Float → Drawn
+drawnBy xs ys nb boxes nt traces drawn = drawnOf (scene xs ys nb boxes nt traces) drawn
+
+-- ---- what a turn is given
+
+-- the angles at which the rim of state k is taken
+abbrev pub rimBy : List ℕ → List ℕ → List ℕ → List Float → List Float → ℕ → List Float
+rimBy flags sources targets leaves reaches k = rimAngles (length flags) k (isStart (getD flags k 0)) (allEnds sources targets leaves reaches)
+
+-- the turn of loop i: `rims` gives the angles of a state's rim
+abbrev pub loopFor : (ℕ → List Float) → List «V» → List ℕ → List Size → ℕ → Loop
+loopFor rims cs sources sizes i =
+    let k = getD sources i 0 in
+    let z = getD sizes i none in
+    loopOf i k (centre cs k) (rims k) (z .width) (z .height)
+
+-- the turn of arrow i, whose curve stands in its slot
+abbrev pub labelFor : List Float → List Size → ℕ → Turn
+labelFor slots sizes i = turnOf i (decodeRouted (part 20 i slots)) (getD sizes i none)
+
+-- one turn
+abbrev pub loopTurned : (ℕ → List Float) → List «V» → List ℕ → List Size → ℕ → Drawn → Drawn
+loopTurned rims cs sources sizes i d = withLoop d (looped (d .scene) (loopFor rims cs sources sizes i))
+
+abbrev pub labelTurned : List Float → List Size → ℕ → Drawn → Drawn
+labelTurned slots sizes i d = withLabel d (placed (d .scene) (labelFor slots sizes i))
+
+-- ---- an arrow in a pass: kinds are 0 left out, 1 a loop, 2 an arc, 3 straight
+
+unfoldable pub loopStep : (ℕ → List Float) → List «V» → List ℕ → List ℕ → List Size → ℕ → Drawn → Drawn
+loopStep rims cs sources kinds sizes i d =
+    let next = loopTurned rims cs sources sizes i d in
+    cond (eqb (getD kinds i 0) 1) next d
+
+unfoldable pub labelStep : ℕ → List Float → List ℕ → List Size → ℕ → Drawn → Drawn
+labelStep kind slots kinds sizes i d =
+    let next = labelTurned slots sizes i d in
+    cond (eqb (getD kinds i 0) kind) next d
+
+-- ---- a pass over all arrows
+
+abbrev pub loopPass : (ℕ → List Float) → List «V» → List ℕ → List ℕ → List Size → Drawn → Drawn
+loopPass rims cs sources kinds sizes d = up (loopStep rims cs sources kinds sizes) 0 (length kinds) d
+
+abbrev pub labelPass : ℕ → List Float → List ℕ → List Size → Drawn → Drawn
+labelPass kind slots kinds sizes d = up (labelStep kind slots kinds sizes) 0 (length kinds) d
+
+-- the states of the loops exist
+abbrev pub LoopsAt : List ℕ → List ℕ → ℕ → Type 0
+LoopsAt kinds sources n = (i : ℕ) → getD kinds i 0 ≡ 1 → getD sources i 0 < n
+
+-- ---- the records
+
+-- the numbers of arrow i, where it has a record
+unfoldable pub slotFor : List ℕ → List Float → ℕ → List Float
+slotFor kinds drawn i = cond (eqb (getD kinds i 0) 0) [] (part 20 i drawn)
+
+-- those of the first n arrows, in arrow order
+abbrev pub slotsFor : List ℕ → List Float → ℕ → List Float
+slotsFor kinds drawn n = flatMap (slotFor kinds drawn) (table (λ i. i) 0 n)
