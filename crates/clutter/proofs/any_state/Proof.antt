@@ -1,0 +1,91 @@
+-- `clutter::any_state` meets its contract.
+use mathlib.Core.Path.{_≡_, refl, _∙_}
+use Prim.Native.Nat.{_+_, _-_, _≤_}
+use native.Mathlib.Omega.{arith}
+use lib.ListN.{length, drop, getD}
+use lib.Ieee.{nan}
+use denote.Ref.{now}
+use Rattle.laws.specs.Zip.{zip-drop, zip-past}
+use Rattle.sheet.specs.Refusals.{any}
+use Rattle.shape.specs.Plane.{vec}
+use Rattle.free.specs.Centres.{centres}
+use Rattle.clutter.specs.Clutter.{near}
+use Rattle.clutter.specs.Turns.{some-hit, some-miss, some-none}
+use Rattle.clutter.proofs.any_state.Statement.{statement}
+use Rattle.clutter.proofs.any_state.Tie as tie
+
+abbrev Inv-loop : tie.InvT-loop
+Inv-loop xs ys b k₀ k = (any (near b) (drop k (centres xs ys)) ≡ any (near b) (centres xs ys)) × (k ≤ length xs)
+
+abbrev μ-loop : tie.MeasureT-loop
+μ-loop xs ys b k₀ k = length xs - k
+
+loop-holds : tie.Need-loop-holds Inv-loop μ-loop
+loop-holds c = (refl, omega arith)
+
+mul-near : tie.Need-mul-near Inv-loop μ-loop
+mul-near c = omega arith
+
+shared-slice-read-near : tie.Need-shared-slice-read-near Inv-loop μ-loop
+shared-slice-read-near c = omega arith
+
+mul-near-2 : tie.Need-mul-near-2 Inv-loop μ-loop
+mul-near-2 c = omega arith
+
+shared-slice-read-near-2 : tie.Need-shared-slice-read-near-2 Inv-loop μ-loop
+shared-slice-read-near-2 c = omega arith
+
+near-requires : tie.Need-near-requires Inv-loop μ-loop
+near-requires c κs = tt
+
+returns : tie.Need-returns Inv-loop μ-loop
+returns c =
+    let a = c .before .before .before .before .before .before .before .before .args in
+    let xs = now (a .xs) in
+    let ys = now (a .ys) in
+    let l = c .before .before .before .before .before .loop in
+    some-hit (near (a .b)) (drop (l .k) (centres xs ys)) (drop (l .k + 1) (centres xs ys)) (vec (getD xs (l .k) nan) (getD ys (l .k) nan)) (zip-drop vec xs ys (l .k) nan nan (c .before .before .before .before .before .before .before .before .pre) (omega arith)) (c .before .near .result) (c .before .near .ensures) (c .if1 .taken)
+    ∙ l .inv .0
+
+add-k : tie.Need-add-k Inv-loop μ-loop
+add-k c = omega arith
+
+loop-less : tie.Need-loop-less Inv-loop μ-loop
+loop-less c = omega arith
+
+loop-again : tie.Need-loop-again Inv-loop μ-loop
+loop-again c =
+    let a = c .before .before .before .before .before .before .before .before .args in
+    let xs = now (a .xs) in
+    let ys = now (a .ys) in
+    let l = c .before .before .before .before .before .loop in (
+      some-miss (near (a .b)) (drop (l .k) (centres xs ys)) (drop (l .k + 1) (centres xs ys)) (vec (getD xs (l .k) nan) (getD ys (l .k) nan)) (zip-drop vec xs ys (l .k) nan nan (c .before .before .before .before .before .before .before .before .pre) (omega arith)) (c .before .near .result) (c .before .near .ensures) (c .if1 .left)
+          ∙ l .inv .0,
+      omega arith,
+    )
+
+returns-2 : tie.Need-returns-2 Inv-loop μ-loop
+returns-2 c =
+    let a = c .before .before .before .before .args in
+    let xs = now (a .xs) in
+    let ys = now (a .ys) in
+    let l = c .before .loop in
+    some-none (near (a .b)) (drop (l .k) (centres xs ys)) (zip-past vec xs ys (l .k) (c .before .before .before .before .pre) (omega arith)) ∙ l .inv .0
+
+pub any-state-spec : {M : Type 1} → statement M
+any-state-spec =
+    tie.close
+    (tie.spec
+    Inv-loop
+    μ-loop
+    loop-holds
+    mul-near
+    shared-slice-read-near
+    mul-near-2
+    shared-slice-read-near-2
+    near-requires
+    returns
+    add-k
+    loop-less
+    loop-again
+    returns-2)

@@ -1,0 +1,4 @@
+pub mod Clutter
+pub mod Near
+pub mod Turns
+pub mod Bounds

@@ -1,0 +1,91 @@
+-- A turn of a loop over things by number, and its end: whether some passes a test, how many do, pairs, labels. Assumes nothing.
+use mathlib.Core.Path.{_≡_, refl, ap}
+use mathlib.Core.Bool.{Bool, true, false}
+use mathlib.Core.List.{List, [], _∷_, _++_, map}
+use Prim.Native.Nat.{ℕ, zero, suc, _+_, _-_, _≤_, _<_}
+use native.Mathlib.Nat.{not-suc-le-zero, sub-zero, zero-add}
+use native.Mathlib.Numerals.{add-one}
+use native.Mathlib.Omega.{arith}
+use Rattle.laws.specs.Cases.{by-lt}
+use Rattle.laws.specs.Counting.{number, worth}
+use Rattle.laws.specs.Flat.{table, table-more}
+use Rattle.sheet.specs.Refusals.{any}
+use Rattle.shape.specs.declared.«V».{«V»}
+use Rattle.trace.specs.Traces.{Trace, crosses}
+use Rattle.spot.specs.declared.Geometry.{Geometry}
+use Rattle.records.specs.Back.{Small}
+use Rattle.clutter.specs.Clutter.{crossings, collides, collisions}
+
+-- ---- tables
+
+down : (k : ℕ) → suc k - 1 ≡ k
+down k = omega arith
+
+module _ {A : Type 0} (g : ℕ → A) where
+  pub table-first : (k n : ℕ) → 0 < n → table g k n ≡ g k ∷ table g (k + 1) (n - 1)
+  unfolding table
+  table-first k zero h = absurd (not-suc-le-zero h)
+  table-first k (suc n) h = rw (down n, add-one)
+
+  pub table-none : (k n : ℕ) → n ≤ 0 → table g k n ≡ []
+  unfolding table
+  table-none k zero h = refl
+  table-none k (suc n) h = absurd (not-suc-le-zero h)
+
+  pub map-table : {B : Type 0} (f : A → B) (k n : ℕ) → map f (table g k n) ≡ table (λ i. f (g i)) k n
+  unfolding table
+  map-table f k zero = refl
+  map-table {B} f k (suc n) = ap (λ (l : List B). f (g k) ∷ l) (map-table f (suc k) n)
+
+-- ---- whether some passes; t is what the code found of the first
+
+module _ {A : Type 0} (p : A → Bool) (l r : List A) (x : A) (e : l ≡ x ∷ r) (t : Bool) (q : t ≡ p x) where
+  pub some-hit : t ≡ true → true ≡ any p l
+  unfolding any
+  some-hit h = rw (e, ← q, h)
+
+  pub some-miss : t ≡ false → any p r ≡ any p l
+  unfolding any
+  some-miss h = rw (e, ← q, h)
+
+pub some-none : {A : Type 0} (p : A → Bool) (l : List A) → l ≡ [] → false ≡ any p l
+unfolding any
+some-none p l e = rw e
+
+-- ---- pairs of things; b is the number of pairs with thing k
+
+module _ (g : ℕ → Trace) (a : ℕ) where
+  pub crossings-turn : (b k n : ℕ) → 0 < n → b ≡ number (crosses (g k)) (table g (k + 1) (n - 1)) → (a + b) + crossings (table g (k + 1) (n - 1)) ≡ a + crossings (table g k n)
+  unfolding crossings
+  crossings-turn b k n h e = rw (table-first g k n h, e) (omega arith)
+
+  pub crossings-end : (k n : ℕ) → n ≤ 0 → a ≡ a + crossings (table g k n)
+  unfolding crossings
+  crossings-end k n h = rw (table-none g k n h) (omega arith)
+
+-- ---- labels; b is what record i, of n, adds
+
+pub collisions-start : (cs : List «V») (ts : List Trace) (g : ℕ → Geometry) (n : ℕ) → 0 + collisions cs ts (table g 0 0) (table g 0 (n - 0)) ≡ collisions cs ts [] (table g 0 n)
+unfolding table
+collisions-start cs ts g n = rw (sub-zero n, zero-add)
+
+module _ (cs : List «V») (ts : List Trace) (g : ℕ → Geometry) (a n : ℕ) where
+  pub collisions-turn : (b i : ℕ) → i < n → b ≡ worth (collides cs ts (table g 0 i ++ table g (i + 1) (n - i - 1))) 1 (g i)
+      → (a + b) + collisions cs ts (table g 0 (i + 1)) (table g (i + 1) (n - (i + 1))) ≡ a + collisions cs ts (table g 0 i) (table g i (n - i))
+  unfolding collisions
+  collisions-turn b i h e =
+      let f : n - (i + 1) ≡ n - i - 1 = omega arith in
+      let o : 0 < n - i = omega arith in
+      rw (table-first g i (n - i) o, table-more g i, f, e) (omega arith)
+
+  pub collisions-end : (i : ℕ) → n ≤ i → a ≡ a + collisions cs ts (table g 0 i) (table g i (n - i))
+  unfolding collisions
+  collisions-end i h = let o : n - i ≤ 0 = omega arith in rw (table-none g i (n - i) o) (omega arith)
+
+-- ---- an arrow's number
+
+pub small-at : (g : ℕ → Geometry) (k n j : ℕ) → Small (table g k n) → k ≤ j → j < k + n → g j .edge < 65536
+unfolding table
+small-at g k zero j s h i = absurd (omega arith)
+small-at g k (suc n) j s h i =
+    by-lt k j (λ (l : k < j). small-at g (suc k) n j (s .1) (omega arith) (omega arith)) (λ (l : j ≤ k). let e : j ≡ k = omega arith in rw e (s .0))

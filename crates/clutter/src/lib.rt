@@ -1,0 +1,233 @@
+// How cluttered a drawing is, over its records: pairs of arrows that cross, labels that collide with something. Records are
+// twenty numbers each, traces forty.
+use shape::Rect;
+ghost use mathlib.Core.Path.{_≡_};
+ghost use mathlib.Core.List.{[], _++_, map};
+ghost use Prim.Native.Nat.{_+_, _-_, _*_, _≤_, _<_};
+ghost use lib.ListN.{length};
+ghost use Rattle.laws.specs.Counting.{number, worth};
+ghost use Rattle.laws.specs.Flat.{part};
+ghost use Rattle.sheet.specs.Refusals.{any};
+ghost use Rattle.shape.specs.Plane.{vec};
+ghost use Rattle.free.specs.Centres.{centres};
+ghost use Rattle.trace.specs.Traces.{crosses};
+ghost use Rattle.trace.specs.Form.{decodeTrace, decodeTraces};
+ghost use Rattle.records.specs.Records.{decodeGeometry, decodeRecords};
+ghost use Rattle.records.specs.Back.{Small};
+ghost use Rattle.place.specs.Scene.{struck};
+ghost use Rattle.clutter.specs.Clutter as S;
+
+// ---- traces
+
+// The traces of the arrows of the first n records.
+fn fill_traces(records: &[f64], n: usize, traces: &mut [f64])
+    requires { ⌜ (20 * n ≤ length (now records)) × (40 * n ≤ length (now traces)) × Small (decodeRecords n (now records)) ⌝ }
+    ensures { λ _. ⌜ decodeTraces n (now (traces .exit)) ≡ map S.drawn (decodeRecords n (now (records .entry))) ⌝ }
+{
+    let mut k: usize = 0;
+    while k < n {
+        let g = records::geometry_at(records, k);
+        let curve = g.curve;
+        k = trace::push_trace(traces, k, g.edge + 1, curve);
+    }
+}
+
+// ---- pairs of arrows
+
+// 1 where traces i and j cross.
+fn cross_add(traces: &[f64], i: usize, j: usize) -> usize
+    requires { ⌜ (40 * i + 40 ≤ length (now traces)) × (40 * j + 40 ≤ length (now traces)) ⌝ }
+    ensures { λ r. ⌜ (r ≡ worth (crosses (decodeTrace (part 40 i (now (traces .entry))))) 1 (decodeTrace (part 40 j (now (traces .entry))))) × (r ≤ 1) ⌝ }
+{
+    let a = 40 * i;
+    let b = 40 * j;
+    let a_end = a + 40;
+    let b_end = b + 40;
+    if trace::crosses(&traces[a..a_end], &traces[b..b_end]) {
+        return 1;
+    }
+    0
+}
+
+// How many of the n traces from `from` on trace i crosses.
+fn crossed(traces: &[f64], i: usize, from: usize, n: usize) -> usize
+    requires { ⌜ (40 * i + 40 ≤ length (now traces)) × (40 * from + 40 * n ≤ length (now traces)) ⌝ }
+    ensures { λ r. ⌜ (r ≡ number (crosses (decodeTrace (part 40 i (now (traces .entry))))) (S.tracesFrom (now (traces .entry)) from n)) × (r ≤ n) ⌝ }
+{
+    let mut sum: usize = 0;
+    let mut k = from;
+    let mut left = n;
+    while 0 < left {
+        sum += cross_add(traces, i, k);
+        k += 1;
+        left -= 1;
+    }
+    sum
+}
+
+// The pairs of traces that cross.
+fn crossings(traces: &[f64], n: usize) -> usize
+    requires { ⌜ (40 * n ≤ length (now traces)) × (n ≤ 256) ⌝ }
+    ensures { λ r. ⌜ (r ≡ S.crossings (decodeTraces n (now (traces .entry)))) × (r ≤ 65536) ⌝ }
+{
+    let mut sum: usize = 0;
+    let mut i: usize = 0;
+    let mut left = n;
+    while 0 < left {
+        sum += crossed(traces, i, i + 1, left - 1);
+        i += 1;
+        left -= 1;
+    }
+    sum
+}
+
+// ---- labels
+
+// Whether a state is nearer to the box than 24: its distance is below 24 exactly where the sum of the squares is below 576.
+fn near(b: Rect, x: f64, y: f64) -> bool
+    ensures { λ r. ⌜ r ≡ S.near b (vec x y) ⌝ }
+{
+    let dx = shape::outside(b.x0, b.x1, x);
+    let dy = shape::outside(b.y0, b.y1, y);
+    dx * dx + dy * dy < 576.0
+}
+
+fn any_state(xs: &[f64], ys: &[f64], b: Rect) -> bool
+    requires { ⌜ length (now ys) ≡ length (now xs) ⌝ }
+    ensures { λ r. ⌜ r ≡ any (S.near b) (centres (now (xs .entry)) (now (ys .entry))) ⌝ }
+{
+    let mut k: usize = 0;
+    while k < xs.len() {
+        if near(b, xs[k], ys[k]) {
+            return true;
+        }
+        k += 1;
+    }
+    false
+}
+
+// The label's box of the record in twenty numbers.
+fn label_of(part: &[f64]) -> Rect
+    requires { ⌜ 20 ≤ length (now part) ⌝ }
+    ensures { λ r. ⌜ r ≡ decodeGeometry (now (part .entry)) .bounds ⌝ }
+{
+    Rect {
+        x0: part[16],
+        y0: part[17],
+        x1: part[18],
+        y1: part[19],
+    }
+}
+
+fn label_over(records: &[f64], k: usize, b: Rect) -> bool
+    requires { ⌜ 20 * k + 20 ≤ length (now records) ⌝ }
+    ensures { λ r. ⌜ r ≡ S.labelOver b (decodeGeometry (part 20 k (now (records .entry)))) ⌝ }
+{
+    let at = 20 * k;
+    let end = at + 20;
+    let o = label_of(&records[at..end]);
+    o.overlaps(b)
+}
+
+// Whether a label of the n records from `from` on overlaps the box.
+fn any_label(records: &[f64], from: usize, n: usize, b: Rect) -> bool
+    requires { ⌜ 20 * from + 20 * n ≤ length (now records) ⌝ }
+    ensures { λ r. ⌜ r ≡ any (S.labelOver b) (S.recordsFrom (now (records .entry)) from n) ⌝ }
+{
+    let mut k = from;
+    let mut left = n;
+    while 0 < left {
+        if label_over(records, k, b) {
+            return true;
+        }
+        k += 1;
+        left -= 1;
+    }
+    false
+}
+
+// Whether the trace is not the arrow's own and hits the box.
+fn strikes(t: &[f64], own: usize, b: Rect) -> bool
+    requires { ⌜ 40 ≤ length (now t) ⌝ }
+    ensures { λ r. ⌜ r ≡ struck own b (decodeTrace (now (t .entry))) ⌝ }
+{
+    if trace::foreign(t, own) {
+        return trace::hits_rect(t, b);
+    }
+    false
+}
+
+fn strikes_at(traces: &[f64], k: usize, own: usize, b: Rect) -> bool
+    requires { ⌜ 40 * k + 40 ≤ length (now traces) ⌝ }
+    ensures { λ r. ⌜ r ≡ struck own b (decodeTrace (part 40 k (now (traces .entry)))) ⌝ }
+{
+    let at = 40 * k;
+    let end = at + 40;
+    strikes(&traces[at..end], own, b)
+}
+
+fn any_trace(traces: &[f64], n: usize, own: usize, b: Rect) -> bool
+    requires { ⌜ 40 * n ≤ length (now traces) ⌝ }
+    ensures { λ r. ⌜ r ≡ any (struck own b) (decodeTraces n (now (traces .entry))) ⌝ }
+{
+    let mut k: usize = 0;
+    let mut left = n;
+    while 0 < left {
+        if strikes_at(traces, k, own, b) {
+            return true;
+        }
+        k += 1;
+        left -= 1;
+    }
+    false
+}
+
+// 1 where the label of record i, of n, collides.
+fn label_add(xs: &[f64], ys: &[f64], records: &[f64], traces: &[f64], n: usize, i: usize) -> usize
+    requires { ⌜ (length (now ys) ≡ length (now xs)) × (20 * n ≤ length (now records)) × (40 * n ≤ length (now traces)) × (i < n) ⌝ }
+    ensures { λ r. ⌜ (r ≡ worth (S.collides (centres (now (xs .entry)) (now (ys .entry))) (decodeTraces n (now (traces .entry))) (S.recordsFrom (now (records .entry)) 0 i ++ S.recordsFrom (now (records .entry)) (i + 1) (n - i - 1))) 1 (decodeGeometry (part 20 i (now (records .entry))))) × (r ≤ 1) ⌝ }
+{
+    let g = records::geometry_at(records, i);
+    let b = g.bounds;
+    if any_state(xs, ys, b) {
+        return 1;
+    }
+    if any_label(records, 0, i, b) {
+        return 1;
+    }
+    if any_label(records, i + 1, n - i - 1, b) {
+        return 1;
+    }
+    if any_trace(traces, n, g.edge, b) {
+        return 1;
+    }
+    0
+}
+
+// The labels that collide.
+fn collisions(xs: &[f64], ys: &[f64], records: &[f64], traces: &[f64], n: usize) -> usize
+    requires { ⌜ (length (now ys) ≡ length (now xs)) × (20 * n ≤ length (now records)) × (40 * n ≤ length (now traces)) ⌝ }
+    ensures { λ r. ⌜ (r ≡ S.collisions (centres (now (xs .entry)) (now (ys .entry))) (decodeTraces n (now (traces .entry))) [] (decodeRecords n (now (records .entry)))) × (r ≤ n) ⌝ }
+{
+    let mut sum: usize = 0;
+    let mut i: usize = 0;
+    while i < n {
+        sum += label_add(xs, ys, records, traces, n, i);
+        i += 1;
+    }
+    sum
+}
+
+// ---- clutter
+
+// The clutter of the drawing that the first `count` records hold, of arrows with numbers below 65,536.
+pub fn clutter(xs: &[f64], ys: &[f64], records: &[f64], count: usize) -> usize
+    requires { ⌜ (length (now ys) ≡ length (now xs)) × (20 * count ≤ length (now records)) × (count ≤ 256) × Small (decodeRecords count (now records)) ⌝ }
+    ensures { λ r. ⌜ r ≡ S.clutterOf (centres (now (xs .entry)) (now (ys .entry))) (decodeRecords count (now (records .entry))) ⌝ }
+{
+    let mut traces = [0.0f64; 10240];
+    fill_traces(records, count, &mut traces);
+    let pairs = crossings(&traces, count);
+    let labels = collisions(xs, ys, records, &traces, count);
+    pairs + labels
+}
