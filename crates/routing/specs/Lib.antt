@@ -1,10 +1,10 @@
 pub mod Routing
-pub mod Demand
-pub mod Sheets
-pub mod Passes
-pub mod Turns
 pub mod Lists
-pub mod Order
 pub mod Numbers
+pub mod Passes
+pub mod Order
 pub mod Slots
+pub mod Demand
+pub mod Turns
 pub mod Rim
+pub mod Sheets

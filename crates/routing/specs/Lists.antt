@@ -2,12 +2,13 @@
 use mathlib.Core.Path.{_≡_, refl, sym, ap, ap₂, _∙_}
 use mathlib.Core.Bool.{Bool, true, false, cond, _&&_}
 use mathlib.Core.List.{List, [], _∷_, _++_, map, flatMap, append-assoc}
-use Prim.Native.Nat.{ℕ, _+_}
-use native.Mathlib.Nat.{zero-add}
+use Prim.Native.Nat.{ℕ, zero, suc, _+_, _≤_, _<_}
+use native.Mathlib.Nat.{zero-add, not-suc-le-zero}
 use native.Mathlib.Omega.{arith}
+use lib.ListN.{length, getD}
 use Rattle.laws.specs.Cases.{by-bool}
 use Rattle.laws.specs.Counting.{number}
-use Rattle.laws.specs.Filter.{filter, filter-join}
+use Rattle.laws.specs.Filter.{filter, filter-yes, filter-no, filter-join}
 use Rattle.laws.specs.Loops.{over, over-join}
 
 module _ {A B : Type 0} where
@@ -90,3 +91,42 @@ pub flat-map : {A B C : Type 0} (g : B → List C) (h : A → B) (l : List A) �
 unfolding flatMap
 flat-map g h [] = refl
 flat-map {C = C} g h (a ∷ l) = ap (λ (r : List C). g (h a) ++ r) (flat-map g h l)
+
+-- ---- one that passes a test
+
+-- x stands in l, at a place
+pub record At {A : Type 0} (l : List A) (d x : A) : Type 0 where
+  pub place : ℕ
+  pub inside : place < length l
+  pub there : getD l place d ≡ x
+
+module _ {A : Type 0} (p : A → Bool) where
+  pub filter-some : (l : List A) (t : ℕ) (d : A) → t < length l → p (getD l t d) ≡ true → 0 < length (filter p l)
+  filter-some [] t d h e = absurd (not-suc-le-zero h)
+  filter-some (x ∷ l) zero d h e = rw (filter-yes p x l e) (omega arith)
+  filter-some (x ∷ l) (suc t) d h e =
+      let more : 0 < length (filter p l) = filter-some l t d (omega arith) e in
+      by-bool (p x) (λ c. rw (filter-yes p x l c) (omega arith)) (λ c. rw (filter-no p x l c) more)
+
+  none-left : (l : List A) → length l ≤ 0 → l ≡ []
+  none-left [] h = refl
+  none-left (x ∷ l) h = absurd (not-suc-le-zero h)
+
+  -- where one passes at most, what is left is the one at any place that passes
+  pub filter-only : (l : List A) (t : ℕ) (d : A) → length (filter p l) ≤ 1 → t < length l → p (getD l t d) ≡ true → filter p l ≡ getD l t d ∷ []
+  filter-only [] t d n h e = absurd (not-suc-le-zero h)
+  filter-only (x ∷ l) zero d n h e =
+      let m : length (x ∷ filter p l) ≤ 1 = rw (filter-yes p x l e) at n in
+      filter-yes p x l e ∙ ap (λ (r : List A). x ∷ r) (none-left (filter p l) (omega arith))
+  filter-only (x ∷ l) (suc t) d n h e =
+      by-bool (p x)
+      (λ c. let m : length (x ∷ filter p l) ≤ 1 = rw (filter-yes p x l c) at n in absurd (omega (arith, filter-some l t d (omega arith) e)))
+      (λ c. filter-no p x l c ∙ filter-only l t d (rw (filter-no p x l c) at n) (omega arith) e)
+
+  -- what is left stands in the list
+  pub find : (l : List A) (d x : A) (r : List A) → filter p l ≡ x ∷ r → At l d x
+  find [] d x r e = let none : filter p [] ≡ [] = unfold filter in refl in absurd (omega (arith, ap length (sym none ∙ e)))
+  find (y ∷ l) d x r e =
+      by-bool (p y)
+      (λ c. record { place = 0; inside = omega arith; there = ap (λ (m : List A). getD m 0 d) (sym (filter-yes p y l c) ∙ e) })
+      (λ c. let at : At l d x = find l d x r (sym (filter-no p y l c) ∙ e) in record { place = suc (at .place); inside = omega (arith, at .inside); there = at .there })

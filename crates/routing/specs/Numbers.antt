@@ -2,7 +2,7 @@
 use mathlib.Core.Path.{_≡_, refl, sym, ap, ap₂, _∙_, subst}
 use mathlib.Core.Bool.{Bool}
 use mathlib.Core.List.{List, [], _∷_, _++_, flatMap}
-use Prim.Native.Nat.{ℕ, zero, suc, _+_, _<_}
+use Prim.Native.Nat.{ℕ, zero, suc, _+_, _≤_, _<_}
 use native.Mathlib.Nat.{add-zero, not-suc-le-zero, zero-add}
 use native.Mathlib.Omega.{arith}
 use borrow.Author.Tests.{ne-eqb, eq-eqb}
@@ -48,6 +48,16 @@ one-from n (suc k) (e ∷ es) h =
 
 pub number-one : (f : Frame) (k : ℕ) → k < length (f .arrows) → filter (isNumber k) (numbered f) ≡ numberedAt f k ∷ []
 number-one f k h = rw (zero-add) at (one-from 0 k (f .arrows) h)
+
+none-after : (n m : ℕ) (es : List Ends) → n + length es ≤ m → filter (isNumber m) (numberedFrom n es) ≡ []
+unfolding numberedFrom
+none-after n m [] h = unfold filter in refl
+none-after n m (e ∷ es) h =
+    filter-no (isNumber m) (numberedBy n e) (numberedFrom (suc n) es) (ne-eqb n m (λ q. absurd (omega arith)))
+    ∙ none-after (suc n) m es (omega arith)
+
+pub number-none : (f : Frame) (k : ℕ) → length (f .arrows) ≤ k → filter (isNumber k) (numbered f) ≡ []
+number-none f k h = none-after 0 k (f .arrows) (omega arith)
 
 -- ---- two ways that agree on every arrow agree on all
 

@@ -1,9 +1,12 @@
 -- Routing a sheet's graph at given centres, and what two sheets that differ only in labels have in common. Assumes nothing.
 use mathlib.Core.Path.{_≡_, refl, sym, ap, ap₂, _∙_}
+use mathlib.Core.Bool.{Bool, true, false, _&&_}
 use mathlib.Core.List.{List, [], _∷_, map}
-use Prim.Native.Nat.{ℕ, zero, suc, _<_}
+use Prim.Native.Nat.{ℕ, zero, suc, _≤_, _<_}
 use native.Mathlib.Omega.{arith}
-use lib.ListN.{length, getD, take}
+use borrow.Author.Tests.{lt-ltb, ne-eqb}
+use lib.Dec.{ltb, eqb}
+use lib.ListN.{length, getD, take, length-map, List·getD-map}
 use lib.Ieee.{Float, nan, inf, fin, ofBits, ofInt, mul, round}
 use Rattle.laws.specs.Flat.{table}
 use Rattle.laws.specs.Loops.{over}
@@ -13,8 +16,12 @@ use Rattle.shape.specs.Plane.{vec}
 use Rattle.sheet.specs.Sheet.{Arrow, Graph}
 use Rattle.label.specs.Label.{blockWidth, blockHeight}
 use Rattle.spot.specs.declared.Geometry.{Geometry}
-use Rattle.routing.specs.Routing.{Ends, Frame, Size, none, Item, edgeOf, order, drawing, records}
-use Rattle.routing.specs.Demand.{sizeAt, prefix}
+use Rattle.routing.specs.Routing.{Ends, Frame, isKept, isLoop, beyond, Size, none, Item, edgeOf, order, drawing, records}
+use Rattle.routing.specs.Lists.{At}
+use Rattle.routing.specs.Numbers.{numberedAt}
+use Rattle.routing.specs.Slots.{itemFor}
+use Rattle.routing.specs.Demand.{sizeAt, prefix, recordFor, noItem, edgeAt, kept-turn, Cheapest, records-cheapest, records-prefix, strokeOf}
+use Rattle.routing.specs.Demand as Demand
 
 -- "Centres missing or not finite count as 0."
 abbrev pub orZero : Float → Float
@@ -85,15 +92,75 @@ size-at [] k = refl
 size-at (a ∷ l) zero = refl
 size-at (a ∷ l) (suc k) = size-at l k
 
+-- the sizes at turn j agree where the lines do
+sizes-agree : (g h : Graph) (xs ys : List Float) (d : Item) (j : ℕ) → SameFrame g h → linesAt g xs ys d j ≡ linesAt h xs ys d j
+    → sizeAt (frameOf g xs ys) (sizesOf g) d j ≡ sizeAt (frameOf g xs ys) (sizesOf h) d j
+sizes-agree g h xs ys d j e a =
+    let n = edgeOf (getD (order (frameOf g xs ys)) j d) in
+    size-at (g .arrows) n
+    ∙ ap sizeBy (a ∙ ap (λ (z : Frame). getD (h .arrows) (edgeOf (getD (order z) j d)) noArrow .lines) (sym (same-frame g h xs ys e)))
+    ∙ sym (size-at (h .arrows) n)
+
 -- "Label lines agree where an arrow has as many in both, with the same bytes in order": up to turn k, what is drawn is the same
 pub sheets-agree : (g h : Graph) (xs ys : List Float) (d : Item) (k : ℕ) → SameFrame g h
     → ((j : ℕ) → j < k → linesAt g xs ys d j ≡ linesAt h xs ys d j) → take k (drawingOf g xs ys) ≡ take k (drawingOf h xs ys)
 sheets-agree g h xs ys d k e a =
-    let f = same-frame g h xs ys e in
-    prefix (frameOf g xs ys) (sizesOf g) (sizesOf h) d k
-    (λ j l.
-    let n = edgeOf (getD (order (frameOf g xs ys)) j d) in
-    size-at (g .arrows) n
-    ∙ ap sizeBy (a j l ∙ ap (λ (z : Frame). getD (h .arrows) (edgeOf (getD (order z) j d)) noArrow .lines) (sym f))
-    ∙ sym (size-at (h .arrows) n))
-    ∙ ap (λ (z : Frame). take k (drawing z (sizesOf h))) f
+    prefix (frameOf g xs ys) (sizesOf g) (sizesOf h) d k (λ j l. sizes-agree g h xs ys d j e (a j l))
+    ∙ ap (λ (z : Frame). take k (drawing z (sizesOf h))) (same-frame g h xs ys e)
+
+-- ---- demand 3
+
+-- the record of arrow k of a sheet's graph, or none
+abbrev pub recordOf : Graph → List Float → List Float → ℕ → List Geometry
+recordOf g xs ys k = recordFor (frameOf g xs ys) (sizesOf g) k
+
+abbrev pub arrowAt : Graph → ℕ → Arrow
+arrowAt g k = getD (g .arrows) k noArrow
+
+-- "one claim over whole routings": a graph at these centres, beside every other that has the same states and arrow ends
+pub record Demand3 (g : Graph) (xs ys : List Float) : Type 0 where
+  -- "Each arrow of the records has one turn": each arrow with both ends below the number of states
+  pub turn : (k : ℕ) → k < length (g .arrows) → arrowAt g k .source < length (g .states) → arrowAt g k .target < length (g .states)
+      → At (order (frameOf g xs ys)) noItem (itemFor (frameOf g xs ys) (numberedAt (frameOf g xs ys) k))
+  -- at every turn the record holds a listed place or direction: none of the listed costs less and none before it costs the same
+  pub cheapest : (t : ℕ) → t < length (order (frameOf g xs ys)) → Cheapest (frameOf g xs ys) (sizesOf g) t
+  -- "two such sheets at the same centres have the same turns in the same order"
+  pub turns : (h : Graph) → SameFrame g h → order (frameOf g xs ys) ≡ order (frameOf h xs ys)
+  -- where label lines agree at a turn and at all before it, the records are alike in all twenty numbers
+  pub prefix : (h : Graph) → SameFrame g h → (t : ℕ) → t < length (order (frameOf g xs ys)) → ((j : ℕ) → j ≤ t → linesAt g xs ys noItem j ≡ linesAt h xs ys noItem j)
+      → recordOf g xs ys (edgeAt (frameOf g xs ys) t) ≡ recordOf h xs ys (edgeAt (frameOf g xs ys) t)
+  -- whatever the label lines, curves, tips and tip angles of arrows between different states are alike
+  pub curves : (h : Graph) → SameFrame g h → (k : ℕ) → k < length (g .arrows) → (arrowAt g k .source ≡ arrowAt g k .target → ⊥)
+      → map strokeOf (recordOf g xs ys k) ≡ map strokeOf (recordOf h xs ys k)
+
+module _ (g : Graph) (xs ys : List Float) (k : ℕ) where
+  arrow-inside : k < length (g .arrows) → k < length (frameOf g xs ys .arrows)
+  unfolding frameOf
+  arrow-inside h = omega (arith, length-map (g .arrows) endsOf)
+
+  arrow-ends : numberedAt (frameOf g xs ys) k .ends ≡ endsOf (arrowAt g k)
+  unfolding frameOf
+  arrow-ends = List·getD-map endsOf (g .arrows) k noArrow
+
+  arrow-kept : arrowAt g k .source < length (g .states) → arrowAt g k .target < length (g .states) → isKept (frameOf g xs ys) (numberedAt (frameOf g xs ys) k) ≡ true
+  unfolding frameOf
+  arrow-kept a b =
+      ap (λ (e : Ends). ltb (e .source) (length (g .states)) && ltb (e .target) (length (g .states))) arrow-ends
+      ∙ ap₂ (λ (x y : Bool). x && y) (lt-ltb (arrowAt g k .source) (length (g .states)) a) (lt-ltb (arrowAt g k .target) (length (g .states)) b)
+
+  arrow-apart : (arrowAt g k .source ≡ arrowAt g k .target → ⊥) → isLoop (numberedAt (frameOf g xs ys) k) ≡ false
+  arrow-apart o = ap (λ (e : Ends). eqb (e .source) (e .target)) arrow-ends ∙ ne-eqb (arrowAt g k .source) (arrowAt g k .target) o
+
+-- for every graph and all centres at which no two-way pair is refused
+pub demand3 : (g : Graph) (xs ys : List Float) → beyond (frameOf g xs ys) ≡ false → Demand3 g xs ys
+demand3 g xs ys none =
+    let f : Frame = frameOf g xs ys in
+    record {
+      turn = λ k h a b. kept-turn f none k (arrow-inside g xs ys k h) (arrow-kept g xs ys k a b);
+      cheapest = λ t h. records-cheapest f none (sizesOf g) t h;
+      turns = λ h e. ap order (same-frame g h xs ys e);
+      prefix = λ h e t l a.
+          records-prefix f none (sizesOf g) (sizesOf h) t l (λ j i. sizes-agree g h xs ys noItem j e (a j i))
+          ∙ ap (λ (z : Frame). recordFor z (sizesOf h) (edgeAt f t)) (same-frame g h xs ys e);
+      curves = λ h e k l o. Demand.curves f none (sizesOf g) (sizesOf h) k (arrow-inside g xs ys k l) (arrow-apart g xs ys k o) ∙ ap (λ (z : Frame). map strokeOf (recordFor z (sizesOf h) k)) (same-frame g h xs ys e);
+    }

@@ -15,7 +15,6 @@ use Rattle.laws.specs.Loops.{over, over-join}
 use Rattle.laws.specs.Put.{put, length-put}
 use Rattle.laws.specs.Run as Run
 use Rattle.laws.specs.Zip.{zip}
-use Rattle.bow.specs.declared.Routed.{Routed}
 use Rattle.spot.specs.declared.Geometry.{Geometry}
 use Rattle.spot.specs.Labels.{labelled}
 use Rattle.records.specs.Records.{fields}
@@ -23,9 +22,9 @@ use Rattle.records.specs.Flats.{part-kept}
 use Rattle.place.specs.Scene.{Scene}
 use Rattle.looped.specs.Looped.{loopAt}
 use Rattle.routing.specs.Routing.{Frame, Size, Numbered, numbered, isKept, isLoop, kept, beyond, firstScene, Item, loop, label, edgeOf, isArc, order, Step, stepOf, steps, drawnBy, more, cost, after, drawnStep, drawing, drawnFor, records}
-use Rattle.routing.specs.Passes.{routeOf, routedOf, kindOf, itemsOf, Drawn, drawnOf, store, takenAt, played, turned, passed, slotsOf, gathered}
+use Rattle.routing.specs.Passes.{routeOf, kindOf, itemsOf, Drawn, drawnOf, store, takenAt, played, turned, passed, slotsOf, gathered}
 use Rattle.routing.specs.Lists.{map-join, map-flat, map-flat-one, over-flat, filter-flat, flat-same, flat-filter, flat-flat, filter-map, map-map}
-use Rattle.routing.specs.Numbers.{numberedAt, isNumber, number-one, flat-numbered}
+use Rattle.routing.specs.Numbers.{numberedAt, isNumber, number-one, number-none, flat-numbered}
 use Rattle.routing.specs.Order.{order-passes}
 
 -- ---- the passes are the run
@@ -89,49 +88,81 @@ unfolding itemsOf
 own-items k zero f a = own-item k (eqb (kindOf f a) 1) (loop a)
 own-items k (suc p) f a = own-item k (eqb (kindOf f a) (suc (suc p))) (label (routeOf f a))
 
+-- whether a turn is arrow k's
+abbrev pub isTurn : ℕ → Item → Bool
+isTurn k i = eqb (edgeOf i) k
+
 -- the turns of arrow k in a pass
-pass-items : (f : Frame) (p k : ℕ) → k < length (f .arrows) → filter (λ i. eqb (edgeOf i) k) (flatMap (itemsOf f p) (numbered f)) ≡ itemsOf f p (numberedAt f k)
-pass-items f p k h =
-    filter-flat (λ i. eqb (edgeOf i) k) (itemsOf f p) (numbered f)
+own-pass : (f : Frame) (p k : ℕ) → filter (isTurn k) (flatMap (itemsOf f p) (numbered f)) ≡ flatMap (itemsOf f p) (filter (isNumber k) (numbered f))
+own-pass f p k =
+    filter-flat (isTurn k) (itemsOf f p) (numbered f)
     ∙ flat-same _ _ (numbered f) (own-items k p f)
     ∙ sym (flat-filter (itemsOf f p) (isNumber k) (numbered f))
-    ∙ ap (flatMap (itemsOf f p)) (number-one f k h)
+
+pass-items : (f : Frame) (p k : ℕ) → k < length (f .arrows) → filter (isTurn k) (flatMap (itemsOf f p) (numbered f)) ≡ itemsOf f p (numberedAt f k)
+pass-items f p k h =
+    own-pass f p k ∙ ap (flatMap (itemsOf f p)) (number-one f k h)
     ∙ unfold flatMap in append-nil (itemsOf f p (numberedAt f k))
 
--- an arrow has one turn, or none where it is left out
-one-turn : (f : Frame) (a : Numbered) → map edgeOf (itemsOf f 0 a ++ itemsOf f 1 a ++ itemsOf f 2 a) ≡ cond (isKept f a) (a .edge ∷ []) []
-unfolding itemsOf kindOf
-one-turn f a = go (isKept f a) (isLoop a) (isArc (routeOf f a)) (routedOf f a)
-  where
-    go : (k l c : Bool) (r : Routed)
-        → map edgeOf (cond (eqb (cond k (cond l 1 (cond c 2 3)) 0) 1) (loop a ∷ []) []
-        ++ cond (eqb (cond k (cond l 1 (cond c 2 3)) 0) 2) (label (record { from = a; routed = r }) ∷ []) []
-        ++ cond (eqb (cond k (cond l 1 (cond c 2 3)) 0) 3) (label (record { from = a; routed = r }) ∷ []) []) ≡ cond k (a .edge ∷ []) []
-    go true true c r = refl
-    go true false true r = refl
-    go true false false r = refl
-    go false l c r = refl
+-- the turn of a kept arrow
+abbrev pub itemFor : Frame → Numbered → Item
+itemFor f a = cond (isLoop a) (loop a) (label (routeOf f a))
 
--- "Each arrow of the records has one turn": the numbers of the drawings of arrow k
+one-turn : (f : Frame) (a : Numbered) → itemsOf f 0 a ++ itemsOf f 1 a ++ itemsOf f 2 a ≡ cond (isKept f a) (itemFor f a ∷ []) []
+unfolding itemsOf kindOf
+one-turn f a = go (isKept f a) (isLoop a) (isArc (routeOf f a))
+  where
+    go : (k l c : Bool)
+        → cond (eqb (cond k (cond l 1 (cond c 2 3)) 0) 1) (loop a ∷ []) []
+        ++ cond (eqb (cond k (cond l 1 (cond c 2 3)) 0) 2) (label (routeOf f a) ∷ []) []
+        ++ cond (eqb (cond k (cond l 1 (cond c 2 3)) 0) 3) (label (routeOf f a) ∷ []) [] ≡ cond k (cond l (loop a) (label (routeOf f a)) ∷ []) []
+    go true true c = refl
+    go true false true = refl
+    go true false false = refl
+    go false l c = refl
+
+own-passes : (f : Frame) (k : ℕ) → beyond f ≡ false
+    → filter (isTurn k) (order f) ≡ filter (isTurn k) (flatMap (itemsOf f 0) (numbered f)) ++ filter (isTurn k) (flatMap (itemsOf f 1) (numbered f))
+    ++ filter (isTurn k) (flatMap (itemsOf f 2) (numbered f))
+own-passes f k h =
+    ap (filter (isTurn k)) (order-passes f h)
+    ∙ filter-join (isTurn k) (flatMap (itemsOf f 0) (numbered f) ++ flatMap (itemsOf f 1) (numbered f)) (flatMap (itemsOf f 2) (numbered f))
+    ∙ ap (λ (l : List Item). l ++ filter (isTurn k) (flatMap (itemsOf f 2) (numbered f)))
+    (filter-join (isTurn k) (flatMap (itemsOf f 0) (numbered f)) (flatMap (itemsOf f 1) (numbered f)))
+
+-- "Each arrow of the records has one turn; a left-out arrow has none"
+pub own-turn : (f : Frame) (k : ℕ) → beyond f ≡ false → k < length (f .arrows)
+    → filter (isTurn k) (order f) ≡ cond (isKept f (numberedAt f k)) (itemFor f (numberedAt f k) ∷ []) []
+own-turn f k h l =
+    own-passes f k h
+    ∙ ap₂ (λ (x y : List Item). x ++ y) (ap₂ (λ (x y : List Item). x ++ y) (pass-items f 0 k l) (pass-items f 1 k l)) (pass-items f 2 k l)
+    ∙ one-turn f (numberedAt f k)
+
+pub own-none : (f : Frame) (k : ℕ) → beyond f ≡ false → length (f .arrows) ≤ k → filter (isTurn k) (order f) ≡ []
+own-none f k h l = own-passes f k h ∙ ap₂ (λ (x y : List Item). x ++ y) (ap₂ (λ (x y : List Item). x ++ y) (none 0) (none 1)) (none 2)
+  where
+    none : (p : ℕ) → filter (isTurn k) (flatMap (itemsOf f p) (numbered f)) ≡ []
+    none p = own-pass f p k ∙ ap (flatMap (itemsOf f p)) (number-none f k l) ∙ unfold flatMap in refl
+
+-- the numbers of the drawings of arrow k, as of its turns
+pub edges-own : (f : Frame) (sizes : List Size) (k : ℕ) → map (λ g. g .edge) (filter (λ g. eqb (g .edge) k) (drawing f sizes)) ≡ map edgeOf (filter (isTurn k) (order f))
+edges-own f sizes k =
+    sym (filter-map (λ e. eqb e k) (λ g. g .edge) (drawing f sizes)) ∙ ap (filter (λ e. eqb e k)) (edges-drawn f sizes) ∙ filter-map (λ e. eqb e k) edgeOf (order f)
+
 pub drawn-once : (f : Frame) (sizes : List Size) (k : ℕ) → beyond f ≡ false → k < length (f .arrows)
     → map (λ g. g .edge) (drawnFor (drawing f sizes) (numberedAt f k)) ≡ cond (isKept f (numberedAt f k)) (k ∷ []) []
 drawn-once f sizes k h l =
-    let own : Item → Bool = λ i. eqb (edgeOf i) k in
-    sym (filter-map (λ e. eqb e k) (λ g. g .edge) (drawing f sizes))
-    ∙ ap (filter (λ e. eqb e k)) (edges-drawn f sizes ∙ ap (map edgeOf) (order-passes f h))
-    ∙ filter-map (λ e. eqb e k) edgeOf (flatMap (itemsOf f 0) (numbered f) ++ flatMap (itemsOf f 1) (numbered f) ++ flatMap (itemsOf f 2) (numbered f))
-    ∙ ap (map edgeOf)
-    (filter-join own (flatMap (itemsOf f 0) (numbered f) ++ flatMap (itemsOf f 1) (numbered f)) (flatMap (itemsOf f 2) (numbered f))
-    ∙ ap₂ (λ (x y : List Item). x ++ y)
-    (filter-join own (flatMap (itemsOf f 0) (numbered f)) (flatMap (itemsOf f 1) (numbered f))
-    ∙ ap₂ (λ (x y : List Item). x ++ y) (pass-items f 0 k l) (pass-items f 1 k l))
-    (pass-items f 2 k l))
-    ∙ one-turn f (numberedAt f k)
+    edges-own f sizes k ∙ ap (map edgeOf) (own-turn f k h l) ∙ go (isKept f (numberedAt f k)) (isLoop (numberedAt f k))
+  where
+    go : (b c : Bool) → map edgeOf (cond b (cond c (loop (numberedAt f k)) (label (routeOf f (numberedAt f k))) ∷ []) []) ≡ cond b (k ∷ []) []
+    go true true = refl
+    go true false = refl
+    go false c = refl
 
 -- ---- a record for each kept arrow, in arrow order
 
 -- the records by all arrows
-records-each : (f : Frame) (sizes : List Size) → records f sizes ≡ flatMap (λ a. cond (isKept f a) (drawnFor (drawing f sizes) a) []) (numbered f)
+pub records-each : (f : Frame) (sizes : List Size) → records f sizes ≡ flatMap (λ a. cond (isKept f a) (drawnFor (drawing f sizes) a) []) (numbered f)
 unfolding records kept
 records-each f sizes = flat-filter (drawnFor (drawing f sizes)) (isKept f) (numbered f)
 
@@ -154,7 +185,7 @@ records-length f sizes h = sym (length-map (records f sizes) (λ g. g .edge)) �
 
 -- ---- the slots hold the records
 
-abbrev isEdge : ℕ → Geometry → Bool
+abbrev pub isEdge : ℕ → Geometry → Bool
 isEdge k g = eqb (g .edge) k
 
 abbrev latest : List Float → Geometry → List Float
