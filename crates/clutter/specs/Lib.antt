@@ -2,3 +2,4 @@ pub mod Clutter
 pub mod Near
 pub mod Turns
 pub mod Bounds
+pub mod Worked
