@@ -8,3 +8,4 @@ pub mod Demand
 pub mod Turns
 pub mod Rim
 pub mod Sheets
+pub mod Frames

@@ -1,0 +1,54 @@
+-- The frame and the sizes of a sheet's graph, as the slices hold them. Assumes nothing.
+use mathlib.Core.Path.{_≡_, refl, sym, ap, ap₂, _∙_}
+use mathlib.Core.List.{List, [], _∷_, map}
+use Prim.Native.Nat.{ℕ, zero, suc}
+use lib.ListN.{length, getD}
+use lib.Ieee.{Float}
+use Rattle.laws.specs.Flat.{table}
+use Rattle.laws.specs.Zip.{zip}
+use Rattle.float.specs.Constants.{f0}
+use Rattle.shape.specs.declared.«V».{«V»}
+use Rattle.shape.specs.Plane.{vec}
+use Rattle.free.specs.Centres.{centres}
+use Rattle.sheet.specs.Sheet.{Arrow, Graph}
+use Rattle.label.specs.Label.{blockWidth, blockHeight}
+use Rattle.routing.specs.Routing.{Ends, Frame, Size}
+use Rattle.routing.specs.Passes.{endsBy, frameBy, sizesBy}
+use Rattle.routing.specs.Passes as Passes
+use Rattle.routing.specs.Sheets.{orZero, centreAt, endsOf, sizeOf, frameOf, sizesOf}
+
+-- ---- the centres
+
+-- n numbers, 0 for those that are missing or not finite
+abbrev pub orZeros : List Float → ℕ → List Float
+orZeros xs n = table (λ k. orZero (getD xs k f0)) 0 n
+
+zip-tables : {A B C : Type 0} (f : A → B → C) (g : ℕ → A) (h : ℕ → B) (k n : ℕ) → zip f (table g k n) (table h k n) ≡ table (λ j. f (g j) (h j)) k n
+unfolding table zip
+zip-tables f g h k zero = refl
+zip-tables {C = C} f g h k (suc n) = ap (λ (l : List C). f (g k) (h k) ∷ l) (zip-tables f g h (suc k) n)
+
+-- "Centres missing or not finite count as 0."
+pub centres-table : (xs ys : List Float) (n : ℕ) → centres (orZeros xs n) (orZeros ys n) ≡ table (centreAt xs ys) 0 n
+centres-table xs ys n = zip-tables vec (λ k. orZero (getD xs k f0)) (λ k. orZero (getD ys k f0)) 0 n
+
+-- ---- a sheet's graph
+
+ends-zip : (l : List Arrow) → zip endsBy (map (λ a. a .source) l) (map (λ a. a .target) l) ≡ map endsOf l
+unfolding zip
+ends-zip [] = refl
+ends-zip (a ∷ l) = ap (λ (r : List Ends). endsOf a ∷ r) (ends-zip l)
+
+pub frame-sheet : (g : Graph) (xs ys : List Float)
+    → frameBy (g .states) (orZeros xs (length (g .states))) (orZeros ys (length (g .states))) (map (λ a. a .source) (g .arrows)) (map (λ a. a .target) (g .arrows)) ≡ frameOf g xs ys
+unfolding frameOf
+frame-sheet g xs ys =
+    ap₂ (λ (cs : List «V») (es : List Ends). record { flags = g .states; centres = cs; arrows = es }) (centres-table xs ys (length (g .states))) (ends-zip (g .arrows))
+
+sizes-zip : (l : List Arrow) → zip Passes.sizeBy (map (λ a. blockWidth (a .lines)) l) (map (λ a. blockHeight (length (a .lines))) l) ≡ map sizeOf l
+unfolding zip
+sizes-zip [] = refl
+sizes-zip (a ∷ l) = ap (λ (r : List Size). sizeOf a ∷ r) (sizes-zip l)
+
+pub sizes-sheet : (g : Graph) → sizesBy (map (λ a. blockWidth (a .lines)) (g .arrows)) (map (λ a. blockHeight (length (a .lines))) (g .arrows)) ≡ sizesOf g
+sizes-sheet g = sizes-zip (g .arrows)
