@@ -1,0 +1,15 @@
+-- `lines::path_ok` meets its contract.
+use Rattle.lines.specs.Lines.{pathOk}
+use borrow.Author.Needs.{needs}
+use Rattle.lines.proofs.path_ok.Statement.{statement}
+use Rattle.lines.proofs.path_ok.Tie as tie
+
+curve-writable-requires : tie.Need-curve-writable-requires
+curve-writable-requires c κs = search needs
+
+returns : tie.Need-returns
+unfolding pathOk
+returns c = c .curve-writable .ensures
+
+pub path-ok-spec : {M : Type 1} → statement M
+path-ok-spec = tie.close (tie.spec curve-writable-requires returns)

@@ -1,0 +1,20 @@
+-- `lines::put_curve` meets its contract.
+use Rattle.laws.specs.Writers.{wrote-more}
+use borrow.Author.Needs.{needs}
+use Rattle.lines.proofs.put_curve.Statement.{statement}
+use Rattle.lines.proofs.put_curve.Tie as tie
+
+put-byte-requires : tie.Need-put-byte-requires
+put-byte-requires c κs = search needs
+
+put-path-requires : tie.Need-put-path-requires
+put-path-requires c κs = search needs
+
+same-length : tie.Need-same-length
+same-length c = search needs
+
+returns : tie.Need-returns
+returns c = wrote-more (c .before .before .before .before .before .before .put-byte .ensures) (c .before .before .put-path .ensures)
+
+pub put-curve-spec : {M : Type 1} → statement M
+put-curve-spec = tie.close (tie.spec put-byte-requires put-path-requires same-length returns)

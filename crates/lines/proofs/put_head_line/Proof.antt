@@ -1,0 +1,36 @@
+-- `lines::put_head_line` meets its contract.
+use Rattle.laws.specs.Writers.{wrote-more}
+use Rattle.lines.specs.Lines.{headLine}
+use borrow.Author.Needs.{needs}
+use Rattle.lines.proofs.put_head_line.Statement.{statement}
+use Rattle.lines.proofs.put_head_line.Tie as tie
+
+slice-aggregate-put-titled : tie.Need-slice-aggregate-put-titled
+slice-aggregate-put-titled c = search needs
+
+put-titled-requires : tie.Need-put-titled-requires
+put-titled-requires c κs = search needs
+
+put-head-requires : tie.Need-put-head-requires
+put-head-requires c κs = search needs
+
+put-byte-requires : tie.Need-put-byte-requires
+put-byte-requires c κs = search needs
+
+same-length : tie.Need-same-length
+same-length c = search needs
+
+returns : tie.Need-returns
+unfolding headLine
+returns c = wrote-more (wrote-more (c .before .before .before .before .before .before .before .before .before .before .put-titled .ensures) (c .before .before .before .before .before .before .put-head .ensures)) (c .before .before .put-byte .ensures)
+
+pub put-head-line-spec : {M : Type 1} → statement M
+put-head-line-spec =
+    tie.close
+    (tie.spec
+    slice-aggregate-put-titled
+    put-titled-requires
+    put-head-requires
+    put-byte-requires
+    same-length
+    returns)

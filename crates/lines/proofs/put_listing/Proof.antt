@@ -1,0 +1,36 @@
+-- `lines::put_listing` meets its contract.
+use Rattle.laws.specs.Writers.{wrote-more}
+use Rattle.lines.specs.Lines.{listText}
+use borrow.Author.Needs.{needs}
+use Rattle.lines.proofs.put_listing.Statement.{statement}
+use Rattle.lines.proofs.put_listing.Tie as tie
+
+put-size-line-requires : tie.Need-put-size-line-requires
+put-size-line-requires c κs = search needs
+
+put-states-requires : tie.Need-put-states-requires
+put-states-requires c κs = search needs
+
+put-records-requires : tie.Need-put-records-requires
+put-records-requires c κs = search needs
+
+put-starts-requires : tie.Need-put-starts-requires
+put-starts-requires c κs = search needs
+
+same-length : tie.Need-same-length
+same-length c = search needs
+
+returns : tie.Need-returns
+unfolding listText
+returns c = wrote-more (wrote-more (wrote-more (c .before .before .before .before .before .before .before .before .before .before .before .before .before .before .put-size-line .ensures) (c .before .before .before .before .before .before .before .before .before .before .put-states .ensures)) (c .before .before .before .before .before .before .put-records .ensures)) (c .before .before .put-starts .ensures)
+
+pub put-listing-spec : {M : Type 1} → statement M
+put-listing-spec =
+    tie.close
+    (tie.spec
+    put-size-line-requires
+    put-states-requires
+    put-records-requires
+    put-starts-requires
+    same-length
+    returns)

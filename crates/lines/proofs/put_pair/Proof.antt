@@ -1,0 +1,22 @@
+-- `lines::put_pair` meets its contract.
+use Rattle.laws.specs.Writers.{wrote-more}
+use Rattle.lines.specs.Lines.{pair}
+use borrow.Author.Needs.{needs}
+use Rattle.lines.proofs.put_pair.Statement.{statement}
+use Rattle.lines.proofs.put_pair.Tie as tie
+
+put-field-requires : tie.Need-put-field-requires
+put-field-requires c κs = search needs
+
+put-field-requires-2 : tie.Need-put-field-requires-2
+put-field-requires-2 c κs = search needs
+
+same-length : tie.Need-same-length
+same-length c = search needs
+
+returns : tie.Need-returns
+unfolding pair
+returns c = wrote-more (c .before .before .before .before .before .before .put-field .ensures) (c .before .before .put-field2 .ensures)
+
+pub put-pair-spec : {M : Type 1} → statement M
+put-pair-spec = tie.close (tie.spec put-field-requires put-field-requires-2 same-length returns)

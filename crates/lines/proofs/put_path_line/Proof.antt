@@ -1,0 +1,22 @@
+-- `lines::put_path_line` meets its contract.
+use Rattle.laws.specs.Writers.{wrote-more}
+use Rattle.lines.specs.Lines.{pathLine}
+use borrow.Author.Needs.{needs}
+use Rattle.lines.proofs.put_path_line.Statement.{statement}
+use Rattle.lines.proofs.put_path_line.Tie as tie
+
+put-path-requires : tie.Need-put-path-requires
+put-path-requires c κs = search needs
+
+put-byte-requires : tie.Need-put-byte-requires
+put-byte-requires c κs = search needs
+
+same-length : tie.Need-same-length
+same-length c = search needs
+
+returns : tie.Need-returns
+unfolding pathLine
+returns c = wrote-more (c .before .before .before .before .before .before .put-path .ensures) (c .before .before .put-byte .ensures)
+
+pub put-path-line-spec : {M : Type 1} → statement M
+put-path-line-spec = tie.close (tie.spec put-path-requires put-byte-requires same-length returns)

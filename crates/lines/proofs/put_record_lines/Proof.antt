@@ -1,0 +1,36 @@
+-- `lines::put_record_lines` meets its contract.
+use Rattle.laws.specs.Writers.{wrote-more}
+use Rattle.lines.specs.Lines.{recordLines}
+use borrow.Author.Needs.{needs}
+use Rattle.lines.proofs.put_record_lines.Statement.{statement}
+use Rattle.lines.proofs.put_record_lines.Tie as tie
+
+put-edge-line-requires : tie.Need-put-edge-line-requires
+put-edge-line-requires c κs = search needs
+
+put-tip-line-requires : tie.Need-put-tip-line-requires
+put-tip-line-requires c κs = search needs
+
+put-head-line-requires : tie.Need-put-head-line-requires
+put-head-line-requires c κs = search needs
+
+put-label-line-requires : tie.Need-put-label-line-requires
+put-label-line-requires c κs = search needs
+
+same-length : tie.Need-same-length
+same-length c = search needs
+
+returns : tie.Need-returns
+unfolding recordLines
+returns c = wrote-more (wrote-more (wrote-more (c .before .before .before .before .before .before .before .before .before .before .before .before .before .before .put-edge-line .ensures) (c .before .before .before .before .before .before .before .before .before .before .put-tip-line .ensures)) (c .before .before .before .before .before .before .put-head-line .ensures)) (c .before .before .put-label-line .ensures)
+
+pub put-record-lines-spec : {M : Type 1} → statement M
+put-record-lines-spec =
+    tie.close
+    (tie.spec
+    put-edge-line-requires
+    put-tip-line-requires
+    put-head-line-requires
+    put-label-line-requires
+    same-length
+    returns)

@@ -1,0 +1,36 @@
+-- `lines::put_size_line` meets its contract.
+use Rattle.laws.specs.Writers.{wrote-more}
+use Rattle.lines.specs.Lines.{sizeLine}
+use borrow.Author.Needs.{needs}
+use Rattle.lines.proofs.put_size_line.Statement.{statement}
+use Rattle.lines.proofs.put_size_line.Tie as tie
+
+slice-aggregate-put-bytes : tie.Need-slice-aggregate-put-bytes
+slice-aggregate-put-bytes c = search needs
+
+put-bytes-requires : tie.Need-put-bytes-requires
+put-bytes-requires c κs = search needs
+
+put-pair-requires : tie.Need-put-pair-requires
+put-pair-requires c κs = search needs
+
+put-byte-requires : tie.Need-put-byte-requires
+put-byte-requires c κs = search needs
+
+same-length : tie.Need-same-length
+same-length c = search needs
+
+returns : tie.Need-returns
+unfolding sizeLine
+returns c = wrote-more (wrote-more (c .before .before .before .before .before .before .before .before .before .before .put-bytes .ensures) (c .before .before .before .before .before .before .put-pair .ensures)) (c .before .before .put-byte .ensures)
+
+pub put-size-line-spec : {M : Type 1} → statement M
+put-size-line-spec =
+    tie.close
+    (tie.spec
+    slice-aggregate-put-bytes
+    put-bytes-requires
+    put-pair-requires
+    put-byte-requires
+    same-length
+    returns)

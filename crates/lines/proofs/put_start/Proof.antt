@@ -1,0 +1,32 @@
+-- `lines::put_start` meets its contract.
+use mathlib.Core.Path.{sym, ap, _∙_}
+use mathlib.Core.Bool.{Bool, cond}
+use mathlib.Core.List.{[]}
+use native.Mathlib.Omega.{arith}
+use denote.Ref.{now}
+use Rattle.laws.specs.Writers.{wrote-as, wrote-none}
+use Rattle.lines.specs.Lines.{startText, startLine, stateAt}
+use borrow.Author.Needs.{needs}
+use Rattle.lines.proofs.put_start.Statement.{statement}
+use Rattle.lines.proofs.put_start.Tie as tie
+
+is-start-requires : tie.Need-is-start-requires
+is-start-requires c κs = search needs
+
+put-start-line-requires : tie.Need-put-start-line-requires
+put-start-line-requires c κs = search needs
+
+same-length : tie.Need-same-length
+same-length c = search needs
+
+returns : tie.Need-returns
+unfolding startText
+returns c = wrote-as (sym (ap (λ (b : Bool). cond b (startLine (stateAt (c .before .before .before .before .before .before .before .args .k) (c .before .before .before .before .before .before .before .args .x) (c .before .before .before .before .before .before .before .args .y))) []) (sym (c .before .before .before .before .before .is-start .ensures) ∙ c .before .before .before .before .if1 .taken))) (c .before .before .put-start-line .ensures)
+
+returns-2 : tie.Need-returns-2
+unfolding startText
+returns-2 c = wrote-as (sym (ap (λ (b : Bool). cond b (startLine (stateAt (c .before .before .before .args .k) (c .before .before .before .args .x) (c .before .before .before .args .y))) []) (sym (c .before .is-start .ensures) ∙ c .if1 .left))) (wrote-none (now (c .before .before .before .args .out)) (c .before .before .before .args .at) (omega arith) (omega arith))
+
+pub put-start-spec : {M : Type 1} → statement M
+put-start-spec =
+    tie.close (tie.spec is-start-requires put-start-line-requires same-length returns returns-2)

@@ -1,0 +1,45 @@
+-- `lines::put_start_line` meets its contract.
+use mathlib.Core.Path.{ap}
+use mathlib.Core.List.{_∷_}
+use Rattle.float.specs.Constants.{f0}
+use Rattle.shape.specs.declared.«V».{«V»}
+use Rattle.svg.specs.Paths.{headText}
+use Rattle.laws.specs.Writers.{wrote-as, wrote-more}
+use Rattle.lines.specs.Lines.{startLine}
+use borrow.Author.Needs.{needs}
+use Rattle.lines.proofs.put_start_line.Statement.{statement}
+use Rattle.lines.proofs.put_start_line.Tie as tie
+
+slice-aggregate-put-titled : tie.Need-slice-aggregate-put-titled
+slice-aggregate-put-titled c = search needs
+
+put-titled-requires : tie.Need-put-titled-requires
+put-titled-requires c κs = search needs
+
+start-tip-requires : tie.Need-start-tip-requires
+start-tip-requires c κs = search needs
+
+put-head-requires : tie.Need-put-head-requires
+put-head-requires c κs = search needs
+
+put-byte-requires : tie.Need-put-byte-requires
+put-byte-requires c κs = search needs
+
+same-length : tie.Need-same-length
+same-length c = search needs
+
+returns : tie.Need-returns
+unfolding startLine
+returns c = wrote-more (wrote-more (c .before .before .before .before .before .before .before .before .before .before .before .put-titled .ensures) (wrote-as (ap (λ (p : «V»). 32 ∷ headText p f0) (c .before .before .before .before .before .before .before .start-tip .ensures)) (c .before .before .before .before .before .before .put-head .ensures))) (c .before .before .put-byte .ensures)
+
+pub put-start-line-spec : {M : Type 1} → statement M
+put-start-line-spec =
+    tie.close
+    (tie.spec
+    slice-aggregate-put-titled
+    put-titled-requires
+    start-tip-requires
+    put-head-requires
+    put-byte-requires
+    same-length
+    returns)

@@ -1,0 +1,71 @@
+-- `lines::put_states` meets its contract. The invariant: what is written, with the lines of the states still to come, is the whole text.
+use mathlib.Core.Path.{_≡_, refl, _∙_}
+use mathlib.Core.List.{flatMap}
+use Prim.Native.Nat.{_-_, _≤_}
+use native.Mathlib.Omega.{arith}
+use lib.ListN.{length, drop}
+use denote.Ref.{now}
+use Rattle.free.specs.Centres.{centres}
+use Rattle.lines.specs.Continues.{Continues, continues-whole, texts-turn, texts-end}
+use Rattle.lines.specs.Lines.{stateLine, statesFrom, statesText}
+use Rattle.lines.proofs.Laws.{states-front, states-none}
+use Rattle.lines.proofs.put_states.Statement.{statement}
+use Rattle.lines.proofs.put_states.Tie as tie
+
+abbrev Inv-loop : tie.InvT-loop
+Inv-loop out₀ at xs ys next₀ k₀ k-end out next k = (k-end ≡ length xs) × (k ≤ length xs) × (length out ≡ length out₀) × Continues out₀ at out next (flatMap stateLine (statesFrom k (drop k (centres xs ys)))) (statesText (statesFrom 0 (centres xs ys)))
+
+abbrev μ-loop : tie.MeasureT-loop
+μ-loop out₀ at xs ys next₀ k₀ k-end out next k = k-end - k
+
+loop-holds : tie.Need-loop-holds Inv-loop μ-loop
+unfolding statesText
+loop-holds c = (refl, omega arith, refl, continues-whole _ _ (omega arith) refl)
+
+mul-put-state-line : tie.Need-mul-put-state-line Inv-loop μ-loop
+mul-put-state-line c = omega arith
+
+shared-slice-read-put-state-line : tie.Need-shared-slice-read-put-state-line Inv-loop μ-loop
+shared-slice-read-put-state-line c = omega arith
+
+mul-put-state-line-2 : tie.Need-mul-put-state-line-2 Inv-loop μ-loop
+mul-put-state-line-2 c = omega arith
+
+shared-slice-read-put-state-line-2 : tie.Need-shared-slice-read-put-state-line-2 Inv-loop μ-loop
+shared-slice-read-put-state-line-2 c = omega arith
+
+put-state-line-requires : tie.Need-put-state-line-requires Inv-loop μ-loop
+put-state-line-requires c κs = tt
+
+add-k : tie.Need-add-k Inv-loop μ-loop
+add-k c = omega arith
+
+loop-less : tie.Need-loop-less Inv-loop μ-loop
+loop-less c = omega arith
+
+loop-again : tie.Need-loop-again Inv-loop μ-loop
+loop-again c = (c .before .before .before .before .before .before .before .loop .inv .0, omega arith, c .before .before .put-state-line .kept .0 ∙ c .before .before .before .before .before .before .before .loop .inv .2, texts-turn stateLine _ (states-front (now (c .before .before .before .before .before .before .before .before .before .before .before .args .xs)) (now (c .before .before .before .before .before .before .before .before .before .before .before .args .ys)) (c .before .before .before .before .before .before .before .loop .k) (c .before .before .before .before .before .before .before .before .before .before .before .pre) (omega arith)) (c .before .before .before .before .before .before .before .loop .inv .3) (c .before .before .put-state-line .ensures))
+
+same-length : tie.Need-same-length Inv-loop μ-loop
+same-length c = c .before .loop .inv .2
+
+returns : tie.Need-returns Inv-loop μ-loop
+returns c = texts-end stateLine (states-none (now (c .before .before .before .before .before .args .xs)) (now (c .before .before .before .before .before .args .ys)) (c .before .loop .k) (c .before .before .before .before .before .pre) (omega arith)) (omega arith) (c .before .loop .inv .3)
+
+pub put-states-spec : {M : Type 1} → statement M
+put-states-spec =
+    tie.close
+    (tie.spec
+    Inv-loop
+    μ-loop
+    loop-holds
+    mul-put-state-line
+    shared-slice-read-put-state-line
+    mul-put-state-line-2
+    shared-slice-read-put-state-line-2
+    put-state-line-requires
+    add-k
+    loop-less
+    loop-again
+    same-length
+    returns)

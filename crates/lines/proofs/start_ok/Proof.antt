@@ -1,0 +1,32 @@
+-- `lines::start_ok` meets its contract.
+use mathlib.Core.Path.{sym, ap, _∙_}
+use mathlib.Core.Bool.{Bool, true, cond}
+use Rattle.float.specs.Constants.{f0}
+use Rattle.shape.specs.declared.«V».{«V»}
+use Rattle.shape.specs.Plane.{vec}
+use Rattle.lines.specs.Lines.{startOk, headOk, startTip}
+use borrow.Author.Needs.{needs}
+use Rattle.lines.proofs.start_ok.Statement.{statement}
+use Rattle.lines.proofs.start_ok.Tie as tie
+
+is-start-requires : tie.Need-is-start-requires
+is-start-requires c κs = search needs
+
+start-tip-requires : tie.Need-start-tip-requires
+start-tip-requires c κs = search needs
+
+head-writable-requires : tie.Need-head-writable-requires
+head-writable-requires c κs = search needs
+
+returns : tie.Need-returns
+unfolding startOk
+returns c = c .head-writable .ensures ∙ ap (λ (p : «V»). headOk p f0) (c .before .start-tip .ensures) ∙ sym (ap (λ (b : Bool). cond b (headOk (startTip (vec (c .before .before .before .before .args .x) (c .before .before .before .before .args .y))) f0) true) (sym (c .before .before .before .is-start .ensures) ∙ c .before .before .if1 .taken))
+
+returns-2 : tie.Need-returns-2
+unfolding startOk
+returns-2 c = sym (ap (λ (b : Bool). cond b (headOk (startTip (vec (c .before .before .args .x) (c .before .before .args .y))) f0) true) (sym (c .before .is-start .ensures) ∙ c .if1 .left))
+
+pub start-ok-spec : {M : Type 1} → statement M
+start-ok-spec =
+    tie.close
+    (tie.spec is-start-requires start-tip-requires head-writable-requires returns returns-2)

@@ -1,0 +1,73 @@
+-- `lines::states_ok` meets its contract. The invariant: the test of the states still to come decides.
+use mathlib.Core.Path.{_≡_, refl, sym, _∙_}
+use Prim.Native.Nat.{_-_, _≤_}
+use native.Mathlib.Omega.{arith}
+use lib.ListN.{length, drop}
+use denote.Ref.{now}
+use borrow.Author.Tests.{not-true, not-false}
+use Rattle.free.specs.Centres.{centres}
+use Rattle.lines.specs.Every.{every, every-stop, every-turn, every-end}
+use Rattle.lines.specs.Lines.{stateOk, statesFrom, statesOk}
+use Rattle.lines.proofs.Laws.{states-front, states-none}
+use Rattle.lines.proofs.states_ok.Statement.{statement}
+use Rattle.lines.proofs.states_ok.Tie as tie
+
+abbrev Inv-loop : tie.InvT-loop
+Inv-loop xs ys k₀ k-end k = (k-end ≡ length xs) × (k ≤ length xs) × (every stateOk (statesFrom k (drop k (centres xs ys))) ≡ statesOk (statesFrom 0 (centres xs ys)))
+
+abbrev μ-loop : tie.MeasureT-loop
+μ-loop xs ys k₀ k-end k = k-end - k
+
+loop-holds : tie.Need-loop-holds Inv-loop μ-loop
+unfolding statesOk
+loop-holds c = (refl, omega arith, refl)
+
+mul-pair-ok : tie.Need-mul-pair-ok Inv-loop μ-loop
+mul-pair-ok c = omega arith
+
+shared-slice-read-pair-ok : tie.Need-shared-slice-read-pair-ok Inv-loop μ-loop
+shared-slice-read-pair-ok c = omega arith
+
+mul-pair-ok-2 : tie.Need-mul-pair-ok-2 Inv-loop μ-loop
+mul-pair-ok-2 c = omega arith
+
+shared-slice-read-pair-ok-2 : tie.Need-shared-slice-read-pair-ok-2 Inv-loop μ-loop
+shared-slice-read-pair-ok-2 c = omega arith
+
+pair-ok-requires : tie.Need-pair-ok-requires Inv-loop μ-loop
+pair-ok-requires c κs = tt
+
+returns : tie.Need-returns Inv-loop μ-loop
+unfolding stateOk
+returns c = every-stop stateOk _ (states-front (now (c .before .before .before .before .before .before .before .before .args .xs)) (now (c .before .before .before .before .before .before .before .before .args .ys)) (c .before .before .before .before .before .loop .k) (c .before .before .before .before .before .before .before .before .pre) (omega arith)) (sym (c .before .pair-ok .ensures) ∙ not-true _ (c .if1 .taken)) (c .before .before .before .before .before .loop .inv .2)
+
+add-k : tie.Need-add-k Inv-loop μ-loop
+add-k c = omega arith
+
+loop-less : tie.Need-loop-less Inv-loop μ-loop
+loop-less c = omega arith
+
+loop-again : tie.Need-loop-again Inv-loop μ-loop
+unfolding stateOk
+loop-again c = (c .before .before .before .before .before .loop .inv .0, omega arith, every-turn stateOk _ (states-front (now (c .before .before .before .before .before .before .before .before .args .xs)) (now (c .before .before .before .before .before .before .before .before .args .ys)) (c .before .before .before .before .before .loop .k) (c .before .before .before .before .before .before .before .before .pre) (omega arith)) (sym (c .before .pair-ok .ensures) ∙ not-false _ (c .if1 .left)) (c .before .before .before .before .before .loop .inv .2))
+
+returns-2 : tie.Need-returns-2 Inv-loop μ-loop
+returns-2 c = every-end stateOk (states-none (now (c .before .before .before .before .args .xs)) (now (c .before .before .before .before .args .ys)) (c .before .loop .k) (c .before .before .before .before .pre) (omega arith)) (c .before .loop .inv .2)
+
+pub states-ok-spec : {M : Type 1} → statement M
+states-ok-spec =
+    tie.close
+    (tie.spec
+    Inv-loop
+    μ-loop
+    loop-holds
+    mul-pair-ok
+    shared-slice-read-pair-ok
+    mul-pair-ok-2
+    shared-slice-read-pair-ok-2
+    pair-ok-requires
+    returns
+    add-k
+    loop-less
+    loop-again
+    returns-2)

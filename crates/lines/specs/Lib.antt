@@ -1,0 +1,4 @@
+pub mod Every
+pub mod Continues
+pub mod Lines
+pub mod Worked

@@ -1,0 +1,372 @@
+// The text of a drawing: the paths of its records, and its listing.
+// A writer stores what fits and always advances: on an empty slice it measures.
+use shape::Curve;
+use shape::V;
+use spot::Anchor;
+use spot::Geometry;
+ghost use mathlib.Core.Path.{_≡_};
+ghost use mathlib.Core.List.{_∷_};
+ghost use Prim.Native.Nat.{_*_, _≤_};
+ghost use lib.ListN.{length};
+ghost use Rattle.laws.specs.Writers.{Wrote};
+ghost use Rattle.shape.specs.Plane.{vec};
+ghost use Rattle.svg.specs.Paths.{curveText, headText, pointWritable};
+ghost use Rattle.free.specs.Centres.{centres};
+ghost use Rattle.records.specs.Records.{decodeRecords};
+ghost use Rattle.lines.specs.Lines as S;
+
+const NODE_RADIUS: f64 = 22.0;
+
+// ---- path text
+
+// A record's path and a newline.
+fn put_path_line(out: &mut [u8], at: usize, g: Geometry) -> usize
+    ensures { λ r. ⌜ Wrote (now (out .entry)) at (now (out .exit)) r (S.pathLine g) ⌝ }
+{
+    let curve = g.curve;
+    let newline = svg::put_path(out, at, curve);
+    text::put_byte(out, newline, b'\n')
+}
+
+// The paths of the first `count` records, each ended by a newline.
+pub fn put_paths(out: &mut [u8], at: usize, records: &[f64], count: usize) -> usize
+    requires { ⌜ 20 * count ≤ length (now records) ⌝ }
+    ensures { λ r. ⌜ Wrote (now (out .entry)) at (now (out .exit)) r (S.pathsText (decodeRecords count (now (records .entry)))) ⌝ }
+{
+    let mut next = at;
+    for k in 0..count {
+        let g = records::geometry_at(records, k);
+        next = put_path_line(out, next, g);
+    }
+    next
+}
+
+fn path_ok(g: Geometry) -> bool
+    ensures { λ r. ⌜ r ≡ S.pathOk g ⌝ }
+{
+    let curve = g.curve;
+    svg::curve_writable(curve)
+}
+
+// Whether every coordinate of their paths may be written.
+pub fn paths_writable(records: &[f64], count: usize) -> bool
+    requires { ⌜ 20 * count ≤ length (now records) ⌝ }
+    ensures { λ r. ⌜ r ≡ S.pathsWritable (decodeRecords count (now (records .entry))) ⌝ }
+{
+    for k in 0..count {
+        let g = records::geometry_at(records, k);
+        if !path_ok(g) {
+            return false;
+        }
+    }
+    true
+}
+
+// ---- the listing's fields
+
+// A blank and a written number.
+fn put_field(out: &mut [u8], at: usize, v: f64) -> usize
+    ensures { λ r. ⌜ Wrote (now (out .entry)) at (now (out .exit)) r (S.field v) ⌝ }
+{
+    let next = text::put_byte(out, at, b' ');
+    number::put_num(out, next, v)
+}
+
+fn put_pair(out: &mut [u8], at: usize, a: f64, b: f64) -> usize
+    ensures { λ r. ⌜ Wrote (now (out .entry)) at (now (out .exit)) r (S.pair a b) ⌝ }
+{
+    let next = put_field(out, at, a);
+    put_field(out, next, b)
+}
+
+// A word and the number of a state or an arrow.
+fn put_titled(out: &mut [u8], at: usize, word: &[u8], k: usize) -> usize
+    ensures { λ r. ⌜ Wrote (now (out .entry)) at (now (out .exit)) r (S.titled (now (word .entry)) k) ⌝ }
+{
+    let blank = text::put_bytes(out, at, word);
+    let next = text::put_byte(out, blank, b' ');
+    text::put_number(out, next, k as u64)
+}
+
+fn put_anchor(out: &mut [u8], at: usize, anchor: Anchor) -> usize
+    ensures { λ r. ⌜ Wrote (now (out .entry)) at (now (out .exit)) r (S.anchorText anchor) ⌝ }
+{
+    match anchor {
+        Anchor::Start => text::put_bytes(out, at, b" start"),
+        Anchor::Middle => text::put_bytes(out, at, b" middle"),
+        Anchor::End => text::put_bytes(out, at, b" end"),
+    }
+}
+
+// A blank and a path.
+fn put_curve(out: &mut [u8], at: usize, curve: Curve) -> usize
+    ensures { λ r. ⌜ Wrote (now (out .entry)) at (now (out .exit)) r (32 ∷ curveText curve) ⌝ }
+{
+    let next = text::put_byte(out, at, b' ');
+    svg::put_path(out, next, curve)
+}
+
+// A blank and an arrowhead.
+fn put_head(out: &mut [u8], at: usize, tip: V, angle: f64) -> usize
+    ensures { λ r. ⌜ Wrote (now (out .entry)) at (now (out .exit)) r (32 ∷ headText tip angle) ⌝ }
+{
+    let next = text::put_byte(out, at, b' ');
+    svg::put_arrowhead(out, next, tip, angle)
+}
+
+// ---- the listing's lines
+
+fn put_size_line(out: &mut [u8], at: usize, width: f64, height: f64) -> usize
+    ensures { λ r. ⌜ Wrote (now (out .entry)) at (now (out .exit)) r (S.sizeLine width height) ⌝ }
+{
+    let size = text::put_bytes(out, at, b"size");
+    let end = put_pair(out, size, width, height);
+    text::put_byte(out, end, b'\n')
+}
+
+fn put_state_line(out: &mut [u8], at: usize, k: usize, x: f64, y: f64) -> usize
+    ensures { λ r. ⌜ Wrote (now (out .entry)) at (now (out .exit)) r (S.stateLine (S.stateAt k x y)) ⌝ }
+{
+    let centre = put_titled(out, at, b"state", k);
+    let end = put_pair(out, centre, x, y);
+    text::put_byte(out, end, b'\n')
+}
+
+fn put_edge_line(out: &mut [u8], at: usize, g: Geometry) -> usize
+    ensures { λ r. ⌜ Wrote (now (out .entry)) at (now (out .exit)) r (S.edgeLine g) ⌝ }
+{
+    let curve = g.curve;
+    let path = put_titled(out, at, b"edge", g.edge);
+    let end = put_curve(out, path, curve);
+    text::put_byte(out, end, b'\n')
+}
+
+fn put_tip_line(out: &mut [u8], at: usize, g: Geometry) -> usize
+    ensures { λ r. ⌜ Wrote (now (out .entry)) at (now (out .exit)) r (S.tipLine g) ⌝ }
+{
+    let tip = put_titled(out, at, b"tip", g.edge);
+    let angle = put_pair(out, tip, g.tip.x, g.tip.y);
+    let end = put_field(out, angle, g.angle);
+    text::put_byte(out, end, b'\n')
+}
+
+fn put_head_line(out: &mut [u8], at: usize, g: Geometry) -> usize
+    ensures { λ r. ⌜ Wrote (now (out .entry)) at (now (out .exit)) r (S.headLine g) ⌝ }
+{
+    let head = put_titled(out, at, b"head", g.edge);
+    let end = put_head(out, head, g.tip, g.angle);
+    text::put_byte(out, end, b'\n')
+}
+
+fn put_label_line(out: &mut [u8], at: usize, g: Geometry) -> usize
+    ensures { λ r. ⌜ Wrote (now (out .entry)) at (now (out .exit)) r (S.labelLine g) ⌝ }
+{
+    let anchor = g.anchor;
+    let label = put_titled(out, at, b"label", g.edge);
+    let side = put_pair(out, label, g.label.x, g.label.y);
+    let end = put_anchor(out, side, anchor);
+    text::put_byte(out, end, b'\n')
+}
+
+// The four lines of a record.
+fn put_record_lines(out: &mut [u8], at: usize, g: Geometry) -> usize
+    ensures { λ r. ⌜ Wrote (now (out .entry)) at (now (out .exit)) r (S.recordLines g) ⌝ }
+{
+    let tip = put_edge_line(out, at, g);
+    let head = put_tip_line(out, tip, g);
+    let label = put_head_line(out, head, g);
+    put_label_line(out, label, g)
+}
+
+// The tip of a start arrow is on the rim, from the left.
+fn start_tip(x: f64, y: f64) -> V
+    ensures { λ r. ⌜ r ≡ S.startTip (vec x y) ⌝ }
+{
+    V {
+        x: x - NODE_RADIUS,
+        y,
+    }
+}
+
+fn put_start_line(out: &mut [u8], at: usize, k: usize, x: f64, y: f64) -> usize
+    ensures { λ r. ⌜ Wrote (now (out .entry)) at (now (out .exit)) r (S.startLine (S.stateAt k x y)) ⌝ }
+{
+    let head = put_titled(out, at, b"start", k);
+    let end = put_head(out, head, start_tip(x, y), 0.0);
+    text::put_byte(out, end, b'\n')
+}
+
+// The line of a start state; nothing for any other.
+fn put_start(out: &mut [u8], at: usize, flag: u8, k: usize, x: f64, y: f64) -> usize
+    ensures { λ r. ⌜ Wrote (now (out .entry)) at (now (out .exit)) r (S.startText flag (S.stateAt k x y)) ⌝ }
+{
+    if ring::is_start(flag) {
+        return put_start_line(out, at, k, x, y);
+    }
+    at
+}
+
+// ---- the listing
+
+fn put_states(out: &mut [u8], at: usize, xs: &[f64], ys: &[f64]) -> usize
+    requires { ⌜ length (now ys) ≡ length (now xs) ⌝ }
+    ensures { λ r. ⌜ Wrote (now (out .entry)) at (now (out .exit)) r (S.statesText (S.statesFrom 0 (centres (now (xs .entry)) (now (ys .entry))))) ⌝ }
+{
+    let mut next = at;
+    for k in 0..xs.len() {
+        next = put_state_line(out, next, k, xs[k], ys[k]);
+    }
+    next
+}
+
+fn put_records(out: &mut [u8], at: usize, records: &[f64], count: usize) -> usize
+    requires { ⌜ 20 * count ≤ length (now records) ⌝ }
+    ensures { λ r. ⌜ Wrote (now (out .entry)) at (now (out .exit)) r (S.recordsText (decodeRecords count (now (records .entry)))) ⌝ }
+{
+    let mut next = at;
+    for k in 0..count {
+        let g = records::geometry_at(records, k);
+        next = put_record_lines(out, next, g);
+    }
+    next
+}
+
+fn put_starts(out: &mut [u8], at: usize, xs: &[f64], ys: &[f64], flags: &[u8]) -> usize
+    requires { ⌜ (length (now ys) ≡ length (now xs)) × (length (now flags) ≡ length (now xs)) ⌝ }
+    ensures { λ r. ⌜ Wrote (now (out .entry)) at (now (out .exit)) r (S.startsText (now (flags .entry)) (S.statesFrom 0 (centres (now (xs .entry)) (now (ys .entry))))) ⌝ }
+{
+    let mut next = at;
+    for k in 0..xs.len() {
+        next = put_start(out, next, flags[k], k, xs[k], ys[k]);
+    }
+    next
+}
+
+// The listing: its size, the states, four lines a record, the starts.
+pub fn put_listing(
+    out: &mut [u8],
+    at: usize,
+    width: f64,
+    height: f64,
+    xs: &[f64],
+    ys: &[f64],
+    flags: &[u8],
+    records: &[f64],
+    count: usize,
+) -> usize
+    requires { ⌜ (length (now ys) ≡ length (now xs)) × (length (now flags) ≡ length (now xs)) × (20 * count ≤ length (now records)) ⌝ }
+    ensures { λ r. ⌜ Wrote (now (out .entry)) at (now (out .exit)) r (S.listText width height (centres (now (xs .entry)) (now (ys .entry))) (now (flags .entry)) (decodeRecords count (now (records .entry)))) ⌝ }
+{
+    let states = put_size_line(out, at, width, height);
+    let edges = put_states(out, states, xs, ys);
+    let starts = put_records(out, edges, records, count);
+    put_starts(out, starts, xs, ys, flags)
+}
+
+// ---- whether the listing's numbers may be written
+
+fn pair_ok(x: f64, y: f64) -> bool
+    ensures { λ r. ⌜ r ≡ pointWritable (vec x y) ⌝ }
+{
+    if number::writable(x) {
+        return number::writable(y);
+    }
+    false
+}
+
+// A tip, its angle and its head.
+fn tip_ok(tip: V, angle: f64) -> bool
+    ensures { λ r. ⌜ r ≡ S.tipOk tip angle ⌝ }
+{
+    if !pair_ok(tip.x, tip.y) {
+        return false;
+    }
+    if !number::writable(angle) {
+        return false;
+    }
+    svg::head_writable(tip, angle)
+}
+
+fn record_ok(g: Geometry) -> bool
+    ensures { λ r. ⌜ r ≡ S.recordOk g ⌝ }
+{
+    if !path_ok(g) {
+        return false;
+    }
+    if !tip_ok(g.tip, g.angle) {
+        return false;
+    }
+    pair_ok(g.label.x, g.label.y)
+}
+
+// The head of a start state; nothing is written for any other.
+fn start_ok(flag: u8, k: usize, x: f64, y: f64) -> bool
+    ensures { λ r. ⌜ r ≡ S.startOk flag (S.stateAt k x y) ⌝ }
+{
+    if ring::is_start(flag) {
+        return svg::head_writable(start_tip(x, y), 0.0);
+    }
+    true
+}
+
+fn states_ok(xs: &[f64], ys: &[f64]) -> bool
+    requires { ⌜ length (now ys) ≡ length (now xs) ⌝ }
+    ensures { λ r. ⌜ r ≡ S.statesOk (S.statesFrom 0 (centres (now (xs .entry)) (now (ys .entry)))) ⌝ }
+{
+    for k in 0..xs.len() {
+        if !pair_ok(xs[k], ys[k]) {
+            return false;
+        }
+    }
+    true
+}
+
+fn records_ok(records: &[f64], count: usize) -> bool
+    requires { ⌜ 20 * count ≤ length (now records) ⌝ }
+    ensures { λ r. ⌜ r ≡ S.recordsOk (decodeRecords count (now (records .entry))) ⌝ }
+{
+    for k in 0..count {
+        let g = records::geometry_at(records, k);
+        if !record_ok(g) {
+            return false;
+        }
+    }
+    true
+}
+
+fn starts_ok(xs: &[f64], ys: &[f64], flags: &[u8]) -> bool
+    requires { ⌜ (length (now ys) ≡ length (now xs)) × (length (now flags) ≡ length (now xs)) ⌝ }
+    ensures { λ r. ⌜ r ≡ S.startsOk (now (flags .entry)) (S.statesFrom 0 (centres (now (xs .entry)) (now (ys .entry)))) ⌝ }
+{
+    for k in 0..xs.len() {
+        if !start_ok(flags[k], k, xs[k], ys[k]) {
+            return false;
+        }
+    }
+    true
+}
+
+// Whether every number of the listing may be written.
+pub fn listing_writable(
+    width: f64,
+    height: f64,
+    xs: &[f64],
+    ys: &[f64],
+    flags: &[u8],
+    records: &[f64],
+    count: usize,
+) -> bool
+    requires { ⌜ (length (now ys) ≡ length (now xs)) × (length (now flags) ≡ length (now xs)) × (20 * count ≤ length (now records)) ⌝ }
+    ensures { λ r. ⌜ r ≡ S.listWritable width height (centres (now (xs .entry)) (now (ys .entry))) (now (flags .entry)) (decodeRecords count (now (records .entry))) ⌝ }
+{
+    if !pair_ok(width, height) {
+        return false;
+    }
+    if !states_ok(xs, ys) {
+        return false;
+    }
+    if !records_ok(records, count) {
+        return false;
+    }
+    starts_ok(xs, ys, flags)
+}
