@@ -1,0 +1,235 @@
+-- What one arrow leaves, and the first i arrows. Assumes nothing.
+use mathlib.Core.Path.{_≡_, refl, sym, ap, _∙_, subst}
+use mathlib.Core.Bool.{Bool, true, false, cond, not, _&&_, true≢false}
+use mathlib.Core.List.{List, [], _∷_, _++_, append-nil, append-assoc}
+use Prim.Native.Nat.{ℕ, zero, suc, _+_, _*_, _%_, _≤_, _<_}
+use native.Mathlib.Omega.{arith}
+use borrow.Author.Tests.{ltb-true, eqb-true, eq-eqb, ne-eqb}
+use lib.Dec.{ltb, eqb}
+use lib.ListN.{length, getD, drop, set}
+use lib.Ieee.{Float, nan, inf, fin, lt, ofBits}
+use Rattle.laws.specs.Cases.{by-bool}
+use Rattle.laws.specs.Put.{put}
+use Rattle.float.specs.Constants.{f0, infinity}
+use Rattle.float.specs.Standins.{abs}
+use Rattle.shape.specs.declared.«V».{«V»}
+use Rattle.trace.specs.Traces.{Trace, nobody, traceOf, arrow}
+use Rattle.trace.specs.Form.{decodeTraces}
+use Rattle.free.specs.Centres.{centre, centres}
+use Rattle.bow.specs.declared.Routed.{Routed}
+use Rattle.bow.specs.declared.Joined.the-variants as Joined
+use Rattle.bow.specs.Bend.{leads}
+use Rattle.bow.specs.Between.{between}
+use Rattle.rim.specs.Rims.{leaveAngle, reachAngle}
+use Rattle.records.specs.Slots.{routedFields}
+use Rattle.place.specs.Scene.{Scene}
+use Rattle.routing.specs.Routing.{Frame, Numbered, isKept, isLoop, isArc, isBeyond, joined, beyond, arcShape, startCurve, startTraces}
+use Rattle.routing.specs.Passes.{frameBy, isCrossing, routedBy, routedOf, routeOf, kindOf, leaveOf, reachOf, tracesOf}
+use Rattle.routing.specs.Sheets.{orZero}
+use Rattle.routing.specs.Order.{isLost, first-scene}
+use Rattle.lay.specs.declared.Laid.{Laid}
+use Rattle.lay.specs.declared.Laid.the-variants.{Traces, Beyond}
+use Rattle.lay.specs.Lay.{Slices, slices, LaidAll}
+use Rattle.lay.specs.Steps.{arrowAt, otherKind, Along, Crossing, One, LaidOne, Arrows, LaidArrows}
+use Rattle.lay.specs.Numbers.{paired-is}
+use Rattle.lay.specs.Traces.{starts-turn}
+
+-- ---- an arrow between different states
+
+both : (a b : Bool) → a && b ≡ true → (a ≡ true) × (b ≡ true)
+both true b e = (refl, e)
+both false b e = absurd (true≢false (sym e))
+
+not-true : (b : Bool) → not b ≡ true → b ≡ false
+not-true true e = absurd (true≢false (sym e))
+not-true false e = refl
+
+module _ (f : Frame) (a : Numbered) (t : isCrossing f a ≡ true) where
+  crossing-kept : isKept f a ≡ true
+  crossing-kept = both (isKept f a) (not (isLoop a)) t .0
+
+  crossing-ends : isLoop a ≡ false
+  crossing-ends = not-true (isLoop a) (both (isKept f a) (not (isLoop a)) t .1)
+
+  crossing-lost : joined f a ≡ Joined.Beyond → isLost f a ≡ true
+  crossing-lost e = rw (crossing-kept, crossing-ends, e)
+
+  module _ (r : Routed) (e : joined f a ≡ Joined.Arrow r) where
+    routed-is : routedOf f a ≡ r
+    unfolding routedOf
+    routed-is = ap routedBy e
+
+    crossing-clear : isLost f a ≡ false
+    crossing-clear = rw (crossing-kept, crossing-ends, e)
+
+    crossing-kind : kindOf f a ≡ cond (arcShape (r .shape)) 2 3
+    unfolding kindOf
+    crossing-kind = rw (crossing-kept, crossing-ends) (ap (λ (q : Routed). cond (arcShape (q .shape)) 2 3) routed-is)
+
+    crossing-leave : leaveOf f a ≡ leaveAngle (r .curve) (centre (f .centres) (a .ends .source))
+    unfolding leaveOf
+    crossing-leave = rw t (ap (λ (q : Routed). leaveAngle (q .curve) (centre (f .centres) (a .ends .source))) routed-is)
+
+    crossing-reach : reachOf f a ≡ reachAngle (r .curve) (centre (f .centres) (a .ends .target))
+    unfolding reachOf
+    crossing-reach = rw t (ap (λ (q : Routed). reachAngle (q .curve) (centre (f .centres) (a .ends .target))) routed-is)
+
+    crossing-traces : tracesOf f a ≡ traceOf (arrow (a .edge)) (r .curve) ∷ []
+    unfolding tracesOf
+    crossing-traces = rw t (ap (λ (q : Routed). traceOf (arrow (a .edge)) (q .curve) ∷ []) routed-is)
+
+    along-one : (nt m : ℕ) (s u : Slices) → Along (f .centres) (a .ends .source) (a .ends .target) (a .edge) r nt m s u → One f a nt m s u
+    along-one nt m s u g = record {
+      clear = crossing-clear;
+      kinds = g .kinds ∙ ap (set (s .kinds) (a .edge)) (sym crossing-kind);
+      leaves = g .leaves ∙ ap (set (s .leaves) (a .edge)) (sym crossing-leave);
+      reaches = g .reaches ∙ ap (set (s .reaches) (a .edge)) (sym crossing-reach);
+      slots = rw t (g .slots ∙ ap (λ (q : Routed). put (s .slots) (20 * a .edge) (routedFields q)) (sym routed-is));
+      traces = g .traces ∙ ap (λ (l : List Trace). decodeTraces nt (s .traces) ++ l) (sym crossing-traces);
+      room = omega (arith, g .many);
+    }
+
+-- ---- any other arrow
+
+twice : (x : Bool) → _≡_ {A = ℕ} (cond (x && x) 1 0) (cond x 1 0)
+twice true = refl
+twice false = refl
+
+apart-not : (x y : Bool) (k : ℕ) → x && y && true ≡ false → cond (x && y) k 0 ≡ cond x 0 0
+apart-not true true k h = absurd (true≢false h)
+apart-not true false k h = refl
+apart-not false y k h = refl
+
+never : (x y z : Bool) → x && y ≡ false → x && (y && z) ≡ false
+never true true z h = absurd (true≢false h)
+never true false z h = refl
+never false y z h = refl
+
+other-kind-is : (n a b k : ℕ) → ltb a n && ltb b n && not (eqb a b) ≡ false → cond (ltb a n && ltb b n) (cond (eqb a b) 1 k) 0 ≡ otherKind n a b
+other-kind-is n a b k t =
+    by-bool (eqb a b)
+    (λ q. let e : a ≡ b = eqb-true a b q in rw (q, ← e) (twice (ltb a n)))
+    (λ q. rw q (apart-not (ltb a n) (ltb b n) k (rw q at t)))
+
+module _ (f : Frame) (a : Numbered) (t : isCrossing f a ≡ false) where
+  pub other-kind : kindOf f a ≡ otherKind (length (f .flags)) (a .ends .source) (a .ends .target)
+  unfolding kindOf
+  other-kind = other-kind-is (length (f .flags)) (a .ends .source) (a .ends .target) (cond (isArc (routeOf f a)) 2 3) t
+
+  other-clear : isLost f a ≡ false
+  other-clear = never (isKept f a) (not (isLoop a)) (isBeyond (joined f a)) t
+
+  other-leave : leaveOf f a ≡ f0
+  unfolding leaveOf
+  other-leave = rw t
+
+  other-reach : reachOf f a ≡ f0
+  unfolding reachOf
+  other-reach = rw t
+
+  other-traces : tracesOf f a ≡ []
+  unfolding tracesOf
+  other-traces = rw t
+
+  pub other-one : (nt : ℕ) (s u : Slices) → u .kinds ≡ set (s .kinds) (a .edge) (otherKind (length (f .flags)) (a .ends .source) (a .ends .target))
+      → u .leaves ≡ set (s .leaves) (a .edge) f0 → u .reaches ≡ set (s .reaches) (a .edge) f0 → u .slots ≡ s .slots → u .traces ≡ s .traces → One f a nt nt s u
+  other-one nt s u k l r p q = record {
+    clear = other-clear;
+    kinds = k ∙ ap (set (s .kinds) (a .edge)) (sym other-kind);
+    leaves = l ∙ ap (set (s .leaves) (a .edge)) (sym other-leave);
+    reaches = r ∙ ap (set (s .reaches) (a .edge)) (sym other-reach);
+    slots = rw t p;
+    traces = ap (decodeTraces nt) q ∙ sym (append-nil (decodeTraces nt (s .traces))) ∙ ap (λ (v : List Trace). decodeTraces nt (s .traces) ++ v) (sym other-traces);
+    room = omega arith;
+  }
+
+-- ---- arrow i, from slices
+module _ (flags : List ℕ) (xs ys : List Float) (sources targets : List ℕ) (n : length targets ≡ length sources) (i : ℕ) where
+  joined-is : joined (frameBy flags xs ys sources targets) (arrowAt sources targets i) ≡ between (centres xs ys) (getD sources i 0) (getD targets i 0) (leads sources targets (getD targets i 0) (getD sources i 0))
+  unfolding joined
+  joined-is = ap (between (centres xs ys) (getD sources i 0) (getD targets i 0)) (paired-is flags xs ys sources targets n (arrowAt sources targets i))
+
+  module _ (t : isCrossing (frameBy flags xs ys sources targets) (arrowAt sources targets i) ≡ true) (nt : ℕ) (l : Laid) (s u : Slices) where
+    pub crossing-one : Crossing (centres xs ys) sources targets (getD sources i 0) (getD targets i 0) i nt l s u → LaidOne (frameBy flags xs ys sources targets) (arrowAt sources targets i) nt l s u
+    crossing-one = go l
+      where
+        go : (l : Laid) → Crossing (centres xs ys) sources targets (getD sources i 0) (getD targets i 0) i nt l s u → LaidOne (frameBy flags xs ys sources targets) (arrowAt sources targets i) nt l s u
+        go (Traces m) g = along-one (frameBy flags xs ys sources targets) (arrowAt sources targets i) t (g .routed) (joined-is ∙ g .joins) nt m s u (g .along)
+        go Beyond g = crossing-lost (frameBy flags xs ys sources targets) (arrowAt sources targets i) t (joined-is ∙ g)
+
+-- ---- a number that is missing or not finite
+pub finite-yes : (v : Float) → lt (abs v) infinity ≡ true → v ≡ orZero v
+unfolding lt ofBits
+finite-yes nan e = absurd (true≢false (sym e))
+finite-yes (inf s) e = absurd (true≢false (sym e))
+finite-yes (fin s m e) h = refl
+
+pub finite-no : (v : Float) → lt (abs v) infinity ≡ false → f0 ≡ orZero v
+unfolding lt ofBits
+finite-no nan e = refl
+finite-no (inf s) e = refl
+finite-no (fin s m e) h = absurd (true≢false h)
+
+pub missing : f0 ≡ orZero f0
+unfolding ofBits
+missing = refl
+
+-- what is read does not depend on what stands for a missing one
+pub read-any : {A : Type 0} (l : List A) (i : ℕ) (d e : A) → i < length l → getD l i d ≡ getD l i e
+read-any [] i d e h = absurd (omega arith)
+read-any (x ∷ l) zero d e h = refl
+read-any (x ∷ l) (suc i) d e h = read-any l i d e (omega arith)
+
+pub apart-ends : (n a b : ℕ) → ltb a n && ltb b n && not (eqb a b) ≡ true → (a < n) × (b < n)
+apart-ends n a b t =
+    let k = both (ltb a n) (ltb b n) (both (ltb a n && ltb b n) (not (eqb a b)) t .0) in
+    (ltb-true a n (k .0), ltb-true b n (k .1))
+
+-- ---- start arrows
+pub start-yes : (flag : ℕ) (c : «V») → flag % 2 ≡ 1 → startTraces (flag ∷ []) (c ∷ []) ≡ traceOf nobody (startCurve c) ∷ []
+start-yes flag c e = rw (eq-eqb (flag % 2) 1 e)
+
+pub start-no : (flag : ℕ) (c : «V») → (flag % 2 ≡ 1 → ⊥) → startTraces (flag ∷ []) (c ∷ []) ≡ []
+start-no flag c e = rw (ne-eqb (flag % 2) 1 e)
+
+pub starts-more : (flags : List ℕ) (cs : List «V») (k : ℕ) (p q r : List Trace) → length cs ≡ length flags → k < length flags
+    → q ≡ p ++ startTraces (getD flags k 0 ∷ []) (centre cs k ∷ []) → p ++ startTraces (drop k flags) (drop k cs) ≡ r
+    → q ++ startTraces (drop (k + 1) flags) (drop (k + 1) cs) ≡ r
+starts-more flags cs k p q r n h e g =
+    ap (λ (x : List Trace). x ++ startTraces (drop (k + 1) flags) (drop (k + 1) cs)) e
+    ∙ append-assoc p (startTraces (getD flags k 0 ∷ []) (centre cs k ∷ [])) (startTraces (drop (k + 1) flags) (drop (k + 1) cs))
+    ∙ ap (p ++_) (sym (starts-turn flags cs k n h))
+    ∙ g
+
+-- ---- all, by the answer's case
+module _ (f : Frame) (a b : Numbered) (nt : ℕ) (l : Laid) (s u : Slices) (q : a ≡ b) (o : LaidOne f a nt l s u) where
+  pub one-of : (m : ℕ) → l ≡ Traces m → One f b nt m s u
+  one-of m e = subst (λ (x : Numbered). One f x nt m s u) q (subst (λ (x : Laid). LaidOne f a nt x s u) e o)
+
+  pub lost-of : l ≡ Beyond → isLost f b ≡ true
+  lost-of e = subst (λ (x : Numbered). isLost f x ≡ true) q (subst (λ (x : Laid). LaidOne f a nt x s u) e o)
+
+module _ (f : Frame) (l : Laid) (s : Slices) (o : LaidArrows f l s) where
+  pub arrows-of : (m : ℕ) → l ≡ Traces m → Arrows f m s
+  arrows-of m e = subst (λ (x : Laid). LaidArrows f x s) e o
+
+  pub beyond-of : l ≡ Beyond → beyond f ≡ true
+  beyond-of e = subst (λ (x : Laid). LaidArrows f x s) e o
+
+-- the start arrows' traces after the arrows'
+pub laid-all : (f : Frame) (nt m : ℕ) (s : Slices) (traces : List Float) → Arrows f nt s → m ≤ nt + length (f .flags)
+    → decodeTraces m traces ≡ decodeTraces nt (s .traces) ++ startTraces (f .flags) (f .centres)
+    → LaidAll f (Traces m) (slices (s .kinds) (s .leaves) (s .reaches) (s .slots) traces)
+laid-all f nt m s traces o h e = (
+  o .clear,
+  record {
+    kinds = o .kinds;
+    leaves = o .leaves;
+    reaches = o .reaches;
+    slots = o .slots;
+    traces =
+        e ∙ ap (λ (x : List Trace). x ++ startTraces (f .flags) (f .centres)) (o .traces)
+        ∙ sym (ap (λ (x : Scene). x .traces) (first-scene f (o .clear)));
+    room = omega (arith, o .room);
+  },
+)

@@ -1,0 +1,107 @@
+-- `lay::lay_routed` meets its contract.
+use mathlib.Core.Path.{ap, _∙_}
+use mathlib.Core.List.{[], _∷_, _++_}
+use Prim.Native.Nat.{ℕ}
+use native.Mathlib.Numerals.{add-one}
+use lib.ListN.{set}
+use denote.Ref.{now}
+use Rattle.rim.specs.Rims.{leaveAngle, reachAngle}
+use Rattle.trace.specs.Traces.{traceOf, ownerOf}
+use Rattle.trace.specs.Form.{decodeTraces}
+use borrow.Author.Needs.{needs}
+use Rattle.lay.proofs.lay_routed.Statement.{statement}
+use Rattle.lay.proofs.lay_routed.Tie as tie
+
+kind-of-requires : tie.Need-kind-of-requires
+kind-of-requires c κs = search needs
+
+mul-kinds : tie.Need-mul-kinds
+mul-kinds c = search needs
+
+slice-write-kinds : tie.Need-slice-write-kinds
+slice-write-kinds c = search needs
+
+centre-requires : tie.Need-centre-requires
+centre-requires c κs = search needs
+
+leave-angle-requires : tie.Need-leave-angle-requires
+leave-angle-requires c κs = search needs
+
+mul-leaves : tie.Need-mul-leaves
+mul-leaves c = search needs
+
+slice-write-leaves : tie.Need-slice-write-leaves
+slice-write-leaves c = search needs
+
+centre-requires-2 : tie.Need-centre-requires-2
+centre-requires-2 c κs = search needs
+
+reach-angle-requires : tie.Need-reach-angle-requires
+reach-angle-requires c κs = search needs
+
+mul-reaches : tie.Need-mul-reaches
+mul-reaches c = search needs
+
+slice-write-reaches : tie.Need-slice-write-reaches
+slice-write-reaches c = search needs
+
+put-routed-requires : tie.Need-put-routed-requires
+put-routed-requires c κs = search needs
+
+add-push-trace : tie.Need-add-push-trace
+add-push-trace c = search needs
+
+push-trace-requires : tie.Need-push-trace-requires
+push-trace-requires c κs = search needs
+
+same-length : tie.Need-same-length
+same-length c = search needs
+
+same-length-2 : tie.Need-same-length-2
+same-length-2 c = search needs
+
+same-length-3 : tie.Need-same-length-3
+same-length-3 c = search needs
+
+same-length-4 : tie.Need-same-length-4
+same-length-4 c = search needs
+
+same-length-5 : tie.Need-same-length-5
+same-length-5 c = search needs
+
+returns : tie.Need-returns
+returns c =
+    let a = c .before .before .before .before .before .before .before .before .before .before .before .before .before .before .before .before .before .before .before .before .args in
+    record {
+      kinds = ap (set (now (a .kinds)) (a .i)) (c .before .before .before .before .before .before .before .before .before .before .before .before .kind-of .ensures);
+      leaves = ap (set (now (a .leaves)) (a .i)) (c .before .before .before .before .before .before .before .before .before .before .leave-angle .ensures ∙ ap (leaveAngle (a .r .curve)) (c .before .before .before .before .before .before .before .before .before .before .before .centre .ensures));
+      reaches = ap (set (now (a .reaches)) (a .i)) (c .before .before .before .before .before .before .before .before .reach-angle .ensures ∙ ap (reachAngle (a .r .curve)) (c .before .before .before .before .before .before .before .before .before .centre2 .ensures));
+      slots = c .before .before .before .before .before .before .put-routed .ensures;
+      many = c .before .before .push-trace .ensures .0;
+      traces = c .before .before .push-trace .ensures .1 ∙ ap (λ (n : ℕ). decodeTraces (a .nt) (now (a .traces)) ++ (traceOf (ownerOf n) (a .r .curve) ∷ [])) (add-one (a .i));
+    }
+
+pub lay-routed-spec : {M : Type 1} → statement M
+lay-routed-spec =
+    tie.close
+    (tie.spec
+    kind-of-requires
+    mul-kinds
+    slice-write-kinds
+    centre-requires
+    leave-angle-requires
+    mul-leaves
+    slice-write-leaves
+    centre-requires-2
+    reach-angle-requires
+    mul-reaches
+    slice-write-reaches
+    put-routed-requires
+    add-push-trace
+    push-trace-requires
+    same-length
+    same-length-2
+    same-length-3
+    same-length-4
+    same-length-5
+    returns)

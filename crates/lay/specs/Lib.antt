@@ -1,0 +1,5 @@
+pub mod Lay
+pub mod Steps
+pub mod Filled
+pub mod Numbers
+pub mod Traces

@@ -1,0 +1,313 @@
+// What `geometry` has before any label: the curve of each arrow between different states, its kind and where it meets the rims, and the traces of
+// the first scene. An arrow's curve stands in the twenty numbers of its own slot.
+use bow::Joined;
+use bow::Routed;
+use bow::Shape;
+use shape::Curve;
+use shape::V;
+ghost use mathlib.Core.Path.{_≡_};
+ghost use mathlib.Core.Bool.{cond};
+ghost use mathlib.Core.List.{[], _∷_, _++_};
+ghost use Prim.Native.Nat.{_+_, _*_, _≤_, _<_};
+ghost use lib.ListN.{length, getD};
+ghost use Rattle.laws.specs.Flat.{table};
+ghost use Rattle.float.specs.Constants.{f0};
+ghost use Rattle.free.specs.Centres.{centres};
+ghost use Rattle.trace.specs.Form.{decodeTraces};
+ghost use Rattle.routing.specs.Routing.{arcShape, startCurve, startTraces};
+ghost use Rattle.routing.specs.Passes.{frameBy};
+ghost use Rattle.routing.specs.Sheets.{orZero};
+ghost use Rattle.lay.specs.Lay as S;
+ghost use Rattle.lay.specs.Steps as O;
+
+// How many traces there are, or a two-way pair whose first free bow exceeds 10^9.
+pub enum Laid {
+    Traces(usize),
+    Beyond,
+}
+
+// ---- centres
+
+// 0 for what is not finite.
+fn or_zero(v: f64) -> f64
+    ensures { λ r. ⌜ r ≡ orZero v ⌝ }
+{
+    if float::abs(v) < f64::from_bits(0x7ff0_0000_0000_0000) {
+        return v;
+    }
+    0.0
+}
+
+// Number k of v, 0 where it is missing or not finite.
+fn centred_at(v: &[f64], k: usize) -> f64
+    ensures { λ r. ⌜ r ≡ orZero (getD (now (v .entry)) k f0) ⌝ }
+{
+    if k < v.len() {
+        return or_zero(v[k]);
+    }
+    0.0
+}
+
+// Centres missing or not finite count as 0.
+pub fn centred(v: &[f64], out: &mut [f64])
+    ensures { λ _. ⌜ now (out .exit) ≡ table (λ k. orZero (getD (now (v .entry)) k f0)) 0 (length (now (out .entry))) ⌝ }
+{
+    for k in 0..out.len() {
+        out[k] = centred_at(v, k);
+    }
+}
+
+// ---- arrows
+
+// 2 an arc, 3 straight.
+fn kind_of(shape: Shape) -> usize
+    ensures { λ r. ⌜ r ≡ cond (arcShape shape) 2 3 ⌝ }
+{
+    match shape {
+        Shape::Line => 3,
+        Shape::Arc(_) => 2,
+        Shape::Loop(_) => 3,
+    }
+}
+
+// 1 a loop, 0 left out: the kind of an arrow that does not join two different states.
+fn other_kind(n: usize, a: usize, b: usize) -> usize
+    ensures { λ r. ⌜ r ≡ O.otherKind n a b ⌝ }
+{
+    if a < n {
+        if a == b {
+            return 1;
+        }
+    }
+    0
+}
+
+// Arrow i, from state a to state b along r: its slot, its kind and its angles, and its trace after nt; how many traces there are then.
+fn lay_routed(
+    xs: &[f64],
+    ys: &[f64],
+    a: usize,
+    b: usize,
+    i: usize,
+    r: Routed,
+    kinds: &mut [usize],
+    leaves: &mut [f64],
+    reaches: &mut [f64],
+    slots: &mut [f64],
+    traces: &mut [f64],
+    nt: usize,
+) -> usize
+    requires { ⌜ (length (now ys) ≡ length (now xs)) × (a < length (now xs)) × (b < length (now xs)) ⌝ }
+    requires { ⌜ O.Room i nt (length (now kinds)) (length (now leaves)) (length (now reaches)) (length (now slots)) (length (now traces)) ⌝ }
+    ensures { λ m. ⌜ O.Along (centres (now (xs .entry)) (now (ys .entry))) a b i r nt m (S.slices (now (kinds .entry)) (now (leaves .entry)) (now (reaches .entry)) (now (slots .entry)) (now (traces .entry))) (S.slices (now (kinds .exit)) (now (leaves .exit)) (now (reaches .exit)) (now (slots .exit)) (now (traces .exit))) ⌝ }
+{
+    let curve = r.curve;
+    let shape = r.shape;
+    kinds[i] = kind_of(shape);
+    leaves[i] = rim::leave_angle(curve, free::centre(xs, ys, a));
+    reaches[i] = rim::reach_angle(curve, free::centre(xs, ys, b));
+    records::put_routed(slots, i, r);
+    trace::push_trace(traces, nt, i + 1, curve)
+}
+
+// Arrow i, from state a to another state b.
+fn lay_crossing(
+    xs: &[f64],
+    ys: &[f64],
+    sources: &[usize],
+    targets: &[usize],
+    a: usize,
+    b: usize,
+    i: usize,
+    kinds: &mut [usize],
+    leaves: &mut [f64],
+    reaches: &mut [f64],
+    slots: &mut [f64],
+    traces: &mut [f64],
+    nt: usize,
+) -> Laid
+    requires { ⌜ (length (now ys) ≡ length (now xs)) × (length (now xs) ≤ 64) × (length (now targets) ≡ length (now sources)) × (a < length (now xs)) × (b < length (now xs)) ⌝ }
+    requires { ⌜ O.Room i nt (length (now kinds)) (length (now leaves)) (length (now reaches)) (length (now slots)) (length (now traces)) ⌝ }
+    ensures { λ l. ⌜ O.Crossing (centres (now (xs .entry)) (now (ys .entry))) (now (sources .entry)) (now (targets .entry)) a b i nt l (S.slices (now (kinds .entry)) (now (leaves .entry)) (now (reaches .entry)) (now (slots .entry)) (now (traces .entry))) (S.slices (now (kinds .exit)) (now (leaves .exit)) (now (reaches .exit)) (now (slots .exit)) (now (traces .exit))) ⌝ }
+{
+    let both_ways = bow::leads(sources, targets, b, a);
+    let j = bow::between(xs, ys, a, b, both_ways);
+    match j {
+        Joined::Arrow(r) => Laid::Traces(lay_routed(
+            xs,
+            ys,
+            a,
+            b,
+            i,
+            r,
+            kinds,
+            leaves,
+            reaches,
+            slots,
+            traces,
+            nt,
+        )),
+        Joined::Beyond => Laid::Beyond,
+    }
+}
+
+// Arrow i: a loop or one that is left out has no curve yet.
+fn lay_arrow(
+    xs: &[f64],
+    ys: &[f64],
+    flags: &[u8],
+    sources: &[usize],
+    targets: &[usize],
+    i: usize,
+    kinds: &mut [usize],
+    leaves: &mut [f64],
+    reaches: &mut [f64],
+    slots: &mut [f64],
+    traces: &mut [f64],
+    nt: usize,
+) -> Laid
+    requires { ⌜ O.Ready (length (now xs)) (length (now ys)) (length (now flags)) (length (now sources)) (length (now targets)) ⌝ }
+    requires { ⌜ i < length (now sources) ⌝ }
+    requires { ⌜ O.Room i nt (length (now kinds)) (length (now leaves)) (length (now reaches)) (length (now slots)) (length (now traces)) ⌝ }
+    ensures { λ l. ⌜ O.LaidOne (frameBy (now (flags .entry)) (now (xs .entry)) (now (ys .entry)) (now (sources .entry)) (now (targets .entry))) (O.arrowAt (now (sources .entry)) (now (targets .entry)) i) nt l (S.slices (now (kinds .entry)) (now (leaves .entry)) (now (reaches .entry)) (now (slots .entry)) (now (traces .entry))) (S.slices (now (kinds .exit)) (now (leaves .exit)) (now (reaches .exit)) (now (slots .exit)) (now (traces .exit))) ⌝ }
+{
+    let n = flags.len();
+    let a = sources[i];
+    let b = targets[i];
+    if rim::apart(n, a, b) {
+        return lay_crossing(
+            xs,
+            ys,
+            sources,
+            targets,
+            a,
+            b,
+            i,
+            kinds,
+            leaves,
+            reaches,
+            slots,
+            traces,
+            nt,
+        );
+    }
+    kinds[i] = other_kind(n, a, b);
+    leaves[i] = 0.0;
+    reaches[i] = 0.0;
+    Laid::Traces(nt)
+}
+
+// All arrows, in order.
+fn lay_arrows(
+    xs: &[f64],
+    ys: &[f64],
+    flags: &[u8],
+    sources: &[usize],
+    targets: &[usize],
+    kinds: &mut [usize],
+    leaves: &mut [f64],
+    reaches: &mut [f64],
+    slots: &mut [f64],
+    traces: &mut [f64],
+) -> Laid
+    requires { ⌜ O.Ready (length (now xs)) (length (now ys)) (length (now flags)) (length (now sources)) (length (now targets)) ⌝ }
+    requires { ⌜ O.Wide (length (now sources)) (length (now kinds)) (length (now leaves)) (length (now reaches)) (length (now slots)) (length (now traces)) ⌝ }
+    ensures { λ l. ⌜ O.LaidArrows (frameBy (now (flags .entry)) (now (xs .entry)) (now (ys .entry)) (now (sources .entry)) (now (targets .entry))) l (S.slices (now (kinds .exit)) (now (leaves .exit)) (now (reaches .exit)) (now (slots .exit)) (now (traces .exit))) ⌝ }
+{
+    let mut nt: usize = 0;
+    let mut i: usize = 0;
+    while i < sources.len() {
+        let l = lay_arrow(
+            xs,
+            ys,
+            flags,
+            sources,
+            targets,
+            i,
+            kinds,
+            leaves,
+            reaches,
+            slots,
+            traces,
+            nt,
+        );
+        let Laid::Traces(m) = l else {
+            return Laid::Beyond;
+        };
+        nt = m;
+        i += 1;
+    }
+    Laid::Traces(nt)
+}
+
+// ---- start arrows
+
+// The start arrow of a state at c, from the left to the rim.
+fn start_curve(c: V) -> Curve
+    ensures { λ r. ⌜ r ≡ startCurve c ⌝ }
+{
+    let tip = c.sub(V::new(22.0, 0.0));
+    let tail = tip.sub(V::new(28.0, 0.0));
+    Curve::Line(tail, tip)
+}
+
+// The trace of the start arrow, owned by no arrow, of a state with this flag byte at c; how many traces there are then.
+fn push_start(flag: u8, c: V, traces: &mut [f64], nt: usize) -> usize
+    requires { ⌜ 40 * nt + 40 ≤ length (now traces) ⌝ }
+    ensures { λ m. ⌜ (m ≤ nt + 1) × (decodeTraces m (now (traces .exit)) ≡ decodeTraces nt (now (traces .entry)) ++ startTraces (flag ∷ []) (c ∷ [])) ⌝ }
+{
+    if flag % 2 == 1 {
+        return trace::push_trace(traces, nt, 0, start_curve(c));
+    }
+    nt
+}
+
+// The start arrows of all states.
+fn push_starts(flags: &[u8], xs: &[f64], ys: &[f64], traces: &mut [f64], nt: usize) -> usize
+    requires { ⌜ (length (now ys) ≡ length (now xs)) × (length (now flags) ≡ length (now xs)) × (40 * (nt + length (now xs)) ≤ length (now traces)) ⌝ }
+    ensures { λ m. ⌜ (m ≤ nt + length (now (xs .entry))) × (decodeTraces m (now (traces .exit)) ≡ decodeTraces nt (now (traces .entry)) ++ startTraces (now (flags .entry)) (centres (now (xs .entry)) (now (ys .entry)))) ⌝ }
+{
+    let mut m = nt;
+    for k in 0..xs.len() {
+        m = push_start(flags[k], free::centre(xs, ys, k), traces, m);
+    }
+    m
+}
+
+// ---- all
+
+// What is known of each arrow before any label is placed, and the traces of the first scene.
+// The slices are working space: where the answer is Beyond, nothing is said of them.
+pub fn lay(
+    xs: &[f64],
+    ys: &[f64],
+    flags: &[u8],
+    sources: &[usize],
+    targets: &[usize],
+    kinds: &mut [usize],
+    leaves: &mut [f64],
+    reaches: &mut [f64],
+    slots: &mut [f64],
+    traces: &mut [f64],
+) -> Laid
+    requires { ⌜ (length (now ys) ≡ length (now xs)) × (length (now flags) ≡ length (now xs)) × (length (now xs) ≤ 64) × (length (now targets) ≡ length (now sources)) × (length (now sources) ≤ 256) ⌝ }
+    requires { ⌜ (length (now kinds) ≡ length (now sources)) × (length (now leaves) ≡ length (now sources)) × (length (now reaches) ≡ length (now sources)) × (20 * length (now sources) ≤ length (now slots)) × (40 * (length (now sources) + length (now xs)) ≤ length (now traces)) ⌝ }
+    ensures { λ l. ⌜ S.LaidAll (frameBy (now (flags .entry)) (now (xs .entry)) (now (ys .entry)) (now (sources .entry)) (now (targets .entry))) l (S.slices (now (kinds .exit)) (now (leaves .exit)) (now (reaches .exit)) (now (slots .exit)) (now (traces .exit))) ⌝ }
+{
+    let l = lay_arrows(
+        xs,
+        ys,
+        flags,
+        sources,
+        targets,
+        kinds,
+        leaves,
+        reaches,
+        slots,
+        traces,
+    );
+    let Laid::Traces(nt) = l else {
+        return Laid::Beyond;
+    };
+    Laid::Traces(push_starts(flags, xs, ys, traces, nt))
+}
