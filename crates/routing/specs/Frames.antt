@@ -1,5 +1,5 @@
 -- The frame and the sizes of a sheet's graph, as the slices hold them. Assumes nothing.
-use mathlib.Core.Path.{_≡_, refl, sym, ap, ap₂, _∙_}
+use mathlib.Core.Path.{_≡_, refl, ap, ap₂}
 use mathlib.Core.List.{List, [], _∷_, map}
 use Prim.Native.Nat.{ℕ, zero, suc}
 use lib.ListN.{length, getD}
@@ -12,7 +12,7 @@ use Rattle.shape.specs.Plane.{vec}
 use Rattle.free.specs.Centres.{centres}
 use Rattle.sheet.specs.Sheet.{Arrow, Graph}
 use Rattle.label.specs.Label.{blockWidth, blockHeight}
-use Rattle.routing.specs.Routing.{Ends, Frame, Size}
+use Rattle.routing.specs.Routing.{Ends, Size}
 use Rattle.routing.specs.Passes.{endsBy, frameBy, sizesBy}
 use Rattle.routing.specs.Passes as Passes
 use Rattle.routing.specs.Sheets.{orZero, centreAt, endsOf, sizeOf, frameOf, sizesOf}

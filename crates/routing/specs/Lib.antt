@@ -9,3 +9,4 @@ pub mod Turns
 pub mod Rim
 pub mod Sheets
 pub mod Frames
+pub mod Decoded
