@@ -10,6 +10,35 @@ use crate::svg;
 
 thread_local! {
     static LARGEST_BOW: Cell<f64> = const { Cell::new(0.0) };
+    static PLACE: Cell<usize> = const { Cell::new(0) };
+    static TURNS: Cell<Turns> = const { Cell::new(Turns { taken: [0; 3], later: 0 }) };
+}
+
+/// The turns of some routings: of loops, arcs and straight arrows, and those that took a place or
+/// direction other than the first listed.
+#[derive(Clone, Copy, Default)]
+pub struct Turns {
+    pub taken: [usize; 3],
+    pub later: usize,
+}
+
+pub fn note_place(place: usize) {
+    PLACE.set(place);
+}
+
+pub fn note_turn(sort: usize) {
+    let mut t = TURNS.get();
+    t.taken[sort] += 1;
+    t.later += usize::from(PLACE.get() > 0);
+    TURNS.set(t);
+}
+
+/// The turns of what `f` routes.
+#[cfg(port = "murshogi")]
+pub fn turned<T>(f: impl FnOnce() -> T) -> (T, Turns) {
+    TURNS.set(Turns::default());
+    let answer = f();
+    (answer, TURNS.get())
 }
 
 /// Notes the first free bow of a two-way pair, and hands it back.

@@ -3,7 +3,7 @@
 
 use std::collections::BTreeMap;
 
-use crate::calls;
+use crate::calls::{self, Turns};
 use crate::generate::{centres, drawing, shuffled};
 use crate::random::Random;
 use crate::sheet::label_block;
@@ -55,9 +55,12 @@ fn holds_bytes(lent: &[u8], wanted: &[u8]) -> bool {
         && lent.iter().enumerate().all(|(i, &b)| b == wanted.get(i).copied().unwrap_or(BYTE))
 }
 
+#[derive(Default)]
 struct Runs {
     counts: BTreeMap<(&'static str, u8), usize>,
     differ: usize,
+    turns: Turns,
+    left_out: usize,
 }
 
 impl Runs {
@@ -75,6 +78,34 @@ impl Runs {
         }
         println!("{name}: the oracle says {answer}");
     }
+
+    /// Counts the turns of a routing with so many records.
+    fn turned(&mut self, turns: Turns, sheet: &[u8], records: usize) {
+        for (sum, n) in self.turns.taken.iter_mut().zip(turns.taken) {
+            *sum += n;
+        }
+        self.turns.later += turns.later;
+        self.left_out += crate::sheet::read(sheet).map_or(0, |s| s.arrows.len()) - records;
+    }
+
+    /// Prints the counts; ends the program where something differs.
+    fn end(&self) {
+        for ((call, answer), count) in &self.counts {
+            println!("{call:<12} answer {answer:>2}: {count}");
+        }
+        let Turns { taken: [loops, arcs, straight], later } = self.turns;
+        let all = loops + arcs + straight;
+        println!(
+            "routed: {all} arrows ({loops} loops, {arcs} arcs, {straight} straight), {} left out; \
+             {later} turns took a place other than the first",
+            self.left_out
+        );
+        let all: usize = self.counts.values().sum();
+        println!("{all} calls, {} differ", self.differ);
+        if self.differ > 0 {
+            std::process::exit(1);
+        }
+    }
 }
 
 /// The room for an answer of n: plenty, just enough, one too few, or none.
@@ -88,12 +119,37 @@ fn room(rng: &mut Random, n: usize) -> usize {
     }
 }
 
+/// Routings and clutter counts of sound sheets at centres of every sort.
+pub fn routings(count: usize, seed: u64) {
+    let rng = &mut Random::new(seed);
+    let mut runs = Runs::default();
+    for _ in 0..count {
+        let drawing = drawing(rng);
+        let sheet = shuffled(rng, &drawing);
+        let (xs, ys) = centres(rng, &drawing);
+        routed(&mut runs, rng, &sheet, &xs, &ys);
+        cluttered(&mut runs, &sheet, &xs, &ys);
+    }
+    runs.end();
+}
+
+/// Layouts of sound sheets, each by all three kinds.
+pub fn layouts(count: usize, seed: u64) {
+    let rng = &mut Random::new(seed);
+    let mut runs = Runs::default();
+    for _ in 0..count {
+        let drawing = drawing(rng);
+        let sheet = shuffled(rng, &drawing);
+        for kind in 0..3 {
+            placed(&mut runs, rng, &sheet, kind);
+        }
+    }
+    runs.end();
+}
+
 pub fn run(turns: usize, seed: u64) {
     let rng = &mut Random::new(seed);
-    let mut runs = Runs {
-        counts: BTreeMap::new(),
-        differ: 0,
-    };
+    let mut runs = Runs::default();
     for _ in 0..turns {
         let drawing = drawing(rng);
         let mut sheet = shuffled(rng, &drawing);
@@ -102,21 +158,15 @@ pub fn run(turns: usize, seed: u64) {
             damage(rng, &mut sheet);
         }
         checked(&mut runs, &sheet);
-        placed(&mut runs, rng, &sheet);
+        let kind = if rng.once_in(12) { rng.pick(&[3, 4, 255]) } else { rng.below(3) as u8 };
+        placed(&mut runs, rng, &sheet, kind);
         routed(&mut runs, rng, &sheet, &xs, &ys);
         cluttered(&mut runs, &sheet, &xs, &ys);
         listed(&mut runs, rng, &sheet);
         numbered(&mut runs, rng);
         measured(&mut runs, rng);
     }
-    for ((call, answer), count) in &runs.counts {
-        println!("{call:<12} answer {answer:>2}: {count}");
-    }
-    let all: usize = runs.counts.values().sum();
-    println!("{all} calls, {} differ", runs.differ);
-    if runs.differ > 0 {
-        std::process::exit(1);
-    }
+    runs.end();
 }
 
 fn checked(runs: &mut Runs, sheet: &[u8]) {
@@ -125,8 +175,7 @@ fn checked(runs: &mut Runs, sheet: &[u8]) {
     runs.note("check", wanted, got == wanted, sheet, &[], &[]);
 }
 
-fn placed(runs: &mut Runs, rng: &mut Random, sheet: &[u8]) {
-    let kind = if rng.once_in(12) { rng.pick(&[3, 4, 255]) } else { rng.below(3) as u8 };
+fn placed(runs: &mut Runs, rng: &mut Random, sheet: &[u8], kind: u8) {
     let n = calls::layout(sheet, kind, usize::MAX, usize::MAX).map_or(3, |l| l.x.len());
     let (mut x, mut y) = (vec![BEFORE; room(rng, n)], vec![BEFORE; room(rng, n)]);
     let wanted = calls::layout(sheet, kind, x.len(), y.len());
@@ -156,7 +205,10 @@ fn routed(runs: &mut Runs, rng: &mut Random, sheet: &[u8], xs: &[f64], ys: &[f64
         .map_or((20, 20), |r| (r.records.len(), r.text.len()));
     let mut records = vec![BEFORE; room(rng, n)];
     let mut text = vec![BYTE; room(rng, m)];
-    let wanted = calls::route(sheet, xs, ys, (records.len(), text.len()));
+    let (wanted, turns) = calls::turned(|| calls::route(sheet, xs, ys, (records.len(), text.len())));
+    if let Ok(r) = &wanted {
+        runs.turned(turns, sheet, r.records.len() / 20);
+    }
     let mut lengths = [NUMBER; 2];
     let got = unsafe {
         murshogi_route(

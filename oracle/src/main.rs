@@ -55,9 +55,15 @@ fn main() {
         ["bench", "check"] => bench::check(),
         ["list", kind] => list(kind.parse().unwrap_or(255)),
         #[cfg(port = "murshogi")]
+        ["bench", "calls"] => bench::calls(),
+        #[cfg(port = "murshogi")]
+        ["compare", "routings", count, seed] => compare::routings(count.parse().unwrap(), seed.parse().unwrap()),
+        #[cfg(port = "murshogi")]
+        ["compare", "layouts", count, seed] => compare::layouts(count.parse().unwrap(), seed.parse().unwrap()),
+        #[cfg(port = "murshogi")]
         ["compare", turns, seed] => compare::run(turns.parse().unwrap(), seed.parse().unwrap()),
         _ => {
-            eprintln!("usage: oracle vectors FILE | bench root | bench check | list KIND < SHEET | compare TURNS SEED");
+            eprintln!("usage: oracle vectors FILE | bench root | bench check | bench calls | list KIND < SHEET | compare [routings | layouts] COUNT SEED");
             std::process::exit(2);
         }
     }
