@@ -1,0 +1,22 @@
+-- What an exported call returns and what it leaves in the places it is lent for values, from what the call answers.
+use mathlib.Core.List.{List, [], _∷_}
+use Prim.Native.Nat.{ℕ}
+use Rattle.diagram.specs.Calls.{Outcome, values, number}
+
+-- the number returned: 0 where there are values, else the refusal's
+abbrev pub code : {A : Type 0} → Outcome A → ℕ
+code (values v) = 0
+code (number n) = n
+
+-- what a lent place holds afterwards: of the values what `f` takes, and after a refusal what it held before
+abbrev pub after : {A B : Type 0} → (A → B) → Outcome A → B → B
+after f (values v) before = f v
+after f (number n) before = before
+
+-- two numbers in an array
+abbrev pub both : {A : Type 0} → A × A → List A
+both (a, b) = a ∷ b ∷ []
+
+-- one number by itself
+abbrev pub itself : {A : Type 0} → A → A
+itself a = a

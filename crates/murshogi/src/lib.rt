@@ -1,0 +1,50 @@
+// The calls of document 01 for C and Rust, as include/murshogi.h declares them. Each returns 0, or the number of the
+// refusal; what it is lent for values is written only where it returns 0.
+ghost use mathlib.Core.Path.{_≡_};
+ghost use Rattle.diagram.specs.Calls as C;
+ghost use Rattle.murshogi.specs.Exports as S;
+
+// Checks a sheet.
+#[no_mangle]
+pub extern "C" fn murshogi_check(sheet: &[u8]) -> u8
+    ensures { λ r. ⌜ r ≡ S.code (C.check (now (sheet .entry))) ⌝ }
+{
+    let c = diagram::check(sheet);
+    match c {
+        sheet::Checked::Accepted => 0,
+        sheet::Checked::Refused(n) => n,
+    }
+}
+
+// The width and height of a label block: its text, and the length of each line.
+#[no_mangle]
+pub extern "C" fn murshogi_label_size(text: &[u8], lengths: &[usize], size: &mut [f64; 2]) -> u8
+    ensures { λ r. ⌜ r ≡ S.code (C.labelSize (now (text .entry)) (now (lengths .entry))) ⌝ }
+    ensures { λ _. ⌜ now (size .exit) ≡ S.after S.both (C.labelSize (now (text .entry)) (now (lengths .entry))) (now (size .entry)) ⌝ }
+{
+    let c = diagram::label_size(text, lengths);
+    match c {
+        label::Sized::Size(w, h) => {
+            *size = [w, h];
+            0
+        }
+        label::Sized::Refused(n) => n,
+    }
+}
+
+// Writes a number into `out`; `length` is the bytes written.
+#[no_mangle]
+pub extern "C" fn murshogi_write_num(v: f64, out: &mut [u8], length: &mut usize) -> u8
+    ensures { λ r. ⌜ r ≡ S.code (C.writeNum v (now (out .entry))) ⌝ }
+    ensures { λ _. ⌜ now (out .exit) ≡ C.writeNumAfter v (now (out .entry)) ⌝ }
+    ensures { λ _. ⌜ now (length .exit) ≡ S.after S.itself (C.writeNum v (now (out .entry))) (now (length .entry)) ⌝ }
+{
+    let c = diagram::write_num(v, out);
+    match c {
+        number::Written::Length(n) => {
+            *length = n;
+            0
+        }
+        number::Written::Refused(n) => n,
+    }
+}

@@ -1,0 +1,34 @@
+/* Murshogi: the calls of document 01 for C. Link target/staticlib/libmurshogi.a (`rt staticlib murshogi`) and -lm.
+ *
+ * Each call returns 0, or the number of the refusal (1 to 11). What it is lent is written only where it returns 0;
+ * a refused call leaves all as before, and a longer output keeps its tail. crates/murshogi/src/lib.rt has the contracts.
+ *
+ * A pointer with a length is to that many elements. No pointer is null, each is aligned for its type, and what a call
+ * may write overlaps nothing else that the call is lent. The calls keep nothing between them and use no heap.
+ */
+#ifndef MURSHOGI_H
+#define MURSHOGI_H
+
+#include <stddef.h>
+#include <stdint.h>
+
+#ifdef __cplusplus
+extern "C" {
+#endif
+
+/* Checks a sheet: 0 where it is accepted. */
+uint8_t murshogi_check(const uint8_t *sheet, size_t sheet_len);
+
+/* The size of a label block, given its text and the length of each line: size[0] the width, size[1] the height. */
+uint8_t murshogi_label_size(const uint8_t *text, size_t text_len,
+                            const size_t *lengths, size_t lines,
+                            double size[2]);
+
+/* Writes a number, with at most two decimals: the bytes written in length. */
+uint8_t murshogi_write_num(double v, uint8_t *out, size_t out_len, size_t *length);
+
+#ifdef __cplusplus
+}
+#endif
+
+#endif
