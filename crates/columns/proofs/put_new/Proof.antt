@@ -1,0 +1,61 @@
+-- `columns::put_new` meets its contract.
+use mathlib.Core.Path.{_≡_, sym, _∙_}
+use mathlib.Core.Bool.{false}
+use Prim.Native.Nat.{_<_}
+use native.Mathlib.Omega.{arith}
+use lib.ListN.{length, take}
+use lib.Seq.{length-take-le}
+use denote.Ref.{now}
+use Rattle.columns.specs.Columns.{elem}
+use Rattle.columns.proofs.Laws.{kept-none, kept-one}
+use borrow.Author.Needs.{needs}
+use Rattle.columns.proofs.put_new.Statement.{statement}
+use Rattle.columns.proofs.put_new.Tie as tie
+
+slice-reshare-prefix-holds : tie.Need-slice-reshare-prefix-holds
+slice-reshare-prefix-holds c = search needs
+
+slice-aggregate-holds : tie.Need-slice-aggregate-holds
+slice-aggregate-holds c = sym (length-take-le _ _ (omega arith))
+
+holds-requires : tie.Need-holds-requires
+holds-requires c κs = search needs
+
+same-length : tie.Need-same-length
+same-length c = search needs
+
+returns : tie.Need-returns
+returns c = (omega arith, kept-none (c .before .before .before .before .args .q) (c .before .before .before .before .args .v) (take (c .before .before .before .before .args .p) (now (c .before .before .before .before .args .order))) (now (c .before .before .before .before .args .order)) (sym (c .before .holds .ensures) ∙ c .if1 .taken))
+
+mul-order : tie.Need-mul-order
+mul-order c = search needs
+
+slice-write-order : tie.Need-slice-write-order
+slice-write-order c = c .before .before .before .before .pre .1 (sym (c .before .holds .ensures) ∙ c .if1 .left)
+
+add-result : tie.Need-add-result
+add-result c = search needs
+
+same-length-2 : tie.Need-same-length-2
+same-length-2 c = search needs
+
+returns-2 : tie.Need-returns-2
+returns-2 c =
+    let e : elem (c .before .before .before .before .args .v) (take (c .before .before .before .before .args .p) (now (c .before .before .before .before .args .order))) ≡ false = sym (c .before .holds .ensures) ∙ c .if1 .left in
+    let h : c .before .before .before .before .args .q < length (now (c .before .before .before .before .args .order)) = c .before .before .before .before .pre .1 e in
+    (omega arith, kept-one (c .before .before .before .before .args .q) (c .before .before .before .before .args .v) (take (c .before .before .before .before .args .p) (now (c .before .before .before .before .args .order))) (now (c .before .before .before .before .args .order)) h e)
+
+pub put-new-spec : {M : Type 1} → statement M
+put-new-spec =
+    tie.close
+    (tie.spec
+    slice-reshare-prefix-holds
+    slice-aggregate-holds
+    holds-requires
+    same-length
+    returns
+    mul-order
+    slice-write-order
+    add-result
+    same-length-2
+    returns-2)
