@@ -1,0 +1,49 @@
+-- A call that returns 0 has answered values: no refusal has the number 0. Assumes nothing.
+use mathlib.Core.Path.{_≡_, refl, sym, subst}
+use mathlib.Core.Bool.{Bool, true, false, cond}
+use mathlib.Core.List.{List, [], _∷_}
+use Prim.Native.Nat.{ℕ}
+use native.Mathlib.Omega.{arith}
+use lib.Dec.{T, ltb}
+use lib.ListN.{length}
+use lib.Ieee.{Float}
+use borrow.Author.Tests.{ltb-true}
+use Rattle.laws.specs.Refusals.{Refusal, decide}
+use Rattle.sheet.specs.Refusals.{refusals}
+use Rattle.label.specs.Label.{labelRefusals, cut, blockWidth, blockHeight}
+use Rattle.number.specs.Number.{numText}
+use Rattle.diagram.specs.Calls.{Outcome, values, number, mainScreen, check, labelSize, numRefusals, writeNum}
+use Rattle.murshogi.specs.Exports.{code}
+
+-- every refusal of a list has a number above 0
+abbrev pub numbered : List Refusal → Bool
+numbered [] = true
+numbered (r ∷ rs) = let rest = numbered rs in cond (ltb 0 (r .number)) rest false
+
+each : (a b : Bool) → cond a b false ≡ true → (a ≡ true) × (b ≡ true)
+each true b h = (refl, h)
+each false b h = absurd (subst T (sym h) tt)
+
+module _ {A : Type 0} (v : A) where
+  step : (b : Bool) (n : ℕ) (o : Outcome A) → ltb 0 n ≡ true → (code o ≡ 0 → o ≡ values v) → code (cond b (number n) o) ≡ 0 → cond b (number n) o ≡ values v
+  step true n o p f e = absurd (omega (arith, ltb-true 0 n p, e))
+  step false n o p f e = f e
+
+  pub zero-values : (rs : List Refusal) → numbered rs ≡ true → code (decide rs number (values v)) ≡ 0 → decide rs number (values v) ≡ values v
+  unfolding decide
+  zero-values [] h e = refl
+  zero-values (r ∷ rs) h e =
+      let p = each (ltb 0 (r .number)) (numbered rs) h in
+      step (r .cause) (r .number) (decide rs number (values v)) (p .0) (zero-values rs (p .1)) e
+
+pub check-zero : (s : List ℕ) → code (check s) ≡ 0 → check s ≡ values tt
+unfolding check
+check-zero s e = zero-values tt (refusals mainScreen s) refl e
+
+pub label-zero : (text lengths : List ℕ) → code (labelSize text lengths) ≡ 0 → labelSize text lengths ≡ values (blockWidth (cut text lengths), blockHeight (length lengths))
+unfolding labelSize
+label-zero text lengths e = zero-values (blockWidth (cut text lengths), blockHeight (length lengths)) (labelRefusals mainScreen text lengths) refl e
+
+pub num-zero : (v : Float) (out : List ℕ) → code (writeNum v out) ≡ 0 → writeNum v out ≡ values (length (numText v))
+unfolding writeNum
+num-zero v out e = zero-values (length (numText v)) (numRefusals v out) refl e
