@@ -4,50 +4,56 @@
 ghost use mathlib.Core.Path.{_≡_};
 ghost use Prim.Native.Nat.{_<_, _≤_};
 ghost use lib.ListN.{length};
+ghost use Rattle.free.specs.Centres.{centres};
+ghost use Rattle.replay_bow.specs.Cases as S;
 use bow::Bent;
 use bow::Joined;
 use bow::Routed;
 use bow::Shape;
+use replay::after;
+use replay::answered;
 use replay::byte;
+use replay::fill;
 use replay::float;
-use replay_shape::after;
+use replay::low;
+use replay::same_float;
 use replay_shape::same_curve;
-use replay_shape::same_float;
 
-pub fn low(b: u8) -> usize
-    ensures { λ r. ⌜ r < 256 ⌝ }
+// ---- answers
+
+// A byte, and a float behind it.
+fn with_float(p: &[u8], at: usize, b: u8, v: f64) -> bool
+    ensures { λ r. ⌜ r ≡ S.withFloat (now (p .entry)) at b v ⌝ }
 {
-    b as usize
-}
-
-// The floats from a place on, as many as `out` holds.
-pub fn fill(p: &[u8], at: usize, out: &mut [f64]) {
-    let mut k = 0;
-    let mut from = at;
-    while k < out.len() {
-        out[k] = float(p, from);
-        from = after(from, 8);
-        k += 1;
+    if byte(p, at) != b {
+        return false;
     }
+    same_float(p, after(at, 1), v)
 }
 
 // The answer of `bend`: a byte, 0 or 9, and the bow.
-fn bow_is(p: &[u8], at: usize, b: Bent) -> bool {
+fn bow_is(p: &[u8], at: usize, b: Bent) -> bool
+    ensures { λ r. ⌜ r ≡ S.bowIs (now (p .entry)) at b ⌝ }
+{
     match b {
-        Bent::Offset(h) => byte(p, at) == 0 && same_float(p, after(at, 1), h),
+        Bent::Offset(h) => with_float(p, at, 0, h),
         Bent::Beyond => byte(p, at) == 9,
     }
 }
 
-fn shape_is(p: &[u8], at: usize, s: Shape) -> bool {
+fn shape_is(p: &[u8], at: usize, s: Shape) -> bool
+    ensures { λ r. ⌜ r ≡ S.shapeIs (now (p .entry)) at s ⌝ }
+{
     match s {
         Shape::Line => byte(p, at) == 0,
-        Shape::Arc(outer) => byte(p, at) == 1 && same_float(p, after(at, 1), outer),
+        Shape::Arc(outer) => with_float(p, at, 1, outer),
         Shape::Loop(_) => false,
     }
 }
 
-fn arrow_is(p: &[u8], at: usize, r: Routed) -> bool {
+fn arrow_is(p: &[u8], at: usize, r: Routed) -> bool
+    ensures { λ b. ⌜ b ≡ S.arrowIs (now (p .entry)) at r ⌝ }
+{
     let curve = r.curve;
     let shape = r.shape;
     if byte(p, at) != 0 {
@@ -63,48 +69,51 @@ fn arrow_is(p: &[u8], at: usize, r: Routed) -> bool {
 }
 
 // The answer of `between`: a byte, 0 or 9, the curve, the tip's angle, and the shape.
-fn joined_is(p: &[u8], at: usize, j: Joined) -> bool {
+fn joined_is(p: &[u8], at: usize, j: Joined) -> bool
+    ensures { λ r. ⌜ r ≡ S.joinedIs (now (p .entry)) at j ⌝ }
+{
     match j {
         Joined::Arrow(r) => arrow_is(p, at, r),
         Joined::Beyond => byte(p, at) == 9,
     }
 }
 
-fn bent_agrees(p: &[u8], at: usize, xs: &[f64], ys: &[f64], from: usize, to: usize) -> bool
-    requires { ⌜ length (now ys) ≡ length (now xs) ⌝ }
-    requires { ⌜ length (now xs) ≤ 64 ⌝ }
-    requires { ⌜ from < length (now xs) ⌝ }
-    requires { ⌜ to < length (now xs) ⌝ }
+// ---- bend and between
+
+fn both_ways(p: &[u8]) -> bool
+    ensures { λ r. ⌜ r ≡ S.bothWays (now (p .entry)) ⌝ }
 {
-    if p.len() != after(at, 9) {
+    byte(p, 3) == 1
+}
+
+fn bent_agrees(p: &[u8], at: usize, xs: &[f64], ys: &[f64], from: usize, to: usize) -> bool
+    requires { ⌜ (length (now ys) ≡ length (now xs)) × (length (now xs) ≤ 64) × (from < length (now xs)) × (to < length (now xs)) × (at < 70000) ⌝ }
+    ensures { λ r. ⌜ r ≡ S.bentAgrees (now (p .entry)) at (centres (now (xs .entry)) (now (ys .entry))) from to ⌝ }
+{
+    if p.len() != at + 9 {
         return false;
     }
     let c = free::chord_of(xs, ys, from, to);
-    bow_is(p, at, bow::bend(xs, ys, c, byte(p, 3) == 1))
+    bow_is(p, at, bow::bend(xs, ys, c, both_ways(p)))
 }
 
 fn joined_agrees(p: &[u8], at: usize, xs: &[f64], ys: &[f64], from: usize, to: usize) -> bool
-    requires { ⌜ length (now ys) ≡ length (now xs) ⌝ }
-    requires { ⌜ length (now xs) ≤ 64 ⌝ }
-    requires { ⌜ from < length (now xs) ⌝ }
-    requires { ⌜ to < length (now xs) ⌝ }
+    requires { ⌜ (length (now ys) ≡ length (now xs)) × (length (now xs) ≤ 64) × (from < length (now xs)) × (to < length (now xs)) × (at < 70000) ⌝ }
+    ensures { λ r. ⌜ r ≡ S.joinedAgrees (now (p .entry)) at (centres (now (xs .entry)) (now (ys .entry))) from to ⌝ }
 {
-    if p.len() != after(at, 83) {
+    if p.len() != at + 83 {
         return false;
     }
-    joined_is(p, at, bow::between(xs, ys, from, to, byte(p, 3) == 1))
+    joined_is(p, at, bow::between(xs, ys, from, to, both_ways(p)))
 }
 
-// The case's ends are tested here, and the lengths, which the caller has equal.
-fn tried(kind: u8, p: &[u8], xs: &[f64], ys: &[f64]) -> bool {
+// The case at these centres; its ends are tested here.
+fn tried(joined: bool, p: &[u8], xs: &[f64], ys: &[f64]) -> bool
+    requires { ⌜ (length (now ys) ≡ length (now xs)) × (length (now xs) ≤ 64) ⌝ }
+    ensures { λ r. ⌜ r ≡ S.tried joined (now (p .entry)) (now (xs .entry)) (now (ys .entry)) ⌝ }
+{
     let from = low(byte(p, 1));
     let to = low(byte(p, 2));
-    if ys.len() != xs.len() {
-        return false;
-    }
-    if xs.len() > 64 {
-        return false;
-    }
     if from >= xs.len() {
         return false;
     }
@@ -112,13 +121,15 @@ fn tried(kind: u8, p: &[u8], xs: &[f64], ys: &[f64]) -> bool {
         return false;
     }
     let at = 4 + 16 * xs.len();
-    if kind == 41 {
-        return bent_agrees(p, at, xs, ys, from, to);
+    if joined {
+        return joined_agrees(p, at, xs, ys, from, to);
     }
-    joined_agrees(p, at, xs, ys, from, to)
+    bent_agrees(p, at, xs, ys, from, to)
 }
 
-fn centres_agree(kind: u8, p: &[u8]) -> bool {
+fn centres_agree(joined: bool, p: &[u8]) -> bool
+    ensures { λ r. ⌜ r ≡ S.centresAgree joined (now (p .entry)) ⌝ }
+{
     let n = low(byte(p, 0));
     if n > 64 {
         return false;
@@ -127,24 +138,22 @@ fn centres_agree(kind: u8, p: &[u8]) -> bool {
     let mut ys = [0.0f64; 64];
     fill(p, 4, &mut xs);
     fill(p, 4 + 8 * n, &mut ys);
-    tried(kind, p, &xs[..n], &ys[..n])
+    tried(joined, p, &xs[..n], &ys[..n])
 }
 
-fn freed(p: &[u8], lo: &[f64], hi: &[f64]) -> bool {
-    if hi.len() != lo.len() {
-        return false;
-    }
-    if lo.len() > 64 {
-        return false;
-    }
+// ---- first_free
+
+fn freed(p: &[u8], lo: &[f64], hi: &[f64]) -> bool
+    requires { ⌜ (length (now hi) ≡ length (now lo)) × (length (now lo) ≤ 64) ⌝ }
+    ensures { λ r. ⌜ r ≡ S.freed (now (p .entry)) (now (lo .entry)) (now (hi .entry)) ⌝ }
+{
     let at = 17 + 16 * lo.len();
-    if p.len() != at + 8 {
-        return false;
-    }
-    same_float(p, at, free::first_free(lo, hi, float(p, 1), float(p, 9)))
+    answered(p, at, free::first_free(lo, hi, float(p, 1), float(p, 9)))
 }
 
-fn free_agrees(p: &[u8]) -> bool {
+fn free_agrees(p: &[u8]) -> bool
+    ensures { λ r. ⌜ r ≡ S.freeAgrees (now (p .entry)) ⌝ }
+{
     let n = low(byte(p, 0));
     if n > 64 {
         return false;
@@ -156,10 +165,12 @@ fn free_agrees(p: &[u8]) -> bool {
     freed(p, &lo[..n], &hi[..n])
 }
 
-pub fn agrees(kind: u8, p: &[u8]) -> bool {
+pub fn agrees(kind: u8, p: &[u8]) -> bool
+    ensures { λ r. ⌜ r ≡ S.agrees kind (now (p .entry)) ⌝ }
+{
     match kind {
-        41 => centres_agree(kind, p),
-        42 => centres_agree(kind, p),
+        41 => centres_agree(false, p),
+        42 => centres_agree(true, p),
         43 => free_agrees(p),
         _ => false,
     }

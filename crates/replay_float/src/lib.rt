@@ -1,74 +1,80 @@
-// Cases of the stand-ins for the library's float functions.
+// Cases of the stand-ins for the library's float functions: arguments and answer, eight bytes each.
+ghost use mathlib.Core.Path.{_≡_};
+ghost use Rattle.replay_float.specs.Cases as S;
+use float::Ordering;
+use replay::answered;
+use replay::byte;
 use replay::float as at;
-use replay::same;
 
-// Arguments and answer, eight bytes each.
-pub fn agrees(kind: u8, p: &[u8]) -> bool {
+fn number(o: Ordering) -> u8
+    ensures { λ r. ⌜ r ≡ S.number o ⌝ }
+{
+    match o {
+        Ordering::Less => 0,
+        Ordering::Equal => 1,
+        Ordering::Greater => 2,
+    }
+}
+
+// The answer is one byte: 0 before, 1 equal, 2 after.
+fn ordered(p: &[u8], o: Ordering) -> bool
+    ensures { λ r. ⌜ r ≡ S.ordered (now (p .entry)) o ⌝ }
+{
+    if p.len() != 17 {
+        return false;
+    }
+    byte(p, 16) == number(o)
+}
+
+fn one_agrees(kind: u8, p: &[u8]) -> bool
+    ensures { λ r. ⌜ r ≡ S.oneAgrees kind (now (p .entry)) ⌝ }
+{
     match kind {
-        1 | 4 | 5 | 6 | 10 | 11 | 13 => one_agrees(kind, p),
-        2 | 3 | 7 | 8 | 9 | 14 => two_agrees(kind, p),
-        12 => clamp_agrees(p),
-        15 => order_agrees(p),
+        1 => answered(p, 8, float::root(at(p, 0))),
+        4 => answered(p, 8, float::rem_euclid(at(p, 0))),
+        5 => answered(p, 8, float::sin(at(p, 0))),
+        6 => answered(p, 8, float::cos(at(p, 0))),
+        10 => answered(p, 8, float::round(at(p, 0))),
+        11 => answered(p, 8, float::abs(at(p, 0))),
+        13 => answered(p, 8, float::signum(at(p, 0))),
         _ => false,
     }
 }
 
-fn one_agrees(kind: u8, p: &[u8]) -> bool {
-    if p.len() != 16 {
-        return false;
-    }
-    same(one(kind, at(p, 0)), at(p, 8))
-}
-
-fn one(kind: u8, a: f64) -> f64 {
+fn two_agrees(kind: u8, p: &[u8]) -> bool
+    ensures { λ r. ⌜ r ≡ S.twoAgrees kind (now (p .entry)) ⌝ }
+{
+    let a = at(p, 0);
+    let b = at(p, 8);
     match kind {
-        1 => float::root(a),
-        4 => float::rem_euclid(a),
-        5 => float::sin(a),
-        6 => float::cos(a),
-        10 => float::round(a),
-        11 => float::abs(a),
-        _ => float::signum(a),
+        2 => answered(p, 16, float::hypot(a, b)),
+        3 => answered(p, 16, float::midpoint(a, b)),
+        7 => answered(p, 16, float::atan2(a, b)),
+        8 => answered(p, 16, float::min(a, b)),
+        9 => answered(p, 16, float::max(a, b)),
+        14 => answered(p, 16, float::copysign(a, b)),
+        15 => ordered(p, float::total_cmp(a, b)),
+        _ => false,
     }
 }
 
-fn two_agrees(kind: u8, p: &[u8]) -> bool {
-    if p.len() != 24 {
+fn clamp_agrees(kind: u8, p: &[u8]) -> bool
+    ensures { λ r. ⌜ r ≡ S.clampAgrees kind (now (p .entry)) ⌝ }
+{
+    if kind != 12 {
         return false;
     }
-    same(two(kind, at(p, 0), at(p, 8)), at(p, 16))
+    answered(p, 24, float::clamp(at(p, 0), at(p, 8), at(p, 16)))
 }
 
-fn two(kind: u8, a: f64, b: f64) -> f64 {
-    match kind {
-        2 => float::hypot(a, b),
-        3 => float::midpoint(a, b),
-        7 => float::atan2(a, b),
-        8 => float::min(a, b),
-        9 => float::max(a, b),
-        _ => float::copysign(a, b),
+pub fn agrees(kind: u8, p: &[u8]) -> bool
+    ensures { λ r. ⌜ r ≡ S.agrees kind (now (p .entry)) ⌝ }
+{
+    if one_agrees(kind, p) {
+        return true;
     }
-}
-
-fn clamp_agrees(p: &[u8]) -> bool {
-    if p.len() != 32 {
-        return false;
+    if two_agrees(kind, p) {
+        return true;
     }
-    same(float::clamp(at(p, 0), at(p, 8), at(p, 16)), at(p, 24))
-}
-
-// The answer is one byte: 0 before, 1 equal, 2 after.
-fn order_agrees(p: &[u8]) -> bool {
-    if p.len() != 17 {
-        return false;
-    }
-    order(float::total_cmp(at(p, 0), at(p, 8))) == replay::byte(p, 16)
-}
-
-fn order(o: float::Ordering) -> u8 {
-    match o {
-        float::Ordering::Less => 0,
-        float::Ordering::Equal => 1,
-        float::Ordering::Greater => 2,
-    }
+    clamp_agrees(kind, p)
 }

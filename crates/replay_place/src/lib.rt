@@ -7,24 +7,30 @@
 ghost use mathlib.Core.Path.{_≡_};
 ghost use Prim.Native.Nat.{_*_, _<_, _≤_};
 ghost use lib.ListN.{length};
+ghost use Rattle.place.specs.Scene.{decodeBoxes, scene};
+ghost use Rattle.trace.specs.Form.{decodeTraces};
+ghost use Rattle.replay_place.specs.Cases as S;
 use bow::Shape;
+use replay::after;
 use replay::byte;
+use replay::fill;
 use replay::float;
 use replay::long;
-use replay_bow::fill;
-use replay_bow::low;
-use replay_shape::after;
+use replay::low;
 use replay_shape::curve;
 use replay_shape::point;
 use replay_shape::rect;
 use replay_shape::same_point;
 use shape::Curve;
 use spot::Anchor;
+use spot::Placed;
 use spot::Spot;
 
 // ---- place_label
 
-fn anchor_is(b: u8, a: Anchor) -> bool {
+fn anchor_is(b: u8, a: Anchor) -> bool
+    ensures { λ r. ⌜ r ≡ S.anchorIs b a ⌝ }
+{
     match a {
         Anchor::Start => b == 0,
         Anchor::Middle => b == 1,
@@ -32,22 +38,34 @@ fn anchor_is(b: u8, a: Anchor) -> bool {
     }
 }
 
-fn label_agrees(p: &[u8]) -> bool {
+fn placed_is(p: &[u8], r: Placed) -> bool
+    ensures { λ b. ⌜ b ≡ S.placedIs (now (p .entry)) r ⌝ }
+{
+    let label = r.label;
+    let anchor = r.anchor;
     if p.len() != 65 {
         return false;
     }
-    let r = spot::place_label(point(p, 0), point(p, 16), float(p, 32), float(p, 40));
-    let label = r.label;
-    let anchor = r.anchor;
     if !same_point(p, 48, label) {
         return false;
     }
     anchor_is(byte(p, 64), anchor)
 }
 
+fn label_agrees(p: &[u8]) -> bool
+    ensures { λ r. ⌜ r ≡ S.labelAgrees (now (p .entry)) ⌝ }
+{
+    placed_is(
+        p,
+        spot::place_label(point(p, 0), point(p, 16), float(p, 32), float(p, 40)),
+    )
+}
+
 // ---- label_spots
 
-fn shape_in(p: &[u8], at: usize) -> Shape {
+fn shape_in(p: &[u8], at: usize) -> Shape
+    ensures { λ r. ⌜ r ≡ S.shapeIn (now (p .entry)) at ⌝ }
+{
     let outer = float(p, at);
     if outer == 0.0 {
         return Shape::Line;
@@ -55,7 +73,9 @@ fn shape_in(p: &[u8], at: usize) -> Shape {
     Shape::Arc(outer)
 }
 
-fn spot_is(p: &[u8], at: usize, s: Spot) -> bool {
+fn spot_is(p: &[u8], at: usize, s: Spot) -> bool
+    ensures { λ r. ⌜ r ≡ S.spotIs (now (p .entry)) at s ⌝ }
+{
     let on = s.at;
     let side = s.side;
     if !same_point(p, at, on) {
@@ -65,7 +85,9 @@ fn spot_is(p: &[u8], at: usize, s: Spot) -> bool {
 }
 
 // Whether the places from byte 73 on are those of the curve, and nothing follows.
-fn listed(p: &[u8], curve: Curve, shape: Shape) -> bool {
+fn listed(p: &[u8], curve: Curve, shape: Shape) -> bool
+    ensures { λ r. ⌜ r ≡ S.listed (now (p .entry)) «curve» shape ⌝ }
+{
     let up = spot::upper(curve);
     let mut at: usize = 73;
     let mut j: usize = 0;
@@ -81,7 +103,9 @@ fn listed(p: &[u8], curve: Curve, shape: Shape) -> bool {
     p.len() == at
 }
 
-fn spots_agree(p: &[u8]) -> bool {
+fn spots_agree(p: &[u8]) -> bool
+    ensures { λ r. ⌜ r ≡ S.spotsAgree (now (p .entry)) ⌝ }
+{
     listed(p, curve(p, 0), shape_in(p, 65))
 }
 
@@ -89,7 +113,7 @@ fn spots_agree(p: &[u8]) -> bool {
 
 // The owner that a trace keeps for the arrow of a byte.
 fn owner(b: u8) -> usize
-    ensures { λ r. ⌜ r ≤ 256 ⌝ }
+    ensures { λ r. ⌜ (r ≡ S.owner b) × (r ≤ 256) ⌝ }
 {
     if b == 255 {
         return 0;
@@ -100,6 +124,7 @@ fn owner(b: u8) -> usize
 // The n boxes from a place on.
 fn push_boxes(p: &[u8], at: usize, n: usize, boxes: &mut [f64])
     requires { ⌜ 4 * n ≤ length (now boxes) ⌝ }
+    ensures { λ _. ⌜ decodeBoxes n (now (boxes .exit)) ≡ S.boxesAt (now (p .entry)) at n ⌝ }
 {
     let mut k: usize = 0;
     let mut from = at;
@@ -112,6 +137,7 @@ fn push_boxes(p: &[u8], at: usize, n: usize, boxes: &mut [f64])
 // The n traces from a place on.
 fn push_traces(p: &[u8], at: usize, n: usize, traces: &mut [f64])
     requires { ⌜ 40 * n ≤ length (now traces) ⌝ }
+    ensures { λ _. ⌜ decodeTraces n (now (traces .exit)) ≡ S.tracesAt (now (p .entry)) at n ⌝ }
 {
     let mut k: usize = 0;
     let mut from = at;
@@ -121,11 +147,15 @@ fn push_traces(p: &[u8], at: usize, n: usize, traces: &mut [f64])
     }
 }
 
-fn same_long(p: &[u8], at: usize, n: usize) -> bool {
+fn same_long(p: &[u8], at: usize, n: usize) -> bool
+    ensures { λ r. ⌜ r ≡ S.sameLong (now (p .entry)) at n ⌝ }
+{
     long(p, at) == n as u64
 }
 
-fn limit_in(p: &[u8]) -> usize {
+fn limit_in(p: &[u8]) -> usize
+    ensures { λ r. ⌜ r ≡ S.limitIn (now (p .entry)) ⌝ }
+{
     long(p, 4) as usize
 }
 
@@ -141,6 +171,7 @@ fn costs_are(
     nt: usize,
 ) -> bool
     requires { ⌜ (length (now ys) ≡ length (now xs)) × (4 * nb ≤ length (now boxes)) × (40 * nt ≤ length (now traces)) ⌝ }
+    ensures { λ r. ⌜ r ≡ S.costsAre (now (p .entry)) at (scene (now (xs .entry)) (now (ys .entry)) nb (now (boxes .entry)) nt (now (traces .entry))) ⌝ }
 {
     let own = low(byte(p, 3));
     let b = rect(p, 8);
@@ -153,15 +184,12 @@ fn costs_are(
 }
 
 // The boxes and traces of a case, behind its states.
-fn scene_agrees(p: &[u8], xs: &[f64], ys: &[f64]) -> bool {
+fn scene_agrees(p: &[u8], xs: &[f64], ys: &[f64]) -> bool
+    requires { ⌜ (length (now ys) ≡ length (now xs)) × (length (now xs) ≤ 64) ⌝ }
+    ensures { λ r. ⌜ r ≡ S.sceneAgrees (now (p .entry)) (now (xs .entry)) (now (ys .entry)) ⌝ }
+{
     let nb = low(byte(p, 1));
     let nt = low(byte(p, 2));
-    if ys.len() != xs.len() {
-        return false;
-    }
-    if xs.len() > 64 {
-        return false;
-    }
     if nb > 64 {
         return false;
     }
@@ -181,7 +209,9 @@ fn scene_agrees(p: &[u8], xs: &[f64], ys: &[f64]) -> bool {
     costs_are(p, last, xs, ys, &boxes, nb, &traces, nt)
 }
 
-fn cost_agrees(p: &[u8]) -> bool {
+fn cost_agrees(p: &[u8]) -> bool
+    ensures { λ r. ⌜ r ≡ S.costAgrees (now (p .entry)) ⌝ }
+{
     let n = low(byte(p, 0));
     if n > 64 {
         return false;
@@ -193,7 +223,9 @@ fn cost_agrees(p: &[u8]) -> bool {
     scene_agrees(p, &xs[..n], &ys[..n])
 }
 
-pub fn agrees(kind: u8, p: &[u8]) -> bool {
+pub fn agrees(kind: u8, p: &[u8]) -> bool
+    ensures { λ r. ⌜ r ≡ S.agrees kind (now (p .entry)) ⌝ }
+{
     match kind {
         44 => label_agrees(p),
         45 => spots_agree(p),

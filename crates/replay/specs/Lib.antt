@@ -1,0 +1,2 @@
+pub mod Payload
+pub mod Laws
