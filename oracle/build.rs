@@ -18,6 +18,7 @@ const REPLACED: [&str; 19] = [
 enum Edit {
     Replace { times: usize, old: String, new: String },
     Keep(Vec<String>),
+    Copy(String),
 }
 
 fn main() {
@@ -40,6 +41,11 @@ fn main() {
         texts.insert(file.to_string(), text);
     }
     for (line, file, edit) in edits(&root.join("edits.txt")) {
+        if let Edit::Copy(from) = &edit {
+            let text = texts[from].clone();
+            texts.insert(file, text);
+            continue;
+        }
         let text = texts
             .get_mut(&file)
             .unwrap_or_else(|| panic!("edits.txt:{line}: no file {file}"));
@@ -56,6 +62,7 @@ fn main() {
                 let kept: Vec<String> = items.iter().map(|i| item(text, &file, i)).collect();
                 *text = kept.join("\n");
             }
+            Edit::Copy(_) => unreachable!("a copy is made above"),
         }
     }
     for (file, text) in texts {
@@ -124,6 +131,7 @@ fn edits(path: &Path) -> Vec<(usize, String, Edit)> {
             let (file, times) = rest.split_once(' ').unwrap();
             let edit = match times {
                 "keep" => Edit::Keep(Vec::new()),
+                n if n.starts_with("copy ") => Edit::Copy(n[5..].to_string()),
                 n => Edit::Replace {
                     times: n.parse().unwrap(),
                     old: String::new(),

@@ -2,6 +2,7 @@
 
 use std::cell::Cell;
 
+use crate::counted;
 use crate::graph::Graph;
 use crate::layout::{Layout, LayoutKind, NODE_RADIUS, layout as place};
 use crate::route::{Anchor, Geometry, clutter as count, geometry, probe};
@@ -22,6 +23,15 @@ pub struct Turns {
     pub later: usize,
 }
 
+impl Turns {
+    pub fn add(&mut self, more: Turns) {
+        for (sum, n) in self.taken.iter_mut().zip(more.taken) {
+            *sum += n;
+        }
+        self.later += more.later;
+    }
+}
+
 pub fn note_place(place: usize) {
     PLACE.set(place);
 }
@@ -33,12 +43,11 @@ pub fn note_turn(sort: usize) {
     TURNS.set(t);
 }
 
-/// The turns of what `f` routes.
-#[cfg(port = "murshogi")]
-pub fn turned<T>(f: impl FnOnce() -> T) -> (T, Turns) {
+/// The turns of a routing.
+pub fn turns(graph: &Graph, xs: &[f64], ys: &[f64]) -> Turns {
     TURNS.set(Turns::default());
-    let answer = f();
-    (answer, TURNS.get())
+    counted::geometry(graph, xs, ys);
+    TURNS.get()
 }
 
 /// Notes the first free bow of a two-way pair, and hands it back.
@@ -142,7 +151,7 @@ pub fn layout(bytes: &[u8], kind: u8, x_room: usize, y_room: usize) -> Result<La
 }
 
 /// The twenty numbers of a record.
-fn record(g: &Geometry) -> [f64; 20] {
+pub fn record(g: &Geometry) -> [f64; 20] {
     let points = probe::points(g.curve);
     let mut r = [0.0; 20];
     r[0] = g.edge as f64;

@@ -81,10 +81,7 @@ impl Runs {
 
     /// Counts the turns of a routing with so many records.
     fn turned(&mut self, turns: Turns, sheet: &[u8], records: usize) {
-        for (sum, n) in self.turns.taken.iter_mut().zip(turns.taken) {
-            *sum += n;
-        }
-        self.turns.later += turns.later;
+        self.turns.add(turns);
         self.left_out += crate::sheet::read(sheet).map_or(0, |s| s.arrows.len()) - records;
     }
 
@@ -205,9 +202,10 @@ fn routed(runs: &mut Runs, rng: &mut Random, sheet: &[u8], xs: &[f64], ys: &[f64
         .map_or((20, 20), |r| (r.records.len(), r.text.len()));
     let mut records = vec![BEFORE; room(rng, n)];
     let mut text = vec![BYTE; room(rng, m)];
-    let (wanted, turns) = calls::turned(|| calls::route(sheet, xs, ys, (records.len(), text.len())));
+    let wanted = calls::route(sheet, xs, ys, (records.len(), text.len()));
     if let Ok(r) = &wanted {
-        runs.turned(turns, sheet, r.records.len() / 20);
+        let graph = crate::sheet::read(sheet).unwrap().graph();
+        runs.turned(calls::turns(&graph, xs, ys), sheet, r.records.len() / 20);
     }
     let mut lengths = [NUMBER; 2];
     let got = unsafe {

@@ -5,11 +5,18 @@ mod bench;
 mod calls;
 #[cfg(port = "murshogi")]
 mod compare;
+mod differ;
 mod generate;
 mod random;
 mod sheet;
 mod standin;
 mod vectors;
+
+/// The routing again, with its turns counted.
+#[allow(dead_code)]
+mod counted {
+    include!(concat!(env!("OUT_DIR"), "/counted.rs"));
+}
 
 #[allow(dead_code)]
 mod graph {
@@ -53,6 +60,8 @@ fn main() {
         ["vectors", file] => vectors::write(file),
         ["bench", "root"] => bench::root(),
         ["bench", "check"] => bench::check(),
+        ["differ", "route", count, seed] => differ::routings(count.parse().unwrap(), seed.parse().unwrap()),
+        ["differ", "layout", count, seed] => differ::layouts(count.parse().unwrap(), seed.parse().unwrap()),
         ["list", kind] => list(kind.parse().unwrap_or(255)),
         #[cfg(port = "murshogi")]
         ["bench", "calls"] => bench::calls(),
@@ -63,7 +72,7 @@ fn main() {
         #[cfg(port = "murshogi")]
         ["compare", turns, seed] => compare::run(turns.parse().unwrap(), seed.parse().unwrap()),
         _ => {
-            eprintln!("usage: oracle vectors FILE | bench root | bench check | bench calls | list KIND < SHEET | compare [routings | layouts] COUNT SEED");
+            eprintln!("usage: oracle vectors FILE | differ (route | layout) COUNT SEED | bench root | bench check | bench calls | list KIND < SHEET | compare [routings | layouts] COUNT SEED");
             std::process::exit(2);
         }
     }

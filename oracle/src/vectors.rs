@@ -8,6 +8,7 @@ mod borders;
 mod bows;
 mod calls;
 mod float;
+pub mod graphs;
 mod places;
 mod shapes;
 mod sheets;
@@ -91,7 +92,10 @@ pub mod kind {
     pub const ROUTE: u8 = 50;
     pub const LAYOUT: u8 = 51;
     pub const CLUTTER: u8 = 52;
-    pub const LIST: u8 = 53;
+    pub const ROUTE_CALL: u8 = 60;
+    pub const LAYOUT_CALL: u8 = 61;
+    pub const CLUTTER_CALL: u8 = 62;
+    pub const LIST_CALL: u8 = 63;
     /// A kind and its payload with another answer.
     pub const SPOILED: u8 = 255;
 }
@@ -172,10 +176,14 @@ impl Stream {
         self.case(kind::SPOILED, Payload::new().byte(kind).bytes(&payload.0));
     }
 
+    /// A case of the fixed sample, where its kind is replayed.
     pub fn case(&mut self, kind: u8, payload: Payload) {
-        if !replayed(kind) || (kind == kind::SPOILED && !replayed(payload.0[0])) {
-            return;
+        if replayed(kind) && (kind != kind::SPOILED || replayed(payload.0[0])) {
+            self.put(kind, payload);
         }
+    }
+
+    pub fn put(&mut self, kind: u8, payload: Payload) {
         let length = payload.0.len() as u32;
         assert!(length < 1 << 24);
         self.bytes.push(kind);
@@ -185,7 +193,7 @@ impl Stream {
         *self.kinds.entry(kind).or_default() += 1;
     }
 
-    fn end(mut self) -> Vec<u8> {
+    pub fn end(mut self) -> Vec<u8> {
         let cases = self.cases;
         self.case(kind::END, Payload::new().bytes(&cases.to_le_bytes()));
         self.bytes
@@ -201,6 +209,7 @@ pub fn write(file: &str) {
     shapes::cases(&mut out);
     bows::cases(&mut out);
     places::cases(&mut out);
+    graphs::cases(&mut out);
     calls::cases(&mut out);
     for (kind, count) in &out.kinds {
         println!("kind {kind}: {count}");

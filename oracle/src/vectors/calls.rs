@@ -93,7 +93,7 @@ fn route(out: &mut Stream, c: &mut Cases, rng: &mut Random, sheet: &[u8], xs: &[
         .iter()
         .fold(p, |p, &k| p.long(k));
     let p = p.bytes(sheet).floats(xs).floats(ys).floats(&records).bytes(&text);
-    c.add(out, kind::ROUTE, answer, &p);
+    c.add(out, kind::ROUTE_CALL, answer, &p);
 }
 
 /// The answer and the kind; the sizes of the sheet and of the two outputs lent, and the number of
@@ -108,7 +108,7 @@ fn layout(out: &mut Stream, c: &mut Cases, rng: &mut Random, sheet: &[u8]) {
     };
     let p = Payload::new().byte(answer).byte(kind);
     let p = p.long(sheet.len()).long(n).long(m).long(xs.len()).bytes(sheet);
-    c.add(out, kind::LAYOUT, answer, &p.floats(&size).floats(&xs).floats(&ys));
+    c.add(out, kind::LAYOUT_CALL, answer, &p.floats(&size).floats(&xs).floats(&ys));
 }
 
 /// The answer; the sizes of the sheet, the xs and the ys; the sheet, the xs, the ys; the count.
@@ -116,7 +116,7 @@ fn clutter(out: &mut Stream, c: &mut Cases, sheet: &[u8], xs: &[f64], ys: &[f64]
     let answer = calls::clutter(sheet, xs, ys);
     let (number, count) = (answer.err().unwrap_or(0), answer.unwrap_or(0));
     let p = Payload::new().byte(number).long(sheet.len()).long(xs.len()).long(ys.len());
-    c.add(out, kind::CLUTTER, number, &p.bytes(sheet).floats(xs).floats(ys).long(count));
+    c.add(out, kind::CLUTTER_CALL, number, &p.bytes(sheet).floats(xs).floats(ys).long(count));
 }
 
 /// The answer and the kind; the sizes of the sheet, the output lent and the text; the sheet, the text.
@@ -129,5 +129,5 @@ fn list(out: &mut Stream, c: &mut Cases, rng: &mut Random, sheet: &[u8]) {
         Err(e) => (e, vec![]),
     };
     let p = Payload::new().byte(answer).byte(kind).long(sheet.len()).long(n).long(text.len());
-    c.add(out, kind::LIST, answer, &p.bytes(sheet).bytes(&text));
+    c.add(out, kind::LIST_CALL, answer, &p.bytes(sheet).bytes(&text));
 }
