@@ -1,6 +1,6 @@
 //! Differential runs: more cases of the vectors' form, which the proved program `vectors` replays.
-//! The program is `target/bin/vectors` below the working directory, or what the environment variable
-//! `MURSHOGI_VECTORS` names.
+//! The program is `target/bin/vectors` below the working directory, or the command in the environment
+//! variable `MURSHOGI_VECTORS`, its words parted by blanks.
 
 use std::collections::BTreeMap;
 use std::io::Write;
@@ -19,15 +19,18 @@ const RUN: usize = 500;
 /// there were and how many differ.
 fn replayed(stream: Vec<u8>) -> BTreeMap<String, (usize, usize)> {
     let path = std::env::var("MURSHOGI_VECTORS").unwrap_or("target/bin/vectors".to_string());
-    let mut program = Command::new(&path)
+    let words: Vec<&str> = path.split_whitespace().collect();
+    let mut program = Command::new(words[0])
+        .args(&words[1..])
         .stdin(Stdio::piped())
         .stdout(Stdio::piped())
         .spawn()
-        .unwrap_or_else(|e| panic!("{path}: {e}; MURSHOGI_VECTORS names the program"));
+        .unwrap_or_else(|e| panic!("{path}: {e}; MURSHOGI_VECTORS is the command"));
     let mut input = program.stdin.take().unwrap();
     let writer = std::thread::spawn(move || input.write_all(&stream));
     let output = program.wait_with_output().unwrap();
-    writer.join().unwrap().expect("the program reads the whole stream");
+    // A program that ends before the stream does says so in its output.
+    let _ = writer.join().unwrap();
     let text = String::from_utf8(output.stdout).unwrap();
     assert!(text.ends_with("the stream is complete\n"), "{path} says:\n{text}");
     let number = |s: &str| s.trim().split(' ').next().unwrap().parse().unwrap();
