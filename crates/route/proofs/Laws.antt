@@ -1,5 +1,6 @@
 -- What the turns leave in the slices, as the scene and the drawing have it. Assumes nothing.
-use mathlib.Core.Path.{_≡_, refl, sym, ap, ap₂, _∙_}
+use mathlib.Core.Path.{_≡_, refl, sym, ap, ap₂, _∙_, subst}
+use mathlib.Core.Bool.{true, false}
 use mathlib.Core.List.{List, [], _∷_, _++_, flatMap, append-nil}
 use Prim.Native.Nat.{ℕ, _+_, _*_, _≤_, _<_}
 use native.Mathlib.Nat.{zero-add}
@@ -7,26 +8,35 @@ use native.Mathlib.Numerals.{add-one}
 use native.Mathlib.Omega.{arith}
 use borrow.Author.Tests.{eq-eqb, ne-eqb}
 use lib.ListN.{length, getD, take, drop, set, drop-of-length-le, length-append}
-use lib.Seq.{drop-cons}
+use lib.Seq.{drop-cons, length-take-le}
 use lib.Ieee.{Float, nan}
 use Rattle.laws.specs.Flat.{part, part-new, table, table-more}
 use Rattle.laws.specs.Put.{put, put-put}
 use Rattle.laws.specs.Zip.{zip-at}
 use Rattle.shape.specs.declared.«V».{«V»}
+use Rattle.free.specs.Centres.{centres}
 use Rattle.trace.specs.Traces.{traceOf, ownerOf}
 use Rattle.trace.specs.Form.{decodeTraces}
 use Rattle.spot.specs.declared.Geometry.{Geometry}
 use Rattle.spot.specs.declared.Turn.{Turn}
 use Rattle.spot.specs.Labels.{labelled}
 use Rattle.records.specs.Records.{fields}
+use Rattle.records.specs.Back.{length-records}
 use Rattle.place.specs.Scene.{Scene, decodeBoxes}
 use Rattle.place.specs.Turn.{placed}
 use Rattle.looped.specs.Looped.{Loop, loopAt, looped}
-use Rattle.routing.specs.Routing.{Size, none}
-use Rattle.routing.specs.Passes.{Drawn, sizeBy, sizesBy}
+use Rattle.routing.specs.Routing.{Frame, Size, none, beyond, records}
+use Rattle.routing.specs.Passes.{Drawn, frameBy, sizeBy, sizesBy}
+use Rattle.routing.specs.Frames.{orZeros}
 use Rattle.routing.specs.Lists.{flat-join}
 use Rattle.routing.specs.Turns.{withLoop, withLabel}
-use Rattle.route.specs.Steps.{drawnBy, loopTurned, labelTurned, loopStep, labelStep, slotFor, slotsFor}
+use Rattle.lay.specs.declared.Laid.{Laid}
+use Rattle.lay.specs.declared.Laid.the-variants as Laid
+use Rattle.lay.specs.Lay.{Slices, Laying, LaidAll}
+use Rattle.route.specs.declared.Answer.the-variants as Answer
+use Rattle.route.specs.Geometry.{frameAt, frame-centred, answer, numbers}
+use Rattle.route.specs.Joins.{loops-at, first-drawn, all-gathered}
+use Rattle.route.specs.Steps.{LoopsAt, rimBy, gatheredFrom, drawnBy, loopTurned, labelTurned, loopStep, labelStep, slotFor, slotsFor}
 
 -- ---- what a turn is given
 
@@ -120,3 +130,54 @@ module _ (kinds : List ℕ) (drawn : List Float) (i : ℕ) where
 pub no-records : (kinds : List ℕ) (drawn l : List Float) → (20 * 0 ≡ length (slotsFor kinds drawn 0)) × (l ≡ put l 0 (slotsFor kinds drawn 0))
 unfolding put flatMap table
 no-records kinds drawn l = (refl, refl)
+
+-- ---- what is laid before the turns
+
+pub laid-of : (f : Frame) (l : Laid) (t : Slices) → LaidAll f l t → (m : ℕ) → l ≡ Laid.Traces m → (beyond f ≡ false) × Laying f m t
+laid-of f l t h m e = subst (λ (x : Laid). LaidAll f x t) e h
+
+pub beyond-of : (f : Frame) (sizes : List Size) (l : Laid) (t : Slices) (records : List Float) → LaidAll f l t → l ≡ Laid.Beyond
+    → (Answer.Beyond ≡ answer f sizes) × (records ≡ put records 0 (numbers f sizes))
+unfolding put
+beyond-of f sizes l t records h e = let b : beyond f ≡ true = subst (λ (x : Laid). LaidAll f x t) e h in rw b (refl, refl)
+
+module _ (flags : List ℕ) (xs ys : List Float) (sources targets : List ℕ) (sizes : List Size) (m : ℕ) (t : Slices) (n : length targets ≡ length sources)
+    (o : (beyond (frameBy flags xs ys sources targets) ≡ false) × Laying (frameBy flags xs ys sources targets) m t) where
+  pub loops-in : length flags ≡ length xs → LoopsAt (t .kinds) sources (length xs)
+  loops-in e = subst (LoopsAt (t .kinds) sources) e (loops-at flags xs ys sources targets sizes m t n (o .0) (o .1))
+
+  -- what the run gathers
+  abbrev all : List Float → List Float → List Float
+  all boxes d = gatheredFrom (rimBy flags sources targets (t .leaves) (t .reaches)) (centres xs ys) sources (t .kinds) (t .slots) sizes (drawnBy xs ys 0 boxes m (t .traces) d)
+
+  all-is : (boxes d : List Float) → 20 * length sources ≤ length d → all boxes d ≡ flatMap fields (records (frameBy flags xs ys sources targets) sizes)
+  all-is boxes d h =
+      ap (gatheredFrom (rimBy flags sources targets (t .leaves) (t .reaches)) (centres xs ys) sources (t .kinds) (t .slots) sizes) (first-drawn flags xs ys sources targets sizes m t n (o .0) (o .1) boxes d)
+      ∙ all-gathered flags xs ys sources targets sizes m t n (o .0) (o .1) d h
+
+  pub drawn-of : (boxes d l l′ : List Float) (r : ℕ) → 20 * length sources ≤ length d → 20 * r ≡ length (all boxes d) → l′ ≡ put l 0 (all boxes d)
+      → (Answer.Drawn r ≡ answer (frameBy flags xs ys sources targets) sizes) × (l′ ≡ put l 0 (numbers (frameBy flags xs ys sources targets) sizes))
+  drawn-of boxes d l l′ r h e f =
+      let g = records (frameBy flags xs ys sources targets) sizes in
+      let q : 20 * r ≡ 20 * length g = e ∙ ap length (all-is boxes d h) ∙ length-records g in
+      let k : r ≡ length g = omega arith in
+      rw (o .0) (ap Answer.Drawn k, f ∙ ap (put l 0) (all-is boxes d h))
+
+-- ---- the centres in their slices
+
+pub centred-frame : (flags : List ℕ) (xs ys cx cy : List Float) (sources targets : List ℕ) (n m : ℕ) → n ≡ length flags → m ≡ length flags
+    → cx ≡ orZeros xs n → cy ≡ orZeros ys m → frameBy flags cx cy sources targets ≡ frameAt flags xs ys sources targets
+centred-frame flags xs ys cx cy sources targets n m e f g h =
+    ap₂ (λ (u v : List Float). frameBy flags u v sources targets) (g ∙ ap (orZeros xs) e) (h ∙ ap (orZeros ys) f) ∙ frame-centred flags xs ys sources targets
+
+-- ---- the first n places of the working arrays
+
+module _ (n : ℕ) (l : List Float) (h : n ≤ length l) where
+  pub taken-same : (m : List Float) → n ≤ length m → length (take n m) ≡ length (take n l)
+  taken-same m k = length-take-le n m k ∙ sym (length-take-le n l h)
+
+  pub taken-few : (k : ℕ) → n ≤ k → length (take n l) ≤ k
+  taken-few k e = rw (length-take-le n l h) e
+
+  pub taken-room : (m k : ℕ) → 40 * (2 * m + n) ≤ k → 40 * (2 * m + length (take n l)) ≤ k
+  taken-room m k e = rw (length-take-le n l h) e

@@ -91,6 +91,10 @@ loopPass rims cs sources kinds sizes d = up (loopStep rims cs sources kinds size
 abbrev pub labelPass : ℕ → List Float → List ℕ → List Size → Drawn → Drawn
 labelPass kind slots kinds sizes d = up (labelStep kind slots kinds sizes) 0 (length kinds) d
 
+-- loops, then arcs, then straight arrows
+abbrev pub allPasses : (ℕ → List Float) → List «V» → List ℕ → List ℕ → List Float → List Size → Drawn → Drawn
+allPasses rims cs sources kinds slots sizes d = labelPass 3 slots kinds sizes (labelPass 2 slots kinds sizes (loopPass rims cs sources kinds sizes d))
+
 -- the states of the loops exist
 abbrev pub LoopsAt : List ℕ → List ℕ → ℕ → Type 0
 LoopsAt kinds sources n = (i : ℕ) → getD kinds i 0 ≡ 1 → getD sources i 0 < n
@@ -104,3 +108,7 @@ slotFor kinds drawn i = cond (eqb (getD kinds i 0) 0) [] (part 20 i drawn)
 -- those of the first n arrows, in arrow order
 abbrev pub slotsFor : List ℕ → List Float → ℕ → List Float
 slotsFor kinds drawn n = flatMap (slotFor kinds drawn) (table (λ i. i) 0 n)
+
+-- those of all, as the passes leave them
+abbrev pub gatheredFrom : (ℕ → List Float) → List «V» → List ℕ → List ℕ → List Float → List Size → Drawn → List Float
+gatheredFrom rims cs sources kinds slots sizes d = slotsFor kinds (allPasses rims cs sources kinds slots sizes d .slots) (length kinds)

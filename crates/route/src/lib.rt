@@ -1,5 +1,6 @@
 // The run of `geometry`: loops, then arcs, then straight arrows, each in arrow order, each at the cheapest listed place or
 // direction in the scene so far; then the records.
+use lay::Laid;
 use spot::Geometry;
 use spot::Turn;
 ghost use mathlib.Core.Path.{_≡_};
@@ -9,13 +10,27 @@ ghost use Rattle.laws.specs.Put.{put};
 ghost use Rattle.free.specs.Centres.{centres};
 ghost use Rattle.place.specs.Scene.{scene};
 ghost use Rattle.looped.specs.Looped.{looped};
-ghost use Rattle.routing.specs.Passes.{sizesBy};
+ghost use Rattle.routing.specs.Passes.{frameBy, sizesBy};
+ghost use Rattle.route.specs.Geometry as G;
 ghost use Rattle.route.specs.Steps as S;
+
+// The kinds of arrows; 0 is one that is left out.
+const LOOP: usize = 1;
+
+const ARC: usize = 2;
+
+const STRAIGHT: usize = 3;
 
 // How many boxes and traces the scene has.
 pub struct Counts {
     pub nb: usize,
     pub nt: usize,
+}
+
+// How many records are drawn, or a two-way pair whose first free bow exceeds 10^9.
+pub enum Answer {
+    Drawn(usize),
+    Beyond,
 }
 
 // ---- loops
@@ -129,7 +144,7 @@ fn loop_at(
     requires { ⌜ S.States (now flags) (now xs) (now ys) × S.Arrows (now sources) (now targets) (now leaves) (now reaches) × S.Turns (length (now sources)) (now kinds) (now widths) (now heights) (now drawn) × S.LoopsAt (now kinds) (now sources) (length (now xs)) × (4 * c .nb + 4 ≤ length (now boxes)) × (40 * c .nt + 40 ≤ length (now traces)) × (i < length (now sources)) ⌝ }
     ensures { λ r. ⌜ (r .nb ≤ c .nb + 1) × (r .nt ≤ c .nt + 1) × (S.drawnBy (now (xs .entry)) (now (ys .entry)) (r .nb) (now (boxes .exit)) (r .nt) (now (traces .exit)) (now (drawn .exit)) ≡ S.loopStep (S.rimBy (now (flags .entry)) (now (sources .entry)) (now (targets .entry)) (now (leaves .entry)) (now (reaches .entry))) (centres (now (xs .entry)) (now (ys .entry))) (now (sources .entry)) (now (kinds .entry)) (sizesBy (now (widths .entry)) (now (heights .entry))) i (S.drawnBy (now (xs .entry)) (now (ys .entry)) (c .nb) (now (boxes .entry)) (c .nt) (now (traces .entry)) (now (drawn .entry)))) ⌝ }
 {
-    if kinds[i] == 1 {
+    if kinds[i] == LOOP {
         return loop_turn(
             flags,
             xs,
@@ -344,4 +359,221 @@ fn gather(kinds: &[usize], drawn: &[f64], records: &mut [f64]) -> usize
         i += 1;
     }
     n
+}
+
+// ---- all
+
+// The turns of all arrows and their records; how many.
+fn run(
+    flags: &[u8],
+    xs: &[f64],
+    ys: &[f64],
+    sources: &[usize],
+    targets: &[usize],
+    kinds: &[usize],
+    leaves: &[f64],
+    reaches: &[f64],
+    slots: &[f64],
+    widths: &[f64],
+    heights: &[f64],
+    boxes: &mut [f64],
+    traces: &mut [f64],
+    nt: usize,
+    drawn: &mut [f64],
+    records: &mut [f64],
+) -> usize
+    requires { ⌜ S.States (now flags) (now xs) (now ys) × S.Arrows (now sources) (now targets) (now leaves) (now reaches) × S.Turns (length (now sources)) (now kinds) (now widths) (now heights) (now drawn) × S.LoopsAt (now kinds) (now sources) (length (now xs)) × (20 * length (now sources) ≤ length (now slots)) × (12 * length (now sources) ≤ length (now boxes)) × (40 * (nt + length (now sources)) ≤ length (now traces)) × (20 * length (now sources) ≤ length (now records)) ⌝ }
+    ensures { λ r. ⌜ (20 * r ≡ length (S.gatheredFrom (S.rimBy (now (flags .entry)) (now (sources .entry)) (now (targets .entry)) (now (leaves .entry)) (now (reaches .entry))) (centres (now (xs .entry)) (now (ys .entry))) (now (sources .entry)) (now (kinds .entry)) (now (slots .entry)) (sizesBy (now (widths .entry)) (now (heights .entry))) (S.drawnBy (now (xs .entry)) (now (ys .entry)) 0 (now (boxes .entry)) nt (now (traces .entry)) (now (drawn .entry))))) × (now (records .exit) ≡ put (now (records .entry)) 0 (S.gatheredFrom (S.rimBy (now (flags .entry)) (now (sources .entry)) (now (targets .entry)) (now (leaves .entry)) (now (reaches .entry))) (centres (now (xs .entry)) (now (ys .entry))) (now (sources .entry)) (now (kinds .entry)) (now (slots .entry)) (sizesBy (now (widths .entry)) (now (heights .entry))) (S.drawnBy (now (xs .entry)) (now (ys .entry)) 0 (now (boxes .entry)) nt (now (traces .entry)) (now (drawn .entry))))) ⌝ }
+{
+    let c = loops(
+        flags,
+        xs,
+        ys,
+        sources,
+        targets,
+        kinds,
+        leaves,
+        reaches,
+        widths,
+        heights,
+        boxes,
+        traces,
+        drawn,
+        Counts { nb: 0, nt },
+    );
+    let nb = labels(
+        ARC,
+        xs,
+        ys,
+        kinds,
+        slots,
+        widths,
+        heights,
+        boxes,
+        c.nb,
+        traces,
+        c.nt,
+        drawn,
+    );
+    labels(
+        STRAIGHT,
+        xs,
+        ys,
+        kinds,
+        slots,
+        widths,
+        heights,
+        boxes,
+        nb,
+        traces,
+        c.nt,
+        drawn,
+    );
+    gather(kinds, drawn, records)
+}
+
+// The drawing at these centres, in slices to work in.
+fn draw(
+    flags: &[u8],
+    sources: &[usize],
+    targets: &[usize],
+    widths: &[f64],
+    heights: &[f64],
+    xs: &[f64],
+    ys: &[f64],
+    kinds: &mut [usize],
+    leaves: &mut [f64],
+    reaches: &mut [f64],
+    slots: &mut [f64],
+    boxes: &mut [f64],
+    traces: &mut [f64],
+    drawn: &mut [f64],
+    records: &mut [f64],
+) -> Answer
+    requires { ⌜ S.States (now flags) (now xs) (now ys) × S.Arrows (now sources) (now targets) (now leaves) (now reaches) × S.Turns (length (now sources)) (now kinds) (now widths) (now heights) (now drawn) × (20 * length (now sources) ≤ length (now slots)) × (12 * length (now sources) ≤ length (now boxes)) × (40 * (2 * length (now sources) + length (now xs)) ≤ length (now traces)) × (20 * length (now sources) ≤ length (now records)) ⌝ }
+    ensures { λ r. ⌜ (r ≡ G.answer (frameBy (now (flags .entry)) (now (xs .entry)) (now (ys .entry)) (now (sources .entry)) (now (targets .entry))) (sizesBy (now (widths .entry)) (now (heights .entry)))) × (now (records .exit) ≡ put (now (records .entry)) 0 (G.numbers (frameBy (now (flags .entry)) (now (xs .entry)) (now (ys .entry)) (now (sources .entry)) (now (targets .entry))) (sizesBy (now (widths .entry)) (now (heights .entry))))) ⌝ }
+{
+    let l = lay::lay(
+        xs,
+        ys,
+        flags,
+        sources,
+        targets,
+        kinds,
+        leaves,
+        reaches,
+        slots,
+        traces,
+    );
+    let Laid::Traces(nt) = l else {
+        return Answer::Beyond;
+    };
+    Answer::Drawn(run(
+        flags,
+        xs,
+        ys,
+        sources,
+        targets,
+        kinds,
+        leaves,
+        reaches,
+        slots,
+        widths,
+        heights,
+        boxes,
+        traces,
+        nt,
+        drawn,
+        records,
+    ))
+}
+
+// The same at centres of which those that are missing or not finite count as 0.
+fn draw_at(
+    flags: &[u8],
+    sources: &[usize],
+    targets: &[usize],
+    widths: &[f64],
+    heights: &[f64],
+    xs: &[f64],
+    ys: &[f64],
+    cx: &mut [f64],
+    cy: &mut [f64],
+    kinds: &mut [usize],
+    leaves: &mut [f64],
+    reaches: &mut [f64],
+    slots: &mut [f64],
+    boxes: &mut [f64],
+    traces: &mut [f64],
+    drawn: &mut [f64],
+    records: &mut [f64],
+) -> Answer
+    requires { ⌜ S.States (now flags) (now cx) (now cy) × S.Arrows (now sources) (now targets) (now leaves) (now reaches) × S.Turns (length (now sources)) (now kinds) (now widths) (now heights) (now drawn) × (20 * length (now sources) ≤ length (now slots)) × (12 * length (now sources) ≤ length (now boxes)) × (40 * (2 * length (now sources) + length (now cx)) ≤ length (now traces)) × (20 * length (now sources) ≤ length (now records)) ⌝ }
+    ensures { λ r. ⌜ (r ≡ G.answer (G.frameAt (now (flags .entry)) (now (xs .entry)) (now (ys .entry)) (now (sources .entry)) (now (targets .entry))) (sizesBy (now (widths .entry)) (now (heights .entry)))) × (now (records .exit) ≡ put (now (records .entry)) 0 (G.numbers (G.frameAt (now (flags .entry)) (now (xs .entry)) (now (ys .entry)) (now (sources .entry)) (now (targets .entry))) (sizesBy (now (widths .entry)) (now (heights .entry))))) ⌝ }
+{
+    lay::centred(xs, cx);
+    lay::centred(ys, cy);
+    draw(
+        flags,
+        sources,
+        targets,
+        widths,
+        heights,
+        cx,
+        cy,
+        kinds,
+        leaves,
+        reaches,
+        slots,
+        boxes,
+        traces,
+        drawn,
+        records,
+    )
+}
+
+// The drawing of a graph at given centres: for each arrow of the records its twenty numbers, in arrow order.
+pub fn geometry(
+    flags: &[u8],
+    sources: &[usize],
+    targets: &[usize],
+    widths: &[f64],
+    heights: &[f64],
+    xs: &[f64],
+    ys: &[f64],
+    records: &mut [f64],
+) -> Answer
+    requires { ⌜ (length (now flags) ≤ 64) × (length (now sources) ≤ 256) × (length (now targets) ≡ length (now sources)) × (length (now widths) ≡ length (now sources)) × (length (now heights) ≡ length (now sources)) × (20 * length (now sources) ≤ length (now records)) ⌝ }
+    ensures { λ r. ⌜ (r ≡ G.answer (G.frameAt (now (flags .entry)) (now (xs .entry)) (now (ys .entry)) (now (sources .entry)) (now (targets .entry))) (sizesBy (now (widths .entry)) (now (heights .entry)))) × (now (records .exit) ≡ put (now (records .entry)) 0 (G.numbers (G.frameAt (now (flags .entry)) (now (xs .entry)) (now (ys .entry)) (now (sources .entry)) (now (targets .entry))) (sizesBy (now (widths .entry)) (now (heights .entry))))) ⌝ }
+{
+    let mut cx = [0.0f64; 64];
+    let mut cy = [0.0f64; 64];
+    let mut kinds = [0usize; 256];
+    let mut leaves = [0.0f64; 256];
+    let mut reaches = [0.0f64; 256];
+    let mut slots = [0.0f64; 5120];
+    let mut boxes = [0.0f64; 3072];
+    let mut traces = [0.0f64; 23040];
+    let mut drawn = [0.0f64; 5120];
+    let n = flags.len();
+    let m = sources.len();
+    draw_at(
+        flags,
+        sources,
+        targets,
+        widths,
+        heights,
+        xs,
+        ys,
+        &mut cx[..n],
+        &mut cy[..n],
+        &mut kinds[..m],
+        &mut leaves[..m],
+        &mut reaches[..m],
+        &mut slots,
+        &mut boxes,
+        &mut traces,
+        &mut drawn,
+        records,
+    )
 }

@@ -1,0 +1,184 @@
+-- Where no arrow is beyond: the passes over the slices are the passes over the arrows, and what is gathered there is the records. Assumes nothing.
+use mathlib.Core.Path.{_≡_, refl, sym, ap, ap₂, _∙_}
+use mathlib.Core.Bool.{Bool, true, false, not, cond, _&&_}
+use mathlib.Core.List.{List, [], _∷_, _++_, flatMap}
+use Prim.Native.Nat.{ℕ, zero, suc, _+_, _*_, _≤_, _<_}
+use native.Mathlib.Nat.{sub-zero}
+use native.Mathlib.Numerals.{add-one}
+use native.Mathlib.Omega.{arith}
+use borrow.Author.Tests.{eqb-true, eqb-false, ltb-true}
+use lib.Dec.{ltb, eqb}
+use lib.ListN.{length, getD, drop, length-map, List·getD-eq-default}
+use lib.Ieee.{Float}
+use Rattle.laws.specs.Cases.{by-bool, by-lt}
+use Rattle.laws.specs.Flat.{part, table}
+use Rattle.laws.specs.Loops.{turns, up, up-over}
+use Rattle.laws.specs.Zip.{zip-at}
+use Rattle.trace.specs.Traces.{Trace}
+use Rattle.free.specs.Centres.{centre, centres}
+use Rattle.bow.specs.declared.Routed.{Routed}
+use Rattle.records.specs.Records.{fields}
+use Rattle.place.specs.Scene.{sceneOf}
+use Rattle.place.specs.Turn.{placed}
+use Rattle.looped.specs.Looped.{looped, loopOf}
+use Rattle.routing.specs.Routing.{Frame, Ends, Size, Numbered, numbered, isKept, isLoop, isArc, beyond, firstScene, rim, loopTurn, turnOf, records}
+use Rattle.routing.specs.Passes.{endsBy, frameBy, isCrossing, routeOf, kindOf, Drawn, drawnOf, turned, passed, slotsOf, gathered}
+use Rattle.routing.specs.Numbers.{numberedBy, noEnds, numberedAt}
+use Rattle.routing.specs.Turns.{sizeFor, withLoop, withLabel, turned-loop, turned-label, turned-other}
+use Rattle.routing.specs.Rim.{rim-angles}
+use Rattle.routing.specs.Slots.{passes-gathered}
+use Rattle.lay.specs.Lay.{Laying, Slices}
+use Rattle.lay.specs.Numbers.{length-numbered, numbered-at, numbered-drop, numbered-past, of-arrow, many-arrows}
+use Rattle.route.specs.Steps.{rimBy, loopFor, loopStep, labelStep, loopPass, labelPass, LoopsAt, slotFor, slotsFor, gatheredFrom, drawnBy}
+
+-- ---- folds over numbers
+
+turns-agree : {A : Type 0} (g h : ℕ → A → A) (m i : ℕ) (a : A) → ((j : ℕ) → j < i + m → (b : A) → g j b ≡ h j b) → turns g m i a ≡ turns h m i a
+unfolding turns
+turns-agree g h zero i a e = refl
+turns-agree g h (suc m) i a e = ap (turns g m (suc i)) (e i (omega arith) a) ∙ turns-agree g h m (suc i) (h i a) (λ j l. e j (omega arith))
+
+-- two ways that agree on every number agree on all
+up-agree : {A : Type 0} (g h : ℕ → A → A) (n : ℕ) (a : A) → ((j : ℕ) → j < n → (b : A) → g j b ≡ h j b) → up g 0 n a ≡ up h 0 n a
+unfolding up
+up-agree g h n a e = rw (sub-zero n) (turns-agree g h n 0 a (λ j l. e j (omega arith)))
+
+-- a pass over the arrows, by their numbers
+pass-over : (f : Frame) (sizes : List Size) (p n : ℕ) (step : ℕ → Drawn → Drawn) (d : Drawn) → n ≡ length (f .arrows)
+    → ((j : ℕ) → j < length (f .arrows) → (b : Drawn) → step j b ≡ turned f sizes p b (numberedAt f j)) → up step 0 n d ≡ passed f sizes p d
+unfolding passed
+pass-over f sizes p n step d e a =
+    ap (λ (m : ℕ). up step 0 m d) (e ∙ sym (length-numbered f))
+    ∙ up-agree step (λ j b. turned f sizes p b (getD (numbered f) j (numberedAt f 0))) (length (numbered f)) d
+    (λ j h b.
+    let k : j < length (f .arrows) = omega (arith, length-numbered f) in
+    a j k b ∙ ap (turned f sizes p b) (sym (numbered-at f j (numberedAt f 0) k)))
+    ∙ up-over (turned f sizes p) (numberedAt f 0) (numbered f) d
+
+-- the arrows one after another, by their numbers
+flat-over : {B : Type 0} (f : Frame) (g : ℕ → List B) (h : Numbered → List B) (m i : ℕ) → i + m ≡ length (f .arrows)
+    → ((j : ℕ) → j < length (f .arrows) → g j ≡ h (numberedAt f j)) → flatMap g (table (λ j. j) i m) ≡ flatMap h (drop i (numbered f))
+unfolding flatMap table
+flat-over f g h zero i e a = rw (numbered-past f i (omega arith))
+flat-over {B} f g h (suc m) i e a =
+    rw (numbered-drop f i (omega arith), add-one) (ap₂ (λ (x y : List B). x ++ y) (a i (omega arith)) (flat-over f g h m (suc i) (omega arith) a))
+
+-- ---- kinds
+
+other-default : {A : Type 0} (l : List A) (i : ℕ) (a b : A) → i < length l → getD l i a ≡ getD l i b
+other-default [] i a b h = absurd (omega arith)
+other-default (x ∷ l) zero a b h = refl
+other-default (x ∷ l) (suc i) a b h = other-default l i a b (omega arith)
+
+kind-kept : (f : Frame) (a : Numbered) (p : ℕ) → kindOf f a ≡ suc p → isKept f a ≡ true
+unfolding kindOf
+kind-kept f a p e = go (isKept f a) (isLoop a) (isArc (routeOf f a)) e
+  where
+    go : (k l c : Bool) → cond k (cond l 1 (cond c 2 3)) 0 ≡ suc p → k ≡ true
+    go true l c e = refl
+    go false l c e = absurd (omega arith)
+
+kind-crossing : (f : Frame) (a : Numbered) (p : ℕ) → kindOf f a ≡ suc (suc p) → isCrossing f a ≡ true
+unfolding kindOf
+kind-crossing f a p e = go (isKept f a) (isLoop a) (isArc (routeOf f a)) e
+  where
+    go : (k l c : Bool) → cond k (cond l 1 (cond c 2 3)) 0 ≡ suc (suc p) → (k && not l) ≡ true
+    go true true c e = absurd (omega arith)
+    go true false c e = refl
+    go false l c e = absurd (omega arith)
+
+-- ---- the passes
+module _ (flags : List ℕ) (xs ys : List Float) (sources targets : List ℕ) (sizes : List Size) (m : ℕ) (t : Slices) (n : length targets ≡ length sources)
+    (o : beyond (frameBy flags xs ys sources targets) ≡ false) (l : Laying (frameBy flags xs ys sources targets) m t) where
+  abbrev frame : Frame
+  frame = frameBy flags xs ys sources targets
+
+  many-kinds : length (t .kinds) ≡ length (frame .arrows)
+  many-kinds = ap length (l .kinds) ∙ length-map (numbered frame) (kindOf frame) ∙ length-numbered frame
+
+  kind-at : (j : ℕ) → j < length (frame .arrows) → getD (t .kinds) j 0 ≡ kindOf frame (numberedAt frame j)
+  kind-at j h =
+      other-default (t .kinds) j 0 (kindOf frame (numberedAt frame 0)) (omega (arith, many-kinds))
+      ∙ ap (λ (ks : List ℕ). getD ks j (kindOf frame (numberedAt frame 0))) (l .kinds)
+      ∙ of-arrow (kindOf frame) frame j (numberedAt frame 0) h
+
+  ends-at : (j : ℕ) → j < length sources → endsBy (getD sources j 0) (getD targets j 0) ≡ getD (frame .arrows) j noEnds
+  ends-at j h = sym (zip-at endsBy sources targets j 0 0 noEnds n h)
+
+  rim-at : (k : ℕ) → rimBy flags sources targets (t .leaves) (t .reaches) k ≡ rim frame k
+  rim-at k =
+      ap₂ (λ (a b : List Float). rimBy flags sources targets a b k) (l .leaves) (l .reaches)
+      ∙ sym (rim-angles flags xs ys sources targets k n o)
+
+  loop-at : (d : Drawn) (j : ℕ) → j < length (frame .arrows)
+      → looped (d .scene) (loopFor (rimBy flags sources targets (t .leaves) (t .reaches)) (centres xs ys) sources sizes j)
+      ≡ looped (d .scene) (loopTurn frame (numberedAt frame j) (sizeFor sizes j))
+  loop-at d j h =
+      let k : j < length sources = omega (arith, many-arrows flags xs ys sources targets n) in
+      ap
+      (λ (r : List Float).
+      looped (d .scene) (loopOf j (getD sources j 0) (centre (centres xs ys) (getD sources j 0)) r (sizeFor sizes j .width) (sizeFor sizes j .height)))
+      (rim-at (getD sources j 0))
+      ∙ ap (λ (e : Ends). looped (d .scene) (loopTurn frame (numberedBy j e) (sizeFor sizes j))) (ends-at j k)
+
+  -- loops
+  pub loop-pass : (d : Drawn)
+      → loopPass (rimBy flags sources targets (t .leaves) (t .reaches)) (centres xs ys) sources (t .kinds) sizes d ≡ passed frame sizes 0 d
+  unfolding loopStep
+  loop-pass d =
+      pass-over frame sizes 0 (length (t .kinds)) _ d many-kinds
+      (λ j h b.
+      by-bool (eqb (getD (t .kinds) j 0) 1)
+      (λ e. rw e (ap (withLoop b) (loop-at b j h) ∙ sym (turned-loop frame sizes b (numberedAt frame j) (sym (kind-at j h) ∙ eqb-true _ _ e))))
+      (λ e. rw e (sym (turned-other frame sizes 0 b (numberedAt frame j) (λ q. eqb-false _ _ e (kind-at j h ∙ q))))))
+
+  -- labels of arcs, and of straight arrows
+  pub label-pass : (p : ℕ) (d : Drawn) → labelPass (suc (suc p)) (t .slots) (t .kinds) sizes d ≡ passed frame sizes (suc p) d
+  unfolding labelStep
+  label-pass p d =
+      pass-over frame sizes (suc p) (length (t .kinds)) _ d many-kinds
+      (λ j h b.
+      by-bool (eqb (getD (t .kinds) j 0) (suc (suc p)))
+      (λ e.
+      let k : kindOf frame (numberedAt frame j) ≡ suc (suc p) = sym (kind-at j h) ∙ eqb-true _ _ e in
+      rw e
+      (ap (λ (r : Routed). withLabel b (placed (b .scene) (turnOf j r (sizeFor sizes j)))) (l .slots j h (kind-crossing frame (numberedAt frame j) p k))
+      ∙ sym (turned-label frame sizes p b (numberedAt frame j) k)))
+      (λ e. rw e (sym (turned-other frame sizes (suc p) b (numberedAt frame j) (λ q. eqb-false _ _ e (kind-at j h ∙ q))))))
+
+  -- the records
+  gather-all : (d : List Float) → slotsFor (t .kinds) d (length (t .kinds)) ≡ gathered frame d
+  unfolding slotFor gathered slotsOf
+  gather-all d =
+      flat-over frame (slotFor (t .kinds) d) (slotsOf frame d) (length (t .kinds)) 0 (omega (arith, many-kinds))
+      (λ j h. ap (λ (k : ℕ). cond (eqb k 0) [] (part 20 j d)) (kind-at j h))
+
+  pub all-gathered : (d : List Float) → 20 * length sources ≤ length d
+      → gatheredFrom (rimBy flags sources targets (t .leaves) (t .reaches)) (centres xs ys) sources (t .kinds) (t .slots) sizes (drawnOf (firstScene frame) d)
+      ≡ flatMap fields (records frame sizes)
+  all-gathered d h =
+      gather-all _
+      ∙ ap (λ (c : Drawn). gathered frame (c .slots))
+      (label-pass 1 _ ∙ ap (passed frame sizes 2) (label-pass 0 _ ∙ ap (passed frame sizes 1) (loop-pass (drawnOf (firstScene frame) d))))
+      ∙ passes-gathered frame sizes d o (omega (arith, many-arrows flags xs ys sources targets n))
+
+  -- the scene before any label
+  pub first-drawn : (boxes d : List Float) → drawnBy xs ys 0 boxes m (t .traces) d ≡ drawnOf (firstScene frame) d
+  unfolding firstScene table
+  first-drawn boxes d = ap (λ (ts : List Trace). drawnOf (sceneOf (centres xs ys) ts []) d) (l .traces)
+
+  -- the loops are loops of states
+  pub loops-at : LoopsAt (t .kinds) sources (length flags)
+  loops-at i e =
+      by-lt i (length sources)
+      (λ h.
+      let k : i < length (frame .arrows) = omega (arith, many-arrows flags xs ys sources targets n) in
+      let a : isKept frame (numberedAt frame i) ≡ true = kind-kept frame (numberedAt frame i) 0 (sym (kind-at i k) ∙ e) in
+      ltb-true _ _ (ap (λ (q : Ends). ltb (q .source) (length flags)) (ends-at i h) ∙ both _ _ a))
+      (λ h.
+      let z : getD (t .kinds) i 0 ≡ 0 = List·getD-eq-default (t .kinds) 0 (omega (arith, many-kinds, many-arrows flags xs ys sources targets n)) in
+      absurd (omega arith))
+    where
+      both : (x y : Bool) → (x && y) ≡ true → x ≡ true
+      both true y q = refl
+      both false y q = q
