@@ -1,0 +1,3 @@
+pub mod Drawn
+pub mod Read
+pub mod Worked

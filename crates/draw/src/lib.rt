@@ -1,0 +1,151 @@
+// A sheet checked and routed at given centres.
+ghost use mathlib.Core.Path.{_≡_};
+ghost use Prim.Native.Nat.{_≤_};
+ghost use lib.ListN.{length};
+ghost use lib.Ieee.Scale.{finite};
+ghost use Rattle.sheet.specs.Sheet as G;
+ghost use Rattle.sheet.specs.Refusals as R;
+ghost use Rattle.draw.specs.Drawn as S;
+ghost use Rattle.sheet.specs.declared.Checked.the-variants.{Accepted};
+use route::Answer;
+use sheet::Checked;
+
+// How many records a drawing has, or the number of the refusal.
+pub enum Drawing {
+    Records(usize),
+    Refused(u8),
+}
+
+// ---- 8
+
+fn is_finite(v: f64) -> bool
+    ensures { λ r. ⌜ r ≡ finite v ⌝ }
+{
+    float::abs(v) < f64::from_bits(0x7ff0_0000_0000_0000)
+}
+
+// Whether v is finite and beyond 2^20 in size.
+fn far(v: f64) -> bool
+    ensures { λ r. ⌜ r ≡ S.far v ⌝ }
+{
+    if is_finite(v) {
+        return 1048576.0 < float::abs(v);
+    }
+    false
+}
+
+// Whether one of the first n is.
+fn some_far(l: &[f64], n: usize) -> bool
+    ensures { λ r. ⌜ r ≡ S.someFar n (now (l .entry)) ⌝ }
+{
+    let mut i: usize = 0;
+    let mut left = n;
+    while 0 < left {
+        if l.len() <= i {
+            return false;
+        }
+        if far(l[i]) {
+            return true;
+        }
+        i += 1;
+        left -= 1;
+    }
+    false
+}
+
+// Whether one of the first n centres is refused.
+fn far_centre(xs: &[f64], ys: &[f64], n: usize) -> bool
+    ensures { λ r. ⌜ r ≡ S.farCentre n (now (xs .entry)) (now (ys .entry)) ⌝ }
+{
+    if some_far(xs, n) {
+        return true;
+    }
+    some_far(ys, n)
+}
+
+// Document 01's capacities.
+fn main_screen() -> sheet::Limits
+    ensures { λ r. ⌜ r ≡ R.mainScreen ⌝ }
+{
+    sheet::Limits {
+        states: 64,
+        arrows: 256,
+        lines: 8,
+        bytes: 96,
+    }
+}
+
+// ---- the call
+
+// Routes an accepted sheet, what is read of it in the slices lent for that.
+fn draw_read(
+    s: &[u8],
+    flags: &mut [u8],
+    sources: &mut [usize],
+    targets: &mut [usize],
+    widths: &mut [f64],
+    heights: &mut [f64],
+    xs: &[f64],
+    ys: &[f64],
+    buf: &mut [f64],
+) -> Drawing
+    requires { ⌜ (length (now flags) ≡ length (G.statesOf (now s))) × (length (G.statesOf (now s)) ≤ 64) × (5120 ≤ length (now buf)) ⌝ }
+    requires { ⌜ (length (now sources) ≡ length (G.arrowsOf (now s))) × (length (now targets) ≡ length (G.arrowsOf (now s))) ⌝ }
+    requires { ⌜ (length (now widths) ≡ length (G.arrowsOf (now s))) × (length (now heights) ≡ length (G.arrowsOf (now s))) × (length (G.arrowsOf (now s)) ≤ 256) ⌝ }
+    ensures { λ r. ⌜ (r ≡ S.answerBy (S.routeRefusals (G.meaning (now (s .entry))) (now (xs .entry)) (now (ys .entry))) (G.meaning (now (s .entry))) (now (xs .entry)) (now (ys .entry))) × (now (buf .exit) ≡ S.leftBy (S.routeRefusals (G.meaning (now (s .entry))) (now (xs .entry)) (now (ys .entry))) (G.meaning (now (s .entry))) (now (xs .entry)) (now (ys .entry)) (now (buf .entry))) ⌝ }
+{
+    graph::read(s, flags, sources, targets, widths, heights);
+    let a = route::geometry(flags, sources, targets, widths, heights, xs, ys, buf);
+    match a {
+        Answer::Drawn(n) => Drawing::Records(n),
+        Answer::Beyond => Drawing::Refused(9),
+    }
+}
+
+// Routes an accepted sheet of n states whose centres are not far.
+fn draw_near(s: &[u8], n: usize, xs: &[f64], ys: &[f64], buf: &mut [f64]) -> Drawing
+    requires { ⌜ (n ≡ length (G.statesOf (now s))) × (n ≤ 64) × (length (G.arrowsOf (now s)) ≤ 256) × (5120 ≤ length (now buf)) ⌝ }
+    ensures { λ r. ⌜ (r ≡ S.answerBy (S.routeRefusals (G.meaning (now (s .entry))) (now (xs .entry)) (now (ys .entry))) (G.meaning (now (s .entry))) (now (xs .entry)) (now (ys .entry))) × (now (buf .exit) ≡ S.leftBy (S.routeRefusals (G.meaning (now (s .entry))) (now (xs .entry)) (now (ys .entry))) (G.meaning (now (s .entry))) (now (xs .entry)) (now (ys .entry)) (now (buf .entry))) ⌝ }
+{
+    let mut flags = [0u8; 64];
+    let mut sources = [0usize; 256];
+    let mut targets = [0usize; 256];
+    let mut widths = [0.0f64; 256];
+    let mut heights = [0.0f64; 256];
+    let m = meaning::arrow_count(s);
+    draw_read(
+        s,
+        &mut flags[..n],
+        &mut sources[..m],
+        &mut targets[..m],
+        &mut widths[..m],
+        &mut heights[..m],
+        xs,
+        ys,
+        buf,
+    )
+}
+
+// Routes an accepted sheet.
+fn draw_accepted(s: &[u8], xs: &[f64], ys: &[f64], buf: &mut [f64]) -> Drawing
+    requires { ⌜ (R.checkOf R.mainScreen (now s) ≡ Accepted) × (5120 ≤ length (now buf)) ⌝ }
+    ensures { λ r. ⌜ (r ≡ S.answerBy (S.centreRefusals (G.meaning (now (s .entry))) (now (xs .entry)) (now (ys .entry))) (G.meaning (now (s .entry))) (now (xs .entry)) (now (ys .entry))) × (now (buf .exit) ≡ S.leftBy (S.centreRefusals (G.meaning (now (s .entry))) (now (xs .entry)) (now (ys .entry))) (G.meaning (now (s .entry))) (now (xs .entry)) (now (ys .entry)) (now (buf .entry))) ⌝ }
+{
+    let n = meaning::state_count(s);
+    if far_centre(xs, ys, n) {
+        return Drawing::Refused(8);
+    }
+    draw_near(s, n, xs, ys, buf)
+}
+
+// Checks a sheet and routes it at the given centres: the records, twenty numbers each, from the front of `buf` on, or a refusal.
+pub fn draw(s: &[u8], xs: &[f64], ys: &[f64], buf: &mut [f64]) -> Drawing
+    requires { ⌜ 5120 ≤ length (now buf) ⌝ }
+    ensures { λ r. ⌜ (r ≡ S.drawOf R.mainScreen (now (s .entry)) (now (xs .entry)) (now (ys .entry))) × (now (buf .exit) ≡ S.drawAfter R.mainScreen (now (s .entry)) (now (xs .entry)) (now (ys .entry)) (now (buf .entry))) ⌝ }
+{
+    let c = walk::check_within(s, main_screen());
+    match c {
+        Checked::Refused(n) => Drawing::Refused(n),
+        Checked::Accepted => draw_accepted(s, xs, ys, buf),
+    }
+}
