@@ -29,7 +29,7 @@ use Rattle.routing.specs.Rim.{rim-angles}
 use Rattle.routing.specs.Slots.{passes-gathered}
 use Rattle.lay.specs.Lay.{Laying, Slices}
 use Rattle.lay.specs.Numbers.{length-numbered, numbered-at, numbered-drop, numbered-past, of-arrow, many-arrows}
-use Rattle.route.specs.Steps.{rimBy, loopFor, loopStep, labelStep, loopPass, labelPass, LoopsAt, slotFor, slotsFor, gatheredFrom, drawnBy}
+use Rattle.passes.specs.Steps.{rimBy, loopFor, loopStep, labelStep, loopPass, labelPass, LoopsAt, slotFor, slotsFor, gatheredFrom, drawnBy}
 
 -- ---- folds over numbers
 

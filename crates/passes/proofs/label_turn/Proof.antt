@@ -1,4 +1,4 @@
--- `route::label_turn` meets its contract.
+-- `passes::label_turn` meets its contract.
 use mathlib.Core.Path.{ap₂, _∙_}
 use native.Mathlib.Omega.{arith}
 use denote.Ref.{now}
@@ -7,11 +7,11 @@ use Rattle.place.specs.Scene.{Scene, scene}
 use Rattle.place.specs.Turn.{placed}
 use Rattle.routing.specs.Routing.{Size, turnOf}
 use Rattle.routing.specs.Passes.{sizesBy}
-use Rattle.route.specs.Steps.{labelFor}
-use Rattle.route.proofs.Laws.{size-at, label-edge, label-left}
+use Rattle.passes.specs.Steps.{labelFor}
+use Rattle.passes.proofs.Laws.{size-at, label-edge, label-left}
 use borrow.Author.Needs.{needs}
-use Rattle.route.proofs.label_turn.Statement.{statement}
-use Rattle.route.proofs.label_turn.Tie as tie
+use Rattle.passes.proofs.label_turn.Statement.{statement}
+use Rattle.passes.proofs.label_turn.Tie as tie
 
 routed-at-requires : tie.Need-routed-at-requires
 routed-at-requires c κs = search needs

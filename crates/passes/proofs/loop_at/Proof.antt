@@ -1,14 +1,14 @@
--- `route::loop_at` meets its contract.
+-- `passes::loop_at` meets its contract.
 use mathlib.Core.Path.{_∙_}
 use native.Mathlib.Omega.{arith}
 use denote.Ref.{now}
 use Rattle.free.specs.Centres.{centres}
 use Rattle.routing.specs.Passes.{sizesBy}
-use Rattle.route.specs.Steps.{rimBy, drawnBy}
-use Rattle.route.proofs.Laws.{loop-step, loop-skip}
+use Rattle.passes.specs.Steps.{rimBy, drawnBy}
+use Rattle.passes.proofs.Laws.{loop-step, loop-skip}
 use borrow.Author.Needs.{needs}
-use Rattle.route.proofs.loop_at.Statement.{statement}
-use Rattle.route.proofs.loop_at.Tie as tie
+use Rattle.passes.proofs.loop_at.Statement.{statement}
+use Rattle.passes.proofs.loop_at.Tie as tie
 
 mul-if1 : tie.Need-mul-if1
 mul-if1 c = search needs

@@ -1,4 +1,4 @@
--- `route::draw_loop` meets its contract.
+-- `passes::draw_loop` meets its contract.
 use mathlib.Core.Path.{sym, ap₂, _∙_}
 use mathlib.Core.List.{List}
 use Prim.Native.Nat.{ℕ}
@@ -11,11 +11,11 @@ use Rattle.free.specs.Centres.{centre, centres}
 use Rattle.place.specs.Scene.{Scene, scene}
 use Rattle.looped.specs.Looped.{loopOf, looped}
 use Rattle.routing.specs.Routing.{Size}
-use Rattle.route.specs.Steps.{rimBy}
-use Rattle.route.proofs.Laws.{front-is, size-at}
+use Rattle.passes.specs.Steps.{rimBy}
+use Rattle.passes.proofs.Laws.{front-is, size-at}
 use borrow.Author.Needs.{needs}
-use Rattle.route.proofs.draw_loop.Statement.{statement}
-use Rattle.route.proofs.draw_loop.Tie as tie
+use Rattle.passes.proofs.draw_loop.Statement.{statement}
+use Rattle.passes.proofs.draw_loop.Tie as tie
 
 mul-k : tie.Need-mul-k
 mul-k c = search needs

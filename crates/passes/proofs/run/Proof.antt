@@ -1,4 +1,4 @@
--- `route::run` meets its contract.
+-- `passes::run` meets its contract.
 use mathlib.Core.Path.{refl, ap, _∙_}
 use mathlib.Core.List.{List}
 use Prim.Native.Nat.{ℕ}
@@ -9,10 +9,10 @@ use denote.Ref.{now}
 use Rattle.laws.specs.Put.{put}
 use Rattle.routing.specs.Routing.{Size}
 use Rattle.routing.specs.Passes.{Drawn, sizesBy}
-use Rattle.route.specs.Steps.{labelPass, slotsFor}
+use Rattle.passes.specs.Steps.{labelPass, slotsFor}
 use borrow.Author.Needs.{needs}
-use Rattle.route.proofs.run.Statement.{statement}
-use Rattle.route.proofs.run.Tie as tie
+use Rattle.passes.proofs.run.Statement.{statement}
+use Rattle.passes.proofs.run.Tie as tie
 
 loops-requires : tie.Need-loops-requires
 loops-requires c κs =

@@ -1,4 +1,4 @@
--- `route::gather_at` meets its contract.
+-- `passes::gather_at` meets its contract.
 use mathlib.Core.Path.{_≡_, sym, ap, _∙_}
 use mathlib.Core.List.{List}
 use Prim.Native.Nat.{_+_, _-_, _*_}
@@ -9,11 +9,11 @@ use lib.Ieee.{Float}
 use denote.Ref.{now}
 use Rattle.laws.specs.Flat.{part}
 use Rattle.laws.specs.Put.{put, put-mid}
-use Rattle.route.specs.Steps.{slotFor}
-use Rattle.route.proofs.Laws.{slot-some, skip-record}
+use Rattle.passes.specs.Steps.{slotFor}
+use Rattle.passes.proofs.Laws.{slot-some, skip-record}
 use borrow.Author.Needs.{needs}
-use Rattle.route.proofs.gather_at.Statement.{statement}
-use Rattle.route.proofs.gather_at.Tie as tie
+use Rattle.passes.proofs.gather_at.Statement.{statement}
+use Rattle.passes.proofs.gather_at.Tie as tie
 
 mul-if1 : tie.Need-mul-if1
 mul-if1 c = search needs

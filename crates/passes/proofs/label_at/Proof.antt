@@ -1,13 +1,13 @@
--- `route::label_at` meets its contract.
+-- `passes::label_at` meets its contract.
 use mathlib.Core.Path.{_∙_}
 use native.Mathlib.Omega.{arith}
 use denote.Ref.{now}
 use Rattle.routing.specs.Passes.{sizesBy}
-use Rattle.route.specs.Steps.{drawnBy}
-use Rattle.route.proofs.Laws.{label-step, label-skip}
+use Rattle.passes.specs.Steps.{drawnBy}
+use Rattle.passes.proofs.Laws.{label-step, label-skip}
 use borrow.Author.Needs.{needs}
-use Rattle.route.proofs.label_at.Statement.{statement}
-use Rattle.route.proofs.label_at.Tie as tie
+use Rattle.passes.proofs.label_at.Statement.{statement}
+use Rattle.passes.proofs.label_at.Tie as tie
 
 mul-if1 : tie.Need-mul-if1
 mul-if1 c = search needs

@@ -1,15 +1,15 @@
--- `route::loop_turn` meets its contract.
+-- `passes::loop_turn` meets its contract.
 use native.Mathlib.Omega.{arith}
 use denote.Ref.{now}
 use Rattle.free.specs.Centres.{centres}
 use Rattle.place.specs.Scene.{Scene, scene}
 use Rattle.looped.specs.Looped.{Loop, looped}
 use Rattle.routing.specs.Passes.{sizesBy}
-use Rattle.route.specs.Steps.{rimBy, loopFor}
-use Rattle.route.proofs.Laws.{loop-edge, loop-left}
+use Rattle.passes.specs.Steps.{rimBy, loopFor}
+use Rattle.passes.proofs.Laws.{loop-edge, loop-left}
 use borrow.Author.Needs.{needs}
-use Rattle.route.proofs.loop_turn.Statement.{statement}
-use Rattle.route.proofs.loop_turn.Tie as tie
+use Rattle.passes.proofs.loop_turn.Statement.{statement}
+use Rattle.passes.proofs.loop_turn.Tie as tie
 
 draw-loop-requires : tie.Need-draw-loop-requires
 draw-loop-requires c κs = search needs

@@ -1,4 +1,4 @@
--- `route::loops` meets its contract.
+-- `passes::loops` meets its contract.
 use mathlib.Core.Path.{_≡_, refl, sym, ap, _∙_}
 use Prim.Native.Nat.{_+_, _-_, _≤_}
 use native.Mathlib.Omega.{arith}
@@ -7,10 +7,10 @@ use denote.Ref.{now}
 use Rattle.laws.specs.Loops.{up, up-step, up-done}
 use Rattle.free.specs.Centres.{centres}
 use Rattle.routing.specs.Passes.{Drawn, sizesBy}
-use Rattle.route.specs.Steps.{rimBy, drawnBy, loopStep, loopPass}
+use Rattle.passes.specs.Steps.{rimBy, drawnBy, loopStep, loopPass}
 use borrow.Author.Needs.{needs}
-use Rattle.route.proofs.loops.Statement.{statement}
-use Rattle.route.proofs.loops.Tie as tie
+use Rattle.passes.proofs.loops.Statement.{statement}
+use Rattle.passes.proofs.loops.Tie as tie
 
 abbrev Inv-loop : tie.InvT-loop
 Inv-loop flags xs ys sources targets kinds leaves reaches widths heights boxes₀ traces₀ drawn₀ c₀ i₀ boxes traces drawn c i =

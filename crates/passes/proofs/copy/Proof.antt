@@ -1,14 +1,14 @@
--- `route::copy` meets its contract.
+-- `passes::copy` meets its contract.
 use mathlib.Core.Path.{_≡_, refl, sym, _∙_}
 use Prim.Native.Nat.{_-_, _≤_}
 use native.Mathlib.Omega.{arith}
 use lib.ListN.{length, drop, length-set}
 use denote.Ref.{now}
 use Rattle.laws.specs.Put.{put}
-use Rattle.route.proofs.Laws.{copy-turn, copy-end}
+use Rattle.passes.proofs.Laws.{copy-turn, copy-end}
 use borrow.Author.Needs.{needs}
-use Rattle.route.proofs.copy.Statement.{statement}
-use Rattle.route.proofs.copy.Tie as tie
+use Rattle.passes.proofs.copy.Statement.{statement}
+use Rattle.passes.proofs.copy.Tie as tie
 
 abbrev Inv-loop : tie.InvT-loop
 Inv-loop from to₀ i₀ to i = (i ≤ 20) × (length to ≡ length to₀) × (put to i (drop i from) ≡ put to₀ 0 from)

@@ -1,4 +1,4 @@
--- `route::labels` meets its contract.
+-- `passes::labels` meets its contract.
 use mathlib.Core.Path.{_≡_, refl, sym, ap, _∙_}
 use Prim.Native.Nat.{_+_, _-_, _≤_}
 use native.Mathlib.Omega.{arith}
@@ -6,10 +6,10 @@ use lib.ListN.{length}
 use denote.Ref.{now}
 use Rattle.laws.specs.Loops.{up, up-step, up-done}
 use Rattle.routing.specs.Passes.{Drawn, sizesBy}
-use Rattle.route.specs.Steps.{drawnBy, labelStep, labelPass}
+use Rattle.passes.specs.Steps.{drawnBy, labelStep, labelPass}
 use borrow.Author.Needs.{needs}
-use Rattle.route.proofs.labels.Statement.{statement}
-use Rattle.route.proofs.labels.Tie as tie
+use Rattle.passes.proofs.labels.Statement.{statement}
+use Rattle.passes.proofs.labels.Tie as tie
 
 abbrev Inv-loop : tie.InvT-loop
 Inv-loop kind xs ys kinds slots widths heights boxes₀ first traces nt drawn₀ nb₀ i₀ boxes drawn nb i =

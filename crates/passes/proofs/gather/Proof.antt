@@ -1,15 +1,15 @@
--- `route::gather` meets its contract.
+-- `passes::gather` meets its contract.
 use mathlib.Core.Path.{_≡_, refl, ap, _∙_}
 use Prim.Native.Nat.{ℕ, _-_, _*_, _≤_}
 use native.Mathlib.Omega.{arith}
 use lib.ListN.{length}
 use denote.Ref.{now}
 use Rattle.laws.specs.Put.{put}
-use Rattle.route.specs.Steps.{slotsFor}
-use Rattle.route.proofs.Laws.{no-records, more-count, more-records}
+use Rattle.passes.specs.Steps.{slotsFor}
+use Rattle.passes.proofs.Laws.{no-records, more-count, more-records}
 use borrow.Author.Needs.{needs}
-use Rattle.route.proofs.gather.Statement.{statement}
-use Rattle.route.proofs.gather.Tie as tie
+use Rattle.passes.proofs.gather.Statement.{statement}
+use Rattle.passes.proofs.gather.Tie as tie
 
 abbrev Inv-loop : tie.InvT-loop
 Inv-loop kinds drawn records₀ n₀ i₀ records n i =
