@@ -1,6 +1,6 @@
 -- A turn of each loop over slices, and its end; what a push leaves. Assumes nothing.
 use mathlib.Core.Path.{_≡_, refl, sym, ap, ap₂, subst, _∙_}
-use mathlib.Core.Bool.{true, false, not}
+use mathlib.Core.Bool.{Bool, _&&_, false, not, true}
 use mathlib.Core.List.{List, [], _∷_, _++_, append-nil, append-assoc}
 use Prim.Native.Nat.{ℕ, suc, _+_, _-_, _≤_, _<_}
 use native.Mathlib.Nat.{sub-zero, not-suc-le-zero}
@@ -12,7 +12,8 @@ use lib.Seq.{drop-cons, take-suc-set, length-take-le, take-take, take-append-le,
 use Rattle.laws.specs.Filter.{filter, filter-join}
 use Rattle.laws.specs.Flat.{table}
 use Rattle.laws.specs.Loops.{over}
-use Rattle.columns.specs.Columns.{Arrow, arrowsOf, successors, elem, discover, explore, columnsAfter, reached, isNew, unreached, states, concat, columns, lastColumn}
+use Rattle.rim.specs.Rims.{apart}
+use Rattle.columns.specs.Columns.{Arrow, arrow, leaves, arrowsOf, successors, elem, discover, explore, columnsAfter, reached, isNew, unreached, states, concat, columns, lastColumn}
 use Rattle.columns.specs.Found.{Fair, Reached, discover-new, fair-start, explore-turn, explore-end, explore-fair, explore-front, explore-grows, after-none, after-more, after-end}
 use Rattle.columns.specs.Split.{split, split-snoc, split-take, concat-split, sum, sum-snoc}
 
@@ -254,3 +255,19 @@ module _ (sources targets : List ℕ) (start : ℕ) (order order′ sizes : List
         one-column : (u : List ℕ) → 0 < length u → lastColumn u ≡ u ∷ []
         one-column [] h = absurd (not-suc-le-zero h)
         one-column (v ∷ u) h = refl
+
+-- ---- an arrow that leaves v
+module _ (n v a b : ℕ) where
+  pub leaves-from : a ≡ v → apart n a b ≡ leaves n v (arrow a b)
+  leaves-from e = rw (eq-eqb a v e) (sym (and-true (apart n a b)))
+    where
+      and-true : (x : Bool) → x && true ≡ x
+      and-true true = refl
+      and-true false = refl
+
+  pub leaves-not : (a ≡ v → ⊥) → false ≡ leaves n v (arrow a b)
+  leaves-not d = rw (ne-eqb a v d) (sym (and-false (apart n a b)))
+    where
+      and-false : (x : Bool) → x && false ≡ false
+      and-false true = refl
+      and-false false = refl

@@ -33,8 +33,8 @@ pub fn holds(list: &[usize], w: usize) -> bool
 fn leaves(n: usize, v: usize, a: usize, b: usize) -> bool
     ensures { λ r. ⌜ r ≡ D.leaves n v (D.arrow a b) ⌝ }
 {
-    if rim::apart(n, a, b) {
-        return a == v;
+    if a == v {
+        return rim::apart(n, a, b);
     }
     false
 }

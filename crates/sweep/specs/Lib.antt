@@ -1,2 +1,4 @@
 pub mod Sweeps
 pub mod Steps
+pub mod Counted
+pub mod Sorted

@@ -1,4 +1,6 @@
 -- `columns::leaves` meets its contract.
+use mathlib.Core.Path.{_∙_}
+use Rattle.columns.proofs.Laws.{leaves-from, leaves-not}
 use borrow.Author.Needs.{needs}
 use Rattle.columns.proofs.leaves.Statement.{statement}
 use Rattle.columns.proofs.leaves.Tie as tie
@@ -7,10 +9,10 @@ apart-requires : tie.Need-apart-requires
 apart-requires c κs = search needs
 
 returns : tie.Need-returns
-returns c = rw (← (c .before .apart .ensures), c .if1 .taken)
+returns c = c .apart .ensures ∙ leaves-from (c .before .before .args .n) (c .before .before .args .v) (c .before .before .args .a) (c .before .before .args .b) (c .before .if1 .taken)
 
 returns-2 : tie.Need-returns-2
-returns-2 c = rw (← (c .before .apart .ensures), c .if1 .left)
+returns-2 c = leaves-not (c .before .args .n) (c .before .args .v) (c .before .args .a) (c .before .args .b) (c .if1 .left)
 
 pub leaves-spec : {M : Type 1} → statement M
 leaves-spec = tie.close (tie.spec apart-requires returns returns-2)
