@@ -1,0 +1,100 @@
+-- Each way through the code, as the definitions have it: what the calls give are variables. Assumes nothing.
+use mathlib.Core.Path.{_≡_, sym, ap, _∙_, subst}
+use mathlib.Core.Bool.{Bool, true, false, not, _||_}
+use mathlib.Core.List.{List, [], _++_}
+use Prim.Native.Nat.{ℕ, _+_, _≤_, _<_}
+use native.Mathlib.Nat.{zero-add}
+use native.Mathlib.Numerals.{add-one}
+use native.Mathlib.Omega.{arith}
+use borrow.Author.Tests.{lt-ltb, le-ltb}
+use lib.ListN.{length, drop, set, getD, length-append, drop-of-length-le}
+use lib.Seq.{drop-cons}
+use lib.Ieee.{Float, nan}
+use Rattle.laws.specs.Put.{put, put-eq}
+use Rattle.laws.specs.Cases.{by-bool}
+use Rattle.laws.specs.Writers.{Wrote, measured, empty, fitted}
+use Rattle.laws.specs.Refusals.{decide}
+use Rattle.laws.specs.Flat.{table}
+use Rattle.shape.specs.declared.«V».{«V»}
+use Rattle.free.specs.Centres.{centres}
+use Rattle.spot.specs.declared.Geometry.{Geometry}
+use Rattle.routing.specs.Sheets.{centreAt}
+use Rattle.routing.specs.Frames.{orZeros, centres-table}
+use Rattle.clutter.specs.Clutter.{clutterOf}
+use Rattle.lines.specs.Lines.{pathsText, pathsWritable}
+use Rattle.diagram.specs.Calls.{short, onto}
+use Rattle.diagram.specs.Filled.{filledAs, recordsLeft, textLeft}
+use Rattle.diagram.specs.declared.Routed.{Routed}
+use Rattle.diagram.specs.declared.Routed.the-variants.{Lengths, Refused}
+
+-- ---- copy
+
+pub copy-turn : (l v : List Float) (i : ℕ) → i < length v → put (set l i (getD v i nan)) (i + 1) (drop (i + 1) v) ≡ put l i (drop i v)
+unfolding put
+copy-turn l v i h = rw (add-one, drop-cons v i nan)
+
+pub copy-end : (l v : List Float) (i : ℕ) → length v ≤ i → put l i (drop i v) ≡ l
+unfolding put
+copy-end l v i h = rw (drop-of-length-le v h)
+
+pub copied : (l v : List Float) → length v ≤ length l → put l 0 v ≡ onto v l
+copied l v h = put-eq l 0 v (omega arith) ∙ ap (λ (i : ℕ). v ++ drop i l) (zero-add (length v))
+
+-- ---- fill
+
+or-true : (a b : Bool) → b ≡ true → (a || b) ≡ true
+or-true a b h = by-bool a (λ t. rw t) (λ t. rw (t, h))
+
+or-false : (a b : Bool) → a ≡ false → b ≡ false → (a || b) ≡ false
+or-false a b g h = rw (g, h)
+
+module _ (numbers : List Float) (gs : List Geometry) (records : List Float) (text : List ℕ) where
+  -- r is answered, and a and b stand in the lent slices
+  abbrev pub Filled : Routed → List Float → List ℕ → Type 0
+  Filled r a b =
+      (r ≡ filledAs numbers gs (length records) (length text))
+      × (a ≡ recordsLeft numbers gs records (length text))
+      × (b ≡ textLeft numbers gs (length records) text)
+
+  pub fill-10 : (w : Bool) → w ≡ pathsWritable gs → not w ≡ true → Filled (Refused 10) records text
+  unfolding decide
+  fill-10 w e t = let o : not (pathsWritable gs) ≡ true = ap not (sym e) ∙ t in (rw o, rw o, rw o)
+
+  fill-7 : not (pathsWritable gs) ≡ false → (short (length records) numbers || short (length text) (pathsText gs)) ≡ true → Filled (Refused 7) records text
+  unfolding decide
+  fill-7 o t = (rw (o, t), rw (o, t), rw (o, t))
+
+  module _ (w : Bool) (e : w ≡ pathsWritable gs) (u : not w ≡ false) where
+    may : not (pathsWritable gs) ≡ false
+    may = ap not (sym e) ∙ u
+
+    pub fill-records : (n : ℕ) → n ≡ length numbers → length records < n → Filled (Refused 7) records text
+    fill-records n q h =
+        let i : length records < length numbers = omega arith in
+        fill-7 may (ap (λ (b : Bool). b || short (length text) (pathsText gs)) (lt-ltb _ _ i))
+
+    -- p is what the empty part of the text came back as, need the length measured on it
+    module _ (p : List ℕ) (need : ℕ) (v : Wrote [] 0 p need (pathsText gs)) (fits : length text < 18446744073709551615) where
+      back : p ++ text ≡ text
+      back = ap (λ (l : List ℕ). l ++ text) (empty v)
+
+      pub fill-text : length (p ++ text) < need → Filled (Refused 7) records (p ++ text)
+      fill-text h =
+          let i : length text < length (pathsText gs) = omega (arith, measured v, length-append p text) in
+          let f = fill-7 may (or-true (short (length records) numbers) (short (length text) (pathsText gs)) (lt-ltb _ _ i)) in
+          (f .0, f .1, back ∙ f .2)
+
+      pub fill-done : (n m : ℕ) (a : List Float) (q : List ℕ) → n ≡ length numbers → n ≤ length records → need ≤ length (p ++ text) → a ≡ onto numbers records → Wrote (p ++ text) 0 q m (pathsText gs) → Filled (Lengths n m) a q
+      unfolding decide
+      fill-done n m a q e h i k x =
+          let r : length numbers ≤ length records = omega arith in
+          let t : length (pathsText gs) ≤ length text = omega (arith, measured v, ap length back) in
+          let y = fitted (subst (λ (l : List ℕ). Wrote l 0 q m (pathsText gs)) back x) t in
+          let o = or-false (short (length records) numbers) (short (length text) (pathsText gs)) (le-ltb _ _ r) (le-ltb _ _ t) in
+          (rw (may, o, e, y .0), rw (may, o) k, rw (may, o) (y .1))
+
+-- ---- clutter
+
+pub centred-clutter : (xs ys a d p q : List Float) (gs : List Geometry) → length d ≡ length a → p ≡ orZeros xs (length a) → q ≡ orZeros ys (length d)
+    → clutterOf (centres p q) gs ≡ clutterOf (table (centreAt xs ys) 0 (length a)) gs
+centred-clutter xs ys a d p q gs h e f = rw (e, f, h) (ap (λ (cs : List «V»). clutterOf cs gs) (centres-table xs ys (length a)))

@@ -1,0 +1,66 @@
+-- Routing and counting clutter, from what drawing a sheet gives. Assumes nothing.
+use mathlib.Core.Path.{_≡_, sym, ap, _∙_}
+use mathlib.Core.List.{List}
+use Prim.Native.Nat.{ℕ, _*_}
+use lib.ListN.{length, take}
+use lib.Ieee.{Float}
+use Rattle.laws.specs.Flat.{table}
+use Rattle.laws.specs.Refusals.{Refusal, decide-map}
+use Rattle.sheet.specs.Sheet.{meaning}
+use Rattle.records.specs.Records.{decodeRecords}
+use Rattle.routing.specs.Sheets.{centreAt, frameOf}
+use Rattle.clutter.specs.Clutter.{clutterOf}
+use Rattle.lines.specs.Lines.{pathsText}
+use Rattle.draw.specs.Drawn.{drawRefusals, drawOf}
+use Rattle.draw.specs.declared.Drawing.the-variants as P
+use Rattle.diagram.specs.Calls.{number, values, mainScreen, drawnOf, numbersOf, onto, routedAs, countedAs, route, recordsAfter, textAfter, clutter}
+use Rattle.diagram.specs.Decided.{First, first-decides, clear-decides, first-joined, clear-joined}
+use Rattle.diagram.specs.Filled.{fillRefusals}
+use Rattle.diagram.specs.declared.Routed.{Routed}
+use Rattle.diagram.specs.declared.Routed.the-variants as D
+use Rattle.diagram.specs.declared.Counted.the-variants as K
+use Rattle.diagram.proofs.Held.{Held, stopped}
+use Rattle.diagram.proofs.Laws.{Filled}
+
+module _ (s : List ℕ) (xs ys : List Float) where
+  abbrev drawing : List Refusal
+  drawing = drawRefusals mainScreen s xs ys
+
+  module _ (records : List Float) (text : List ℕ) where
+    -- r is answered, and a and b stand in the lent slices
+    abbrev pub Routes : Routed → List Float → List ℕ → Type 0
+    Routes r a b =
+        (routedAs r ≡ route s xs ys (length records) (length text))
+        × (a ≡ recordsAfter s xs ys records (length text))
+        × (b ≡ textAfter s xs ys (length records) text)
+
+    abbrev filling : List Refusal
+    filling = fillRefusals (numbersOf (drawnOf s xs ys)) (drawnOf s xs ys) (length records) (length text)
+
+    pub route-refused : (n : ℕ) → P.Refused n ≡ drawOf mainScreen s xs ys → Routes (D.Refused n) records text
+    unfolding route recordsAfter textAfter
+    route-refused n e =
+        let f : First drawing n = stopped drawing (length (drawnOf s xs ys)) n e in
+        (sym (first-joined number _ drawing filling n f), sym (first-joined (λ m. records) _ drawing filling n f), sym (first-joined (λ m. text) _ drawing filling n f))
+
+    pub route-drawn : (count : ℕ) (slice : List Float) → Held s xs ys count slice → (r : Routed) (a : List Float) (b : List ℕ)
+        → Filled (take (20 * count) slice) (decodeRecords count slice) records text r a b → Routes r a b
+    unfolding route recordsAfter textAfter
+    route-drawn count slice h r a b f =
+        let gs = drawnOf s xs ys in
+        let g : Filled (numbersOf gs) gs records text r a b = rw (h .numbers, h .decoded) at f in (
+          ap routedAs (g .0) ∙ decide-map routedAs filling D.Refused (D.Lengths (length (numbersOf gs)) (length (pathsText gs))) ∙ sym (clear-joined number _ drawing filling (h .clear)),
+          g .1 ∙ sym (clear-joined (λ m. records) (onto (numbersOf gs) records) drawing filling (h .clear)),
+          g .2 ∙ sym (clear-joined (λ m. text) (onto (pathsText gs) text) drawing filling (h .clear)),
+        )
+
+  pub clutter-refused : (n : ℕ) → P.Refused n ≡ drawOf mainScreen s xs ys → countedAs (K.Refused n) ≡ clutter s xs ys
+  unfolding clutter
+  clutter-refused n e = sym (first-decides number _ drawing n (stopped drawing (length (drawnOf s xs ys)) n e))
+
+  pub clutter-drawn : (count : ℕ) (slice : List Float) → Held s xs ys count slice → (m k : ℕ) → m ≡ length (meaning s .states)
+      → k ≡ clutterOf (table (centreAt xs ys) 0 m) (decodeRecords count slice) → countedAs (K.Count k) ≡ clutter s xs ys
+  unfolding clutter frameOf
+  clutter-drawn count slice h m k e f =
+      ap (λ (n : ℕ). values n) (f ∙ rw (h .decoded, e))
+      ∙ sym (clear-decides number (values (clutterOf (table (centreAt xs ys) 0 (length (meaning s .states))) (drawnOf s xs ys))) drawing (h .clear))

@@ -1,0 +1,81 @@
+-- What each call refuses and in which order, when a number is given, and that a refused call leaves every lent slice as it was. Assumes nothing.
+use mathlib.Core.Path.{_≡_, refl}
+use mathlib.Core.List.{List, [], _∷_, map}
+use Prim.Native.Nat.{ℕ}
+use lib.ListN.{length}
+use lib.Ieee.{Float}
+use Rattle.laws.specs.Refusals.{Refusal, decide}
+use Rattle.sheet.specs.Sheet.{meaning}
+use Rattle.sheet.specs.Refusals.{refusals}
+use Rattle.label.specs.Label.{labelRefusals, cut, blockWidth, blockHeight}
+use Rattle.number.specs.Number.{numText}
+use Rattle.routing.specs.Sheets.{frameOf}
+use Rattle.clutter.specs.Clutter.{clutterOf}
+use Rattle.lines.specs.Lines.{pathsText}
+use Rattle.draw.specs.Drawn.{drawRefusals}
+use Rattle.diagram.specs.Calls.{Outcome, values, number, mainScreen, check, labelSize, numRefusals, writeNum, writeNumAfter, drawnOf, numbersOf, routeRefusals, route, recordsAfter, textAfter, clutter}
+use Rattle.diagram.specs.Decided.{Clear, First, given-exactly, answered-exactly, refused-keeps}
+
+-- ---- "Order: 11, 1, 2, 4, 3, 5, 6, 8, 9, 10, 7": of these a call has those that it can meet, each with its cause
+
+abbrev pub numbersIn : List Refusal → List ℕ
+numbersIn rs = map (λ r. r .number) rs
+
+pub check-order : (s : List ℕ) → numbersIn (refusals mainScreen s) ≡ 1 ∷ 2 ∷ 4 ∷ 3 ∷ 5 ∷ 6 ∷ []
+check-order s = refl
+
+-- 5 has three causes
+pub label-order : (text lengths : List ℕ) → numbersIn (labelRefusals mainScreen text lengths) ≡ 5 ∷ 5 ∷ 5 ∷ 6 ∷ []
+label-order text lengths = refl
+
+pub num-order : (v : Float) (out : List ℕ) → numbersIn (numRefusals v out) ≡ 10 ∷ 7 ∷ []
+num-order v out = refl
+
+pub route-order : (s : List ℕ) (xs ys : List Float) (a b : ℕ) → numbersIn (routeRefusals s xs ys a b) ≡ 1 ∷ 2 ∷ 4 ∷ 3 ∷ 5 ∷ 6 ∷ 8 ∷ 9 ∷ 10 ∷ 7 ∷ []
+route-order s xs ys a b = refl
+
+pub clutter-order : (s : List ℕ) (xs ys : List Float) → numbersIn (drawRefusals mainScreen s xs ys) ≡ 1 ∷ 2 ∷ 4 ∷ 3 ∷ 5 ∷ 6 ∷ 8 ∷ 9 ∷ []
+clutter-order s xs ys = refl
+
+-- ---- each number is given under its cause only and whenever no earlier cause holds, the values exactly where no cause holds
+
+pub record Answered {A : Type 0} (rs : List Refusal) (a : A) (r : Outcome A) : Type 0 where
+  pub numbers : (n : ℕ) → (r ≡ number n → First rs n) × (First rs n → r ≡ number n)
+  pub answer : (r ≡ values a → Clear rs) × (Clear rs → r ≡ values a)
+
+answered : {A : Type 0} (rs : List Refusal) (a : A) → Answered rs a (decide rs number (values a))
+answered rs a = record { numbers = given-exactly rs a; answer = answered-exactly rs a }
+
+pub check-answered : (s : List ℕ) → Answered (refusals mainScreen s) tt (check s)
+unfolding check
+check-answered s = answered (refusals mainScreen s) tt
+
+pub label-answered : (text lengths : List ℕ) → Answered (labelRefusals mainScreen text lengths) (blockWidth (cut text lengths), blockHeight (length lengths)) (labelSize text lengths)
+unfolding labelSize
+label-answered text lengths = answered (labelRefusals mainScreen text lengths) (blockWidth (cut text lengths), blockHeight (length lengths))
+
+pub num-answered : (v : Float) (out : List ℕ) → Answered (numRefusals v out) (length (numText v)) (writeNum v out)
+unfolding writeNum
+num-answered v out = answered (numRefusals v out) (length (numText v))
+
+pub route-answered : (s : List ℕ) (xs ys : List Float) (a b : ℕ) → Answered (routeRefusals s xs ys a b) (length (numbersOf (drawnOf s xs ys)), length (pathsText (drawnOf s xs ys))) (route s xs ys a b)
+unfolding route
+route-answered s xs ys a b = answered (routeRefusals s xs ys a b) (length (numbersOf (drawnOf s xs ys)), length (pathsText (drawnOf s xs ys)))
+
+pub clutter-answered : (s : List ℕ) (xs ys : List Float) → Answered (drawRefusals mainScreen s xs ys) (clutterOf (frameOf (meaning s) xs ys .centres) (drawnOf s xs ys)) (clutter s xs ys)
+unfolding clutter
+clutter-answered s xs ys = answered (drawRefusals mainScreen s xs ys) (clutterOf (frameOf (meaning s) xs ys .centres) (drawnOf s xs ys))
+
+-- ---- "Left as before: all"
+
+pub num-kept : (v : Float) (out : List ℕ) (n : ℕ) → writeNum v out ≡ number n → writeNumAfter v out ≡ out
+unfolding writeNum writeNumAfter
+num-kept v out n e = refused-keeps (numRefusals v out) (length (numText v)) n out _ e
+
+pub route-kept : (s : List ℕ) (xs ys records : List Float) (text : List ℕ) (n : ℕ) → route s xs ys (length records) (length text) ≡ number n
+    → (recordsAfter s xs ys records (length text) ≡ records) × (textAfter s xs ys (length records) text ≡ text)
+unfolding route recordsAfter textAfter
+route-kept s xs ys records text n e =
+    let rs = routeRefusals s xs ys (length records) (length text) in
+    let a : ℕ × ℕ = (length (numbersOf (drawnOf s xs ys)), length (pathsText (drawnOf s xs ys))) in
+    (refused-keeps rs a n records _ e, refused-keeps rs a n text _ e)
