@@ -1,0 +1,68 @@
+-- Labels enter a layout only by their sizes; every state has a centre. Assumes nothing.
+use mathlib.Core.Path.{_≡_, sym, ap, ap₂, _∙_}
+use mathlib.Core.List.{List, [], map}
+use Prim.Native.Nat.{ℕ, zero, suc}
+use borrow.Author.Tests.{eqb-true}
+use lib.Dec.{eqb}
+use lib.ListN.{length, length-map}
+use lib.Ieee.{Float}
+use Rattle.laws.specs.Cases.{by-bool}
+use Rattle.laws.specs.Counting.{table-length}
+use Rattle.sheet.specs.Sheet.{Graph}
+use Rattle.routing.specs.Routing.{Frame, Size}
+use Rattle.routing.specs.Sheets.{frameOf, sizesOf, SameFrame, same-frame}
+use Rattle.ring.specs.Ring.{around, ringed, cosAt, sinAt}
+use Rattle.fit.specs.Fit.{shifted}
+use Rattle.layout.specs.Lengths.{xs-length, ys-length}
+use Rattle.layout.specs.Layout.{Plan, planOf, many, startOf, widest, tallest, Placing, arrowOf, layers, ring, isDense, isTangled, chosen, layoutBeyond, fitted, layoutOf}
+
+-- ---- the same states, arrow ends and sizes of labels: the same layout
+
+same-plan : (g h : Graph) → SameFrame g h → sizesOf g ≡ sizesOf h → planOf g ≡ planOf h
+unfolding frameOf
+same-plan g h e z =
+    let f : frameOf g [] [] ≡ frameOf h [] [] = same-frame g h [] [] e in
+    ap₂ (λ (k : Frame) (s : List Size). record { flags = k .flags; arrows = k .arrows; sizes = s }) f z
+
+-- whatever the label lines, where their sizes are alike: by every kind the same centres and size, and refused alike
+pub same-layout : (kind : ℕ) (g h : Graph) → SameFrame g h → sizesOf g ≡ sizesOf h
+    → (layoutOf kind (planOf g) ≡ layoutOf kind (planOf h)) × (layoutBeyond kind (planOf g) ≡ layoutBeyond kind (planOf h))
+same-layout kind g h e z = (ap (layoutOf kind) (same-plan g h e z), ap (layoutBeyond kind) (same-plan g h e z))
+
+-- ---- a centre for each state
+
+ring-length : (part : ℕ → ℕ → Float) (n start : ℕ) (w : Float) → length (ringed part n start w) ≡ n
+unfolding ringed around
+ring-length part n start w =
+    by-bool (eqb n 1) (λ t. rw t (sym (eqb-true n 1 t))) (λ t. rw t (table-length _ 0 n))
+
+-- centres as many as states
+abbrev Whole : Plan → Placing → Type 0
+Whole p c = (length (c .xs) ≡ many p) × (length (c .ys) ≡ many p)
+
+ring-whole : (p : Plan) → Whole p (ring p)
+unfolding ring
+ring-whole p = (ring-length cosAt (many p) (startOf p) (widest p), ring-length sinAt (many p) (startOf p) (widest p))
+
+layers-whole : (p : Plan) → Whole p (layers p)
+unfolding layers
+layers-whole p = (xs-length (many p) (startOf p) (map arrowOf (p .arrows)) (widest p), ys-length (many p) (startOf p) (map arrowOf (p .arrows)) (tallest p))
+
+chosen-whole : (kind : ℕ) (p : Plan) → Whole p (chosen kind p)
+unfolding chosen
+chosen-whole zero p =
+    by-bool (isDense p) (λ d. rw d (ring-whole p))
+    (λ d. by-bool (isTangled p) (λ t. rw (d, t) (ring-whole p)) (λ t. rw (d, t) (layers-whole p)))
+chosen-whole (suc zero) p = layers-whole p
+chosen-whole (suc (suc k)) p = ring-whole p
+
+fitted-whole : (p : Plan) (c : Placing) → Whole p c → (length (fitted p c .xs) ≡ many p) × (length (fitted p c .ys) ≡ many p)
+unfolding fitted shifted
+fitted-whole p c w = (length-map (c .xs) _ ∙ w .0, length-map (c .ys) _ ∙ w .1)
+
+pub layout-whole : (kind : ℕ) (p : Plan) → (length (layoutOf kind p .xs) ≡ length (p .flags)) × (length (layoutOf kind p .ys) ≡ length (p .flags))
+unfolding layoutOf
+layout-whole kind p =
+    by-bool (eqb (many p) 0)
+    (λ t. rw t (sym (eqb-true (many p) 0 t), sym (eqb-true (many p) 0 t)))
+    (λ t. rw t (fitted-whole p (chosen kind p) (chosen-whole kind p)))

@@ -1,0 +1,157 @@
+-- The layout of a graph by kind: layers or ring, the choice between them, and the fit. Document 01: "layout.rs".
+use mathlib.Core.Bool.{Bool, false, cond, _||_}
+use mathlib.Core.List.{List, [], _∷_, map}
+use Prim.Native.Nat.{ℕ, zero, suc, _+_}
+use lib.Dec.{ltb, eqb}
+use lib.ListN.{length}
+use lib.Ieee.{Float}
+use Rattle.laws.specs.Flat.{table}
+use Rattle.laws.specs.Zip.{zip}
+use Rattle.float.specs.Constants.{f2, f2-5, f16}
+use Rattle.float.specs.Ops.{_⊗_, lt, count}
+use Rattle.sheet.specs.Sheet.{Graph}
+use Rattle.sheet.specs.Refusals.{any}
+use Rattle.free.specs.Centres.{centres}
+use Rattle.spot.specs.declared.Geometry.{Geometry}
+use Rattle.routing.specs.Routing.{Ends, Frame, Size, records, beyond}
+use Rattle.routing.specs.Passes.{endsBy, sizesBy}
+use Rattle.routing.specs.Sheets.{centreAt, endsOf, sizesOf}
+use Rattle.clutter.specs.Clutter.{clutterOf}
+use Rattle.ring.specs.Ring.{startIndex, largest, circularXs, circularYs}
+use Rattle.columns.specs.Columns.{Arrow, arrow}
+use Rattle.layered.specs.Layered.{layeredXs, layeredYs}
+use Rattle.fit.specs.Fit.{fitXs, fitYs, fitSize}
+use Rattle.layout.specs.declared.Placed.{Placed}
+use Rattle.layout.specs.declared.Placed.the-variants as Placed
+
+-- ---- what is laid out: the states' flags, the arrows' ends, and the sizes of their labels
+
+pub record Plan : Type 0 where
+  pub flags : List ℕ
+  pub arrows : List Ends
+  pub sizes : List Size
+
+abbrev pub planOf : Graph → Plan
+planOf g = record { flags = g .states; arrows = map endsOf (g .arrows); sizes = sizesOf g }
+
+-- the plan that slices hold
+abbrev pub planBy : List ℕ → List ℕ → List ℕ → List Float → List Float → Plan
+planBy flags sources targets widths heights = record { flags = flags; arrows = zip endsBy sources targets; sizes = sizesBy widths heights }
+
+-- how many states
+abbrev pub many : Plan → ℕ
+many p = length (p .flags)
+
+-- "the first start state or 0"
+abbrev pub startOf : Plan → ℕ
+startOf p = startIndex (p .flags)
+
+-- "the largest label": of all arrows, left-out ones too
+abbrev pub widest : Plan → Float
+widest p = largest (map (λ z. z .width) (p .sizes))
+
+abbrev pub tallest : Plan → Float
+tallest p = largest (map (λ z. z .height) (p .sizes))
+
+-- ---- centres
+
+pub record Placing : Type 0 where
+  pub xs : List Float
+  pub ys : List Float
+
+abbrev pub placing : List Float → List Float → Placing
+placing xs ys = record { xs = xs; ys = ys }
+
+abbrev pub arrowOf : Ends → Arrow
+arrowOf e = arrow (e .source) (e .target)
+
+-- "Layered: breadth-first from the first start state or 0"
+abbrev pub layersBy : ℕ → ℕ → List Arrow → Float → Float → Placing
+layersBy n start arrows w h = placing (layeredXs n start arrows w) (layeredYs n start arrows h)
+
+unfoldable pub layers : Plan → Placing
+layers p = layersBy (many p) (startOf p) (map arrowOf (p .arrows)) (widest p) (tallest p)
+
+-- "Circular"
+abbrev pub ringBy : ℕ → ℕ → Float → Placing
+ringBy n start w = placing (circularXs n start w) (circularYs n start w)
+
+unfoldable pub ring : Plan → Placing
+ring p = ringBy (many p) (startOf p) (widest p)
+
+-- ---- the drawing at these centres
+
+-- "Centres missing or not finite count as 0."
+abbrev pub frameAt : Plan → Placing → Frame
+frameAt p c = record { flags = p .flags; centres = table (centreAt (c .xs) (c .ys)) 0 (many p); arrows = p .arrows }
+
+-- refused by 9
+abbrev pub beyondAt : Plan → Placing → Bool
+beyondAt p c = beyond (frameAt p c)
+
+abbrev pub drawnAt : Plan → Placing → List Geometry
+drawnAt p c = records (frameAt p c) (p .sizes)
+
+unfoldable pub clutterAt : Plan → Placing → ℕ
+clutterAt p c = clutterOf (frameAt p c .centres) (drawnAt p c)
+
+-- ---- the choice: "Auto: the ring where arrows > 2.5·states, counting all arrows, or where layered clutter > ring clutter + 2."
+
+-- of n states and m arrows
+abbrev pub isMore : ℕ → ℕ → Bool
+isMore n m = lt (f2-5 ⊗ count n) (count m)
+
+unfoldable pub isDense : Plan → Bool
+isDense p = isMore (many p) (length (p .arrows))
+
+unfoldable pub isTangled : Plan → Bool
+isTangled p = ltb (clutterAt p (ring p) + 2) (clutterAt p (layers p))
+
+-- "0 Auto, 1 Layered, 2 Circular"
+unfoldable pub chosen : ℕ → Plan → Placing
+chosen zero p = cond (isDense p || isTangled p) (ring p) (layers p)
+chosen (suc zero) p = layers p
+chosen (suc (suc k)) p = ring p
+
+-- ---- "A layout is refused by 9 if any drawing it measures is."
+
+-- the centres whose drawing it measures: for clutter both, where Auto has to compare; to fit it, the one chosen
+unfoldable pub measured : ℕ → Plan → List Placing
+measured zero p = cond (isDense p) (ring p ∷ []) (layers p ∷ ring p ∷ [])
+measured (suc zero) p = layers p ∷ []
+measured (suc (suc k)) p = ring p ∷ []
+
+-- no states: nothing is drawn
+unfoldable pub layoutBeyond : ℕ → Plan → Bool
+layoutBeyond kind p = cond (eqb (many p) 0) false (any (beyondAt p) (measured kind p))
+
+-- ---- the layout
+
+pub record Layout : Type 0 where
+  pub xs : List Float
+  pub ys : List Float
+  pub width : Float
+  pub height : Float
+
+-- "No states: no centres, size 32 by 32."
+abbrev pub noStates : Layout
+noStates = record { xs = []; ys = []; width = f2 ⊗ f16; height = f2 ⊗ f16 }
+
+-- "`fit` then shifts to the margin 16."
+unfoldable pub fitted : Plan → Placing → Layout
+fitted p c =
+    let cs = centres (c .xs) (c .ys) in
+    let gs = drawnAt p c in
+    record {
+      xs = fitXs (p .flags) cs gs (c .xs);
+      ys = fitYs (p .flags) cs gs (c .ys);
+      width = fitSize (p .flags) cs gs .width;
+      height = fitSize (p .flags) cs gs .height;
+    }
+
+unfoldable pub layoutOf : ℕ → Plan → Layout
+layoutOf kind p = cond (eqb (many p) 0) noStates (fitted p (chosen kind p))
+
+-- the answer: width and height, or Beyond for 9
+abbrev pub placed : ℕ → Plan → Placed
+placed kind p = cond (layoutBeyond kind p) Placed.Beyond (Placed.Size (layoutOf kind p .width) (layoutOf kind p .height))

@@ -1,0 +1,6 @@
+pub mod Layout
+pub mod Choice
+pub mod Slices
+pub mod Laws
+pub mod Lengths
+pub mod Alike
