@@ -16,6 +16,14 @@
 extern "C" {
 #endif
 
+/* The f64 numbers of a record, and the most of each thing that a sheet holds. */
+enum {
+    MURSHOGI_RECORD = 20,
+    MURSHOGI_STATES = 64,
+    MURSHOGI_ARROWS = 256,
+    MURSHOGI_SHEET = 65536
+};
+
 /* Checks a sheet: 0 where it is accepted. */
 uint8_t murshogi_check(const uint8_t *sheet, size_t sheet_len);
 
@@ -23,6 +31,19 @@ uint8_t murshogi_check(const uint8_t *sheet, size_t sheet_len);
 uint8_t murshogi_label_size(const uint8_t *text, size_t text_len,
                             const size_t *lengths, size_t lines,
                             double size[2]);
+
+/* Routes a sheet at given centres: the records, and the path text, a line for each record. lengths[0] is the f64
+ * numbers written, lengths[1] the bytes. Centres that are missing or not finite count as 0. */
+uint8_t murshogi_route(const uint8_t *sheet, size_t sheet_len,
+                       const double *x, size_t x_len, const double *y, size_t y_len,
+                       double *records, size_t records_len,
+                       uint8_t *text, size_t text_len,
+                       size_t lengths[2]);
+
+/* Counts the clutter of a sheet at given centres. */
+uint8_t murshogi_clutter(const uint8_t *sheet, size_t sheet_len,
+                         const double *x, size_t x_len, const double *y, size_t y_len,
+                         size_t *count);
 
 /* Writes a number, with at most two decimals: the bytes written in length. */
 uint8_t murshogi_write_num(double v, uint8_t *out, size_t out_len, size_t *length);

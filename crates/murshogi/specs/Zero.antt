@@ -12,7 +12,12 @@ use Rattle.laws.specs.Refusals.{Refusal, decide}
 use Rattle.sheet.specs.Refusals.{refusals}
 use Rattle.label.specs.Label.{labelRefusals, cut, blockWidth, blockHeight}
 use Rattle.number.specs.Number.{numText}
-use Rattle.diagram.specs.Calls.{Outcome, values, number, mainScreen, check, labelSize, numRefusals, writeNum}
+use Rattle.draw.specs.Drawn.{drawRefusals}
+use Rattle.lines.specs.Lines.{pathsText}
+use Rattle.routing.specs.Sheets.{frameOf}
+use Rattle.sheet.specs.Sheet.{meaning}
+use Rattle.clutter.specs.Clutter.{clutterOf}
+use Rattle.diagram.specs.Calls.{Outcome, values, number, mainScreen, check, labelSize, drawnOf, numbersOf, routeRefusals, route, clutter, numRefusals, writeNum}
 use Rattle.murshogi.specs.Exports.{code}
 
 -- every refusal of a list has a number above 0
@@ -43,6 +48,14 @@ check-zero s e = zero-values tt (refusals mainScreen s) refl e
 pub label-zero : (text lengths : List ℕ) → code (labelSize text lengths) ≡ 0 → labelSize text lengths ≡ values (blockWidth (cut text lengths), blockHeight (length lengths))
 unfolding labelSize
 label-zero text lengths e = zero-values (blockWidth (cut text lengths), blockHeight (length lengths)) (labelRefusals mainScreen text lengths) refl e
+
+pub route-zero : (s : List ℕ) (xs ys : List Float) (room textRoom : ℕ) → code (route s xs ys room textRoom) ≡ 0 → route s xs ys room textRoom ≡ values (length (numbersOf (drawnOf s xs ys)), length (pathsText (drawnOf s xs ys)))
+unfolding route
+route-zero s xs ys room textRoom e = zero-values (length (numbersOf (drawnOf s xs ys)), length (pathsText (drawnOf s xs ys))) (routeRefusals s xs ys room textRoom) refl e
+
+pub clutter-zero : (s : List ℕ) (xs ys : List Float) → code (clutter s xs ys) ≡ 0 → clutter s xs ys ≡ values (clutterOf (frameOf (meaning s) xs ys .centres) (drawnOf s xs ys))
+unfolding clutter
+clutter-zero s xs ys e = zero-values (clutterOf (frameOf (meaning s) xs ys .centres) (drawnOf s xs ys)) (drawRefusals mainScreen s xs ys) refl e
 
 pub num-zero : (v : Float) (out : List ℕ) → code (writeNum v out) ≡ 0 → writeNum v out ≡ values (length (numText v))
 unfolding writeNum

@@ -1,6 +1,7 @@
 // The calls of document 01 for C and Rust, as include/murshogi.h declares them. Each returns 0, or the number of the
 // refusal; what it is lent for values is written only where it returns 0.
 ghost use mathlib.Core.Path.{_≡_};
+ghost use lib.ListN as L;
 ghost use Rattle.diagram.specs.Calls as C;
 ghost use Rattle.murshogi.specs.Exports as S;
 
@@ -29,6 +30,47 @@ pub extern "C" fn murshogi_label_size(text: &[u8], lengths: &[usize], size: &mut
             0
         }
         label::Sized::Refused(n) => n,
+    }
+}
+
+// Routes a sheet at given centres: records and path text; `lengths` are the f64 numbers and the bytes written.
+#[no_mangle]
+pub extern "C" fn murshogi_route(
+    sheet: &[u8],
+    x: &[f64],
+    y: &[f64],
+    records: &mut [f64],
+    text: &mut [u8],
+    lengths: &mut [usize; 2],
+) -> u8
+    ensures { λ r. ⌜ r ≡ S.code (C.route (now (sheet .entry)) (now (x .entry)) (now (y .entry)) (L.length (now (records .entry))) (L.length (now (text .entry)))) ⌝ }
+    ensures { λ _. ⌜ now (records .exit) ≡ C.recordsAfter (now (sheet .entry)) (now (x .entry)) (now (y .entry)) (now (records .entry)) (L.length (now (text .entry))) ⌝ }
+    ensures { λ _. ⌜ now (text .exit) ≡ C.textAfter (now (sheet .entry)) (now (x .entry)) (now (y .entry)) (L.length (now (records .entry))) (now (text .entry)) ⌝ }
+    ensures { λ _. ⌜ now (lengths .exit) ≡ S.after S.both (C.route (now (sheet .entry)) (now (x .entry)) (now (y .entry)) (L.length (now (records .entry))) (L.length (now (text .entry)))) (now (lengths .entry)) ⌝ }
+{
+    let c = diagram::route(sheet, x, y, records, text);
+    match c {
+        diagram::Routed::Lengths(n, m) => {
+            *lengths = [n, m];
+            0
+        }
+        diagram::Routed::Refused(n) => n,
+    }
+}
+
+// Counts the clutter of a sheet at given centres.
+#[no_mangle]
+pub extern "C" fn murshogi_clutter(sheet: &[u8], x: &[f64], y: &[f64], count: &mut usize) -> u8
+    ensures { λ r. ⌜ r ≡ S.code (C.clutter (now (sheet .entry)) (now (x .entry)) (now (y .entry))) ⌝ }
+    ensures { λ _. ⌜ now (count .exit) ≡ S.after S.itself (C.clutter (now (sheet .entry)) (now (x .entry)) (now (y .entry))) (now (count .entry)) ⌝ }
+{
+    let c = diagram::clutter(sheet, x, y);
+    match c {
+        diagram::Counted::Count(n) => {
+            *count = n;
+            0
+        }
+        diagram::Counted::Refused(n) => n,
     }
 }
 

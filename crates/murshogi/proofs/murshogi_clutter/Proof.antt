@@ -1,0 +1,28 @@
+-- `murshogi::murshogi_clutter` meets its contract.
+use mathlib.Core.Path.{ap, sym, _∙_}
+use denote.Ref.{now}
+use Rattle.diagram.specs.Calls.{countedAs}
+use Rattle.murshogi.specs.Exports.{itself}
+use Rattle.murshogi.specs.Laws.{told}
+use borrow.Author.Needs.{needs}
+use Rattle.murshogi.proofs.murshogi_clutter.Statement.{statement}
+use Rattle.murshogi.proofs.murshogi_clutter.Tie as tie
+
+clutter-requires : tie.Need-clutter-requires
+clutter-requires c κs = search needs
+
+enum-known-c : tie.Need-enum-known-c
+enum-known-c c = search needs
+
+enum-known-c-2 : tie.Need-enum-known-c-2
+enum-known-c-2 c = search needs
+
+returns : tie.Need-returns
+returns c = told itself (now (c .before .before .before .before .before .before .before .args .count)) (ap countedAs (sym (c .before .c .given .1)) ∙ c .before .before .before .clutter .ensures)
+
+returns-2 : tie.Need-returns-2
+returns-2 c = told itself (now (c .before .before .before .before .before .before .before .args .count)) (ap countedAs (sym (c .before .c2 .given .1)) ∙ c .before .before .before .clutter .ensures)
+
+pub murshogi-clutter-spec : {M : Type 1} → statement M
+murshogi-clutter-spec =
+    tie.close (tie.spec clutter-requires enum-known-c enum-known-c-2 returns returns-2)
