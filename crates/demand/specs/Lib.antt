@@ -1,0 +1,5 @@
+pub mod Demand
+pub mod Newlines
+pub mod Places
+pub mod Proof
+pub mod Worked

@@ -1,0 +1,205 @@
+-- Demand 3 holds. Assumes nothing.
+use mathlib.Core.Path.{_≡_, refl, sym, ap, ap₂, _∙_, subst}
+use mathlib.Core.Bool.{true, false}
+use mathlib.Core.List.{List, [], _∷_, map}
+use Prim.Native.Nat.{ℕ, _*_, _≤_, _<_}
+use native.Mathlib.Omega.{arith}
+use lib.ListN.{length, getD, take, drop, length-map}
+use lib.Ieee.{Float, nan}
+use Rattle.laws.specs.Refusals.{Refusal}
+use Rattle.laws.specs.Flat.{part}
+use Rattle.float.specs.Ops.{count}
+use Rattle.shape.specs.declared.Curve.{Curve}
+use Rattle.svg.specs.Paths.{curveText}
+use Rattle.spot.specs.declared.Geometry.{Geometry}
+use Rattle.records.specs.Records.{fields, cornersOf}
+use Rattle.records.specs.Flats.{length-flat}
+use Rattle.lines.specs.Lines.{pathsText}
+use Rattle.routing.specs.Routing.{Frame, beyond, isKept, kept, edgeOf, order, records}
+use Rattle.routing.specs.Lists.{At}
+use Rattle.routing.specs.Numbers.{numberedAt}
+use Rattle.routing.specs.Slots.{itemFor, own-turn, drawn-edge, records-length}
+use Rattle.routing.specs.Demand.{noItem, edgeAt, recordFor, records-cheapest, Stroke, strokeOf}
+use Rattle.routing.specs.Demand as Routing
+use Rattle.routing.specs.Sheets.{frameOf, recordsOf, recordOf, linesAt, endsOf, same-frame}
+use Rattle.routing.specs.Sheets as Sheets
+use Rattle.diagram.specs.Calls.{route, recordsAfter, textAfter, routeRefusals, numbersOf, onto}
+use Rattle.diagram.specs.Decided.{Clear, clear-decides, answered-clear}
+use Rattle.demand.specs.Demand.{Call, Answered, recordAt, pathAt, lineAt, curveAt, tipAt, graph, frame, sizes, turns, stepAt, turnArrow, recordNumber, numberOf, turnNumber, drawnAt, Held, Cheapest, Same, Agree, Prefix, Between, Curves, Demand3}
+use Rattle.demand.specs.Newlines.{line-path}
+use Rattle.demand.specs.Places.{part-flat, number-inside, turn-number, turn-kept, record-inside, record-only, number-turn, item-edge}
+
+-- ---- what an answered call leaves
+
+-- what is drawn, in record order
+abbrev drawn : Call → List Geometry
+drawn c = recordsOf (graph c) (c .xs) (c .ys)
+
+-- past the last record
+abbrev none : Call → Geometry
+none c = drawnAt c 0 0
+
+module _ (c : Call) (a : Answered c) where
+  abbrev rs : List Refusal
+  rs = routeRefusals (c .sheet) (c .xs) (c .ys) (length (c .records)) (length (c .text))
+
+  -- no cause holds, and the answer is what was written
+  stands : Clear rs × (_≡_ {A = ℕ × ℕ} (a .numbers, a .bytes) (length (numbersOf (drawn c)), length (pathsText (drawn c))))
+  unfolding route
+  stands = answered-clear rs (length (numbersOf (drawn c)), length (pathsText (drawn c))) (a .numbers, a .bytes) (sym (a .answer))
+
+  none-beyond : beyond (frame c) ≡ false
+  none-beyond = stands .0 .none 7 (omega arith)
+
+  numbers-are : a .numbers ≡ 20 * length (kept (frame c))
+  numbers-are =
+      ap (λ (p : ℕ × ℕ). p .0) (stands .1) ∙ length-flat fields 20 (λ g. refl) (drawn c)
+      ∙ ap (λ (n : ℕ). 20 * n) (records-length (frame c) (sizes c) none-beyond)
+
+  -- the numbers and the path of record k
+  record-is : (k : ℕ) (d : Geometry) → k < length (drawn c) → recordAt c k ≡ fields (getD (drawn c) k d)
+  unfolding recordsAfter
+  record-is k d h =
+      ap (part 20 k) (clear-decides (λ (n : ℕ). c .records) (onto (numbersOf (drawn c)) (c .records)) rs (stands .0))
+      ∙ part-flat fields 20 (λ g. refl) (drawn c) (drop (length (numbersOf (drawn c))) (c .records)) k d h
+
+  path-is : (k : ℕ) (d : Geometry) → k < length (drawn c) → pathAt c k ≡ curveText (getD (drawn c) k d .curve)
+  unfolding textAfter
+  path-is k d h =
+      ap (lineAt k) (clear-decides (λ (n : ℕ). c .text) (onto (pathsText (drawn c)) (c .text)) rs (stands .0))
+      ∙ line-path (drawn c) (drop (length (pathsText (drawn c))) (c .text)) k d h
+
+  -- those of a kept arrow
+  module _ (e : ℕ) (h : e < length (frame c .arrows)) (k : isKept (frame c) (numberedAt (frame c) e) ≡ true) where
+    abbrev its : Geometry
+    its = getD (drawn c) (numberOf c e) (none c)
+
+    arrow-record : recordAt c (numberOf c e) ≡ fields its
+    arrow-record = record-is (numberOf c e) (none c) (record-inside (frame c) none-beyond (sizes c) e h k)
+
+    arrow-path : pathAt c (numberOf c e) ≡ curveText (its .curve)
+    arrow-path = path-is (numberOf c e) (none c) (record-inside (frame c) none-beyond (sizes c) e h k)
+
+    arrow-only : recordFor (frame c) (sizes c) e ≡ its ∷ []
+    arrow-only = record-only (frame c) none-beyond (sizes c) e h k (none c)
+
+  -- ---- (1)
+
+  module _ (t : ℕ) (h : t < length (turns c)) where
+    within : turnArrow c t < length (frame c .arrows)
+    within = turn-number (frame c) none-beyond t h
+
+    stays : isKept (frame c) (numberedAt (frame c) (turnArrow c t)) ≡ true
+    stays = turn-kept (frame c) none-beyond t h
+
+    held : Held c a t
+    held =
+        let r : Routing.Cheapest (frame c) (sizes c) t = records-cheapest (frame c) none-beyond (sizes c) t h in
+        let e : ℕ = turnArrow c t in
+        let g : its e within stays ≡ drawnAt c t (r .place) = ap (λ (l : List Geometry). getD l 0 (none c)) (sym (arrow-only e within stays) ∙ r .held) in
+        let n : recordAt c (turnNumber c t) ≡ fields (drawnAt c t (r .place)) = arrow-record e within stays ∙ ap fields g in
+        record {
+          inside = omega (arith, number-inside (frame c) e within stays, numbers-are);
+          place = r .place;
+          least = r .least;
+          numbers = n;
+          path = arrow-path e within stays ∙ ap (λ (x : Geometry). curveText (x .curve)) g;
+          arrow = ap (λ (l : List Float). getD l 0 nan) n ∙ ap count (drawn-edge (frame c) (stepAt c t .item) (stepAt c t .size) (r .place));
+        }
+
+  arrows-many : length (frame c .arrows) ≡ length (graph c .arrows)
+  unfolding frameOf
+  arrows-many = length-map (graph c .arrows) endsOf
+
+  cheapest : Cheapest c a
+  cheapest = record {
+    one = λ e h. own-turn (frame c) e none-beyond (omega (arith, arrows-many));
+    many = numbers-are;
+    each = λ k h. number-turn (frame c) none-beyond k h;
+    held = held;
+  }
+
+-- ---- two calls
+
+-- the number of points and the eight coordinates
+abbrev corners : Curve → List Float
+corners k = let p = cornersOf k in p .n ∷ p .a .x ∷ p .a .y ∷ p .b .x ∷ p .b .y ∷ p .c .x ∷ p .c .y ∷ p .d .x ∷ p .d .y ∷ []
+
+module _ (c d : Call) (a : Answered c) (b : Answered d) (s : Same c d) where
+  frames : frame c ≡ frame d
+  frames = same-frame (graph c) (graph d) (c .xs) (c .ys) (s .ends) ∙ ap₂ (frameOf (graph d)) (s .xs) (s .ys)
+
+  -- what holds of d's sheet at c's centres
+  over-sheets : Sheets.Demand3 (graph c) (c .xs) (c .ys)
+  over-sheets = Sheets.demand3 (graph c) (c .xs) (c .ys) (none-beyond c a)
+
+  records-d : (e : ℕ) → recordOf (graph d) (c .xs) (c .ys) e ≡ recordFor (frame d) (sizes d) e
+  records-d e = ap₂ (λ (xs ys : List Float). recordOf (graph d) xs ys e) (s .xs) (s .ys)
+
+  -- ---- (2)
+
+  module _ (t : ℕ) (h : t < length (turns c)) (l : (j : ℕ) → j ≤ t → Agree c d j) where
+    alike : recordAt c (turnNumber c t) ≡ recordAt d (turnNumber d t)
+    alike =
+        let i : t < length (turns d) = subst (λ (f : Frame). t < length (order f)) frames h in
+        let e : ℕ = turnArrow c t in
+        let e′ : ℕ = turnArrow d t in
+        let back : (j : ℕ) → linesAt (graph d) (d .xs) (d .ys) noItem j ≡ linesAt (graph d) (c .xs) (c .ys) noItem j =
+        λ j. sym (ap₂ (λ (xs ys : List Float). linesAt (graph d) xs ys noItem j) (s .xs) (s .ys)) in
+        let both : recordFor (frame c) (sizes c) e ≡ recordFor (frame d) (sizes d) e =
+        over-sheets .prefix (graph d) (s .ends) t h (λ j k. l j k ∙ back j) ∙ records-d e in
+        let g : its c a e (within c a t h) (stays c a t h) ∷ [] ≡ its d b e′ (within d b t i) (stays d b t i) ∷ [] =
+        sym (arrow-only c a e (within c a t h) (stays c a t h))
+        ∙ both
+        ∙ ap (λ (f : Frame). recordFor (frame d) (sizes d) (edgeAt f t)) frames
+        ∙ arrow-only d b e′ (within d b t i) (stays d b t i) in
+        arrow-record c a e (within c a t h) (stays c a t h)
+        ∙ ap (λ (m : List Geometry). fields (getD m 0 (none c))) g
+        ∙ sym (arrow-record d b e′ (within d b t i) (stays d b t i))
+
+  prefix : Prefix c d
+  prefix = record { order = ap order frames; numbers = λ e. ap (λ (f : Frame). recordNumber f e) frames; alike = alike }
+
+  -- ---- (3)
+
+  module _ (e : ℕ) (w : Between (graph c) e) where
+    in-c : e < length (frame c .arrows)
+    in-c = omega (arith, arrows-many c a, w .inside)
+
+    in-d : e < length (frame d .arrows)
+    in-d = subst (λ (f : Frame). e < length (f .arrows)) frames in-c
+
+    kept-c : isKept (frame c) (numberedAt (frame c) e) ≡ true
+    kept-c =
+        let at : At (turns c) noItem (itemFor (frame c) (numberedAt (frame c) e)) = over-sheets .turn e (w .inside) (w .source) (w .target) in
+        let n : turnArrow c (at .place) ≡ e = ap edgeOf (at .there) ∙ item-edge (frame c) (numberedAt (frame c) e) in
+        subst (λ (m : ℕ). isKept (frame c) (numberedAt (frame c) m) ≡ true) n (stays c a (at .place) (at .inside))
+
+    kept-d : isKept (frame d) (numberedAt (frame d) e) ≡ true
+    kept-d = subst (λ (f : Frame). isKept f (numberedAt f e) ≡ true) frames kept-c
+
+    strokes : strokeOf (its c a e in-c kept-c) ≡ strokeOf (its d b e in-d kept-d)
+    strokes =
+        ap (λ (l : List Stroke). getD l 0 (strokeOf (none c)))
+        (sym (ap (map strokeOf) (arrow-only c a e in-c kept-c))
+        ∙ over-sheets .curves (graph d) (s .ends) e (w .inside) (w .apart)
+        ∙ ap (map strokeOf) (records-d e ∙ arrow-only d b e in-d kept-d))
+
+    curve : curveAt c (numberOf c e) ≡ curveAt d (numberOf d e)
+    curve =
+        ap₂ (λ (x : List Float) (y : List ℕ). (take 9 (drop 1 x), y)) (arrow-record c a e in-c kept-c) (arrow-path c a e in-c kept-c)
+        ∙ ap (λ (k : Stroke). (corners (k .curve), curveText (k .curve))) strokes
+        ∙ sym (ap₂ (λ (x : List Float) (y : List ℕ). (take 9 (drop 1 x), y)) (arrow-record d b e in-d kept-d) (arrow-path d b e in-d kept-d))
+
+    tip : tipAt c (numberOf c e) ≡ tipAt d (numberOf d e)
+    tip =
+        ap (λ (x : List Float). take 3 (drop 10 x)) (arrow-record c a e in-c kept-c)
+        ∙ ap (λ (k : Stroke). k .tip .x ∷ k .tip .y ∷ k .angle ∷ []) strokes
+        ∙ sym (ap (λ (x : List Float). take 3 (drop 10 x)) (arrow-record d b e in-d kept-d))
+
+  curves : Curves c d
+  curves = record { curve = curve; tip = tip }
+
+-- for all sheets, all centres and all lent slices
+pub demand3 : Demand3
+demand3 = record { cheapest = cheapest; prefix = prefix; curves = curves }
