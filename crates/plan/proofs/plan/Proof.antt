@@ -1,0 +1,64 @@
+-- `plan::plan` meets its contract.
+use mathlib.Core.Path.{_≡_, sym, ap, _∙_}
+use denote.Ref.{now}
+use Rattle.sheet.specs.Refusals.{mainScreen, checkOf}
+use Rattle.sheet.specs.declared.Limits.{Limits}
+use Rattle.plan.specs.Laws.{plan-kind, plan-refused, plan-accepted}
+use borrow.Author.Needs.{needs}
+use Rattle.plan.proofs.plan.Statement.{statement}
+use Rattle.plan.proofs.plan.Tie as tie
+
+returns : tie.Need-returns
+returns c = let a = c .before .before .before .before .args in plan-kind mainScreen (a .kind) (now (a .s)) (now (a .xs)) (now (a .ys)) (c .if1 .taken)
+
+main-screen-requires : tie.Need-main-screen-requires
+main-screen-requires c κs = search needs
+
+check-within-requires : tie.Need-check-within-requires
+check-within-requires c κs = search needs
+
+enum-known-c : tie.Need-enum-known-c
+enum-known-c c = search needs
+
+enum-told : tie.Need-enum-told
+enum-told c = search needs
+
+plan-accepted-requires : tie.Need-plan-accepted-requires
+plan-accepted-requires c κs =
+    let a = c .before .before .before .before .before .before .before .before .before .before .args in
+    let q = c .before .before .before .before .before .before .before .before .before .before .pre in
+    let e : c .before .before .before .before .check-within .result ≡ checkOf mainScreen (now (a .s)) = c .before .before .before .before .check-within .ensures ∙ ap (λ (m : Limits). checkOf m (now (a .s))) (c .before .before .before .before .before .main-screen .ensures) in
+    (sym e ∙ c .before .before .enum-told .given .1, c .before .before .before .before .before .before .if1 .left, q .0, q .1)
+
+returns-2 : tie.Need-returns-2
+returns-2 c =
+    let a = c .before .before .before .before .before .before .before .before .before .args in
+    let e : c .before .before .before .check-within .result ≡ checkOf mainScreen (now (a .s)) = c .before .before .before .check-within .ensures ∙ ap (λ (m : Limits). checkOf m (now (a .s))) (c .before .before .before .before .main-screen .ensures) in
+    plan-refused mainScreen (a .kind) (now (a .s)) (now (a .xs)) (now (a .ys)) _ (c .before .before .before .before .before .if1 .left) (sym (c .before .c .given .1) ∙ e)
+
+same-length : tie.Need-same-length
+same-length c = search needs
+
+same-length-2 : tie.Need-same-length-2
+same-length-2 c = search needs
+
+returns-3 : tie.Need-returns-3
+returns-3 c =
+    let a = c .before .before .before .before .before .before .before .before .before .before .before .before .before .before .before .args in
+    let e : c .before .before .before .before .before .before .before .before .before .check-within .result ≡ checkOf mainScreen (now (a .s)) = c .before .before .before .before .before .before .before .before .before .check-within .ensures ∙ ap (λ (m : Limits). checkOf m (now (a .s))) (c .before .before .before .before .before .before .before .before .before .before .main-screen .ensures) in
+    plan-accepted mainScreen (a .kind) (now (a .s)) (now (a .xs)) (now (a .ys)) _ _ _ (c .before .before .before .before .before .before .before .before .before .before .before .if1 .left) (sym (c .before .before .before .before .before .before .before .enum-told .given .1) ∙ e) (c .before .before .before .before .plan-accepted .ensures)
+
+pub plan-spec : {M : Type 1} → statement M
+plan-spec =
+    tie.close
+    (tie.spec
+    returns
+    main-screen-requires
+    check-within-requires
+    enum-known-c
+    enum-told
+    plan-accepted-requires
+    returns-2
+    same-length
+    same-length-2
+    returns-3)

@@ -1,0 +1,39 @@
+-- `plan::plan_accepted` meets its contract.
+use native.Mathlib.Omega.{arith}
+use denote.Ref.{now}
+use Rattle.sheet.specs.Accepted.{shown}
+use borrow.Author.Needs.{needs}
+use Rattle.plan.proofs.plan_accepted.Statement.{statement}
+use Rattle.plan.proofs.plan_accepted.Tie as tie
+
+state-count-requires : tie.Need-state-count-requires
+state-count-requires c κs = search needs
+
+arrow-count-requires : tie.Need-arrow-count-requires
+arrow-count-requires c κs = search needs
+
+plan-sized-requires : tie.Need-plan-sized-requires
+plan-sized-requires c κs =
+    let q = c .before .before .before .before .before .before .before .pre in
+    let w = shown (now (c .before .before .before .before .before .before .before .args .s)) (q .0) in
+    (q .1, c .before .before .before .state-count .ensures, omega (arith, w .states, c .before .before .before .state-count .ensures), c .before .before .arrow-count .ensures, omega (arith, w .arrows, c .before .before .arrow-count .ensures), q .2, q .3)
+
+same-length : tie.Need-same-length
+same-length c = search needs
+
+same-length-2 : tie.Need-same-length-2
+same-length-2 c = search needs
+
+returns : tie.Need-returns
+returns c = search needs
+
+pub plan-accepted-spec : {M : Type 1} → statement M
+plan-accepted-spec =
+    tie.close
+    (tie.spec
+    state-count-requires
+    arrow-count-requires
+    plan-sized-requires
+    same-length
+    same-length-2
+    returns)
