@@ -34,8 +34,8 @@ unsafe extern "C" {
     ) -> u8;
 }
 
-/// What a lent f64, byte or number holds before a call.
-const BEFORE: f64 = -7777.125;
+/// What a lent f64, byte or number holds before a call: a NaN with a payload, whose every bit must stay.
+const BEFORE: f64 = f64::from_bits(0x7ff8_dead_beef_0001);
 const BYTE: u8 = 170;
 const NUMBER: usize = 987_654_321;
 
@@ -47,7 +47,8 @@ fn same(a: f64, b: f64) -> bool {
 /// The lent numbers hold the wanted ones and after them what they held before.
 fn holds(lent: &[f64], wanted: &[f64]) -> bool {
     lent.len() >= wanted.len()
-        && lent.iter().enumerate().all(|(i, &v)| same(v, wanted.get(i).copied().unwrap_or(BEFORE)))
+        && lent.iter().zip(wanted).all(|(&v, &w)| same(v, w))
+        && lent[wanted.len()..].iter().all(|v| v.to_bits() == BEFORE.to_bits())
 }
 
 fn holds_bytes(lent: &[u8], wanted: &[u8]) -> bool {
