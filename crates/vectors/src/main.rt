@@ -74,7 +74,10 @@ fn agrees(kind: u8, p: &[u8]) -> bool {
     if kind < 44 {
         return replay_bow::agrees(kind, p);
     }
-    replay_place::agrees(kind, p)
+    if kind < 47 {
+        return replay_place::agrees(kind, p);
+    }
+    replay_route::agrees(kind, p)
 }
 
 fn text_agrees(kind: u8, p: &[u8]) -> bool {

@@ -31,11 +31,11 @@ fn name(kind: u8) {
     if kind == 255 {
         return say(b"spoiled             ");
     }
-    if kind > 46 {
+    if kind > 52 {
         return say(b"no such kind        ");
     }
     entry(
-        b"none                root                hypot               midpoint            rem_euclid          sin                 cos                 atan2               min                 max                 round               abs                 clamp               signum              copysign            total_cmp           check               label block         written number      path                arrowhead           polar               dot                 len                 angle               unit_or             left                dist                overlaps            spanning            grown               touches             dist to a box       at                  tangent             start and end       segment_hits_rect   segments_cross      trace               trace hits_rect     traces cross        bend                between             first_free          place_label         label_spots         box_cost            ",
+        b"none                root                hypot               midpoint            rem_euclid          sin                 cos                 atan2               min                 max                 round               abs                 clamp               signum              copysign            total_cmp           check               label block         written number      path                arrowhead           polar               dot                 len                 angle               unit_or             left                dist                overlaps            spanning            grown               touches             dist to a box       at                  tangent             start and end       segment_hits_rect   segments_cross      trace               trace hits_rect     traces cross        bend                between             first_free          place_label         label_spots         box_cost            no such kind        no such kind        no such kind        route               layout              clutter             ",
         20 * wide(kind),
     )
 }
