@@ -1,7 +1,7 @@
 -- Each way through the code, as the definitions have it: what the calls give are variables. Assumes nothing.
 use mathlib.Core.Path.{_≡_, sym, ap, _∙_, subst}
 use mathlib.Core.Bool.{Bool, true, false, not, _||_}
-use mathlib.Core.List.{List, [], _++_}
+use mathlib.Core.List.{List, [], _++_, append-nil}
 use Prim.Native.Nat.{ℕ, _+_, _≤_, _<_}
 use native.Mathlib.Nat.{zero-add}
 use native.Mathlib.Numerals.{add-one}
@@ -23,9 +23,13 @@ use Rattle.routing.specs.Frames.{orZeros, centres-table}
 use Rattle.clutter.specs.Clutter.{clutterOf}
 use Rattle.lines.specs.Lines.{pathsText, pathsWritable}
 use Rattle.diagram.specs.Calls.{short, onto}
-use Rattle.diagram.specs.Filled.{filledAs, recordsLeft, textLeft}
+use Rattle.diagram.specs.Filled.{filledAs, recordsLeft, textLeft, placedAs, xsLeft, ysLeft, writtenOf, outLeft}
 use Rattle.diagram.specs.declared.Routed.{Routed}
 use Rattle.diagram.specs.declared.Routed.the-variants.{Lengths, Refused}
+use Rattle.diagram.specs.declared.LaidOut.{LaidOut}
+use Rattle.diagram.specs.declared.LaidOut.the-variants as Z
+use Rattle.number.specs.declared.Written.{Written}
+use Rattle.number.specs.declared.Written.the-variants as N
 
 -- ---- copy
 
@@ -39,6 +43,14 @@ copy-end l v i h = rw (drop-of-length-le v h)
 
 pub copied : (l v : List Float) → length v ≤ length l → put l 0 v ≡ onto v l
 copied l v h = put-eq l 0 v (omega arith) ∙ ap (λ (i : ℕ). v ++ drop i l) (zero-add (length v))
+
+-- a whole list stored from the front on
+pub put-whole : {A : Type 0} (l vs : List A) → length vs ≡ length l → put l 0 vs ≡ vs
+put-whole {A} l vs h =
+    let d : length l ≤ 0 + length vs = omega arith in
+    put-eq l 0 vs (omega arith)
+    ∙ ap (λ (r : List A). vs ++ r) (drop-of-length-le l d)
+    ∙ append-nil vs
 
 -- ---- fill
 
@@ -98,3 +110,64 @@ module _ (numbers : List Float) (gs : List Geometry) (records : List Float) (tex
 pub centred-clutter : (xs ys a d p q : List Float) (gs : List Geometry) → length d ≡ length a → p ≡ orZeros xs (length a) → q ≡ orZeros ys (length d)
     → clutterOf (centres p q) gs ≡ clutterOf (table (centreAt xs ys) 0 (length a)) gs
 centred-clutter xs ys a d p q gs h e f = rw (e, f, h) (ap (λ (cs : List «V»). clutterOf cs gs) (centres-table xs ys (length a)))
+
+-- ---- layout
+
+module _ (across down : List Float) (w h : Float) (xs ys : List Float) where
+  -- r is answered, and a and b stand in the lent slices
+  abbrev pub Placed : LaidOut → List Float → List Float → Type 0
+  Placed r a b =
+      (r ≡ placedAs across down w h (length xs) (length ys))
+      × (a ≡ xsLeft across down xs (length ys))
+      × (b ≡ ysLeft across down (length xs) ys)
+
+  place-7 : (short (length xs) across || short (length ys) down) ≡ true → Placed (Z.Refused 7) xs ys
+  unfolding decide
+  place-7 t = (rw t, rw t, rw t)
+
+  module _ (same : length down ≡ length across) where
+    pub place-xs : length xs < length across → Placed (Z.Refused 7) xs ys
+    place-xs i = place-7 (ap (λ (b : Bool). b || short (length ys) down) (lt-ltb _ _ i))
+
+    pub place-ys : length ys < length across → Placed (Z.Refused 7) xs ys
+    place-ys i =
+        let j : length ys < length down = omega arith in
+        place-7 (or-true (short (length xs) across) (short (length ys) down) (lt-ltb _ _ j))
+
+    pub place-done : (a b : List Float) → length across ≤ length xs → length across ≤ length ys → a ≡ onto across xs → b ≡ onto down ys → Placed (Z.Size (length across) w h) a b
+    unfolding decide
+    place-done a b i j e f =
+        let k : length down ≤ length ys = omega arith in
+        let o = or-false (short (length xs) across) (short (length ys) down) (le-ltb _ _ i) (le-ltb _ _ k) in
+        (rw o, rw o e, rw o f)
+
+-- ---- listing
+
+module _ (writable : Bool) (txt out : List ℕ) where
+  -- r is answered, and b stands in the lent slice
+  abbrev pub Wrote-out : Written → List ℕ → Type 0
+  Wrote-out r b = (r ≡ writtenOf writable txt (length out)) × (b ≡ outLeft writable txt out)
+
+  pub list-10 : (w : Bool) → w ≡ writable → not w ≡ true → Wrote-out (N.Refused 10) out
+  unfolding decide
+  list-10 w e t = let o : not writable ≡ true = ap not (sym e) ∙ t in (rw o, rw o)
+
+  module _ (w : Bool) (e : w ≡ writable) (u : not w ≡ false) (p : List ℕ) (need : ℕ) (v : Wrote [] 0 p need txt) (fits : length out < 18446744073709551615) where
+    list-may : not writable ≡ false
+    list-may = ap not (sym e) ∙ u
+
+    list-back : p ++ out ≡ out
+    list-back = ap (λ (l : List ℕ). l ++ out) (empty v)
+
+    pub list-7 : length (p ++ out) < need → Wrote-out (N.Refused 7) (p ++ out)
+    unfolding decide
+    list-7 h =
+        let i : length out < length txt = omega (arith, measured v, length-append p out) in
+        (rw (list-may, lt-ltb _ _ i), rw (list-may, lt-ltb _ _ i) list-back)
+
+    pub list-done : (m : ℕ) (q : List ℕ) → need ≤ length (p ++ out) → Wrote (p ++ out) 0 q m txt → Wrote-out (N.Length m) q
+    unfolding decide
+    list-done m q i x =
+        let t : length txt ≤ length out = omega (arith, measured v, ap length list-back) in
+        let y = fitted (subst (λ (l : List ℕ). Wrote l 0 q m txt) list-back x) t in
+        (rw (list-may, le-ltb _ _ t, y .0), rw (list-may, le-ltb _ _ t) (y .1))

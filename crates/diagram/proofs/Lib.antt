@@ -1,3 +1,4 @@
 pub mod Held
 pub mod Laws
 pub mod Routes
+pub mod Lists

@@ -1,5 +1,5 @@
 -- What each call answers and what it leaves in the slices it is lent, from its inputs alone.
-use mathlib.Core.Bool.{Bool, not, _||_}
+use mathlib.Core.Bool.{Bool, not, _&&_, _||_}
 use mathlib.Core.List.{List, [], _∷_, _++_, flatMap}
 use Prim.Native.Nat.{ℕ}
 use lib.Dec.{ltb}
@@ -22,12 +22,18 @@ use Rattle.spot.specs.declared.Geometry.{Geometry}
 use Rattle.records.specs.Records.{fields}
 use Rattle.routing.specs.Sheets.{frameOf, recordsOf}
 use Rattle.clutter.specs.Clutter.{clutterOf}
-use Rattle.lines.specs.Lines.{pathsText, pathsWritable}
-use Rattle.draw.specs.Drawn.{drawRefusals}
+use Rattle.free.specs.Centres.{centres}
+use Rattle.routing.specs.Routing.{beyond}
+use Rattle.lines.specs.Lines.{pathsText, pathsWritable, listText, listWritable}
+use Rattle.draw.specs.Drawn.{farCentre, drawRefusals}
+use Rattle.layout.specs.Layout.{Layout, planOf, layoutOf, layoutBeyond}
+use Rattle.plan.specs.Planned.{planRefusals}
 use Rattle.diagram.specs.declared.Routed.{Routed}
 use Rattle.diagram.specs.declared.Routed.the-variants as D
 use Rattle.diagram.specs.declared.Counted.{Counted}
 use Rattle.diagram.specs.declared.Counted.the-variants as K
+use Rattle.diagram.specs.declared.LaidOut.{LaidOut}
+use Rattle.diagram.specs.declared.LaidOut.the-variants as Z
 
 -- What a call returns: the values, or the number of the refusal.
 pub data Outcome (A : Type 0) : Type 0 where
@@ -55,6 +61,11 @@ routedAs (D.Refused n) = number n
 abbrev pub countedAs : Counted → Outcome ℕ
 countedAs (K.Count n) = values n
 countedAs (K.Refused n) = number n
+
+-- the number of states, width, height
+abbrev pub laidOutAs : LaidOut → Outcome (ℕ × Float × Float)
+laidOutAs (Z.Size n w h) = values (n, w, h)
+laidOutAs (Z.Refused n) = number n
 
 -- ---- a lent output
 
@@ -126,3 +137,57 @@ textAfter s xs ys room text = decide (routeRefusals s xs ys room (length text)) 
 -- the clutter of what is drawn, with the states at their centres; nothing is lent and nothing written
 unfoldable pub clutter : List ℕ → List Float → List Float → Outcome ℕ
 clutter s xs ys = decide (drawRefusals mainScreen s xs ys) number (values (clutterOf (frameOf (meaning s) xs ys .centres) (drawnOf s xs ys)))
+
+-- ---- lay out a sheet by kind
+
+-- the centres, width and height
+abbrev pub layoutFor : List ℕ → ℕ → Layout
+layoutFor s kind = layoutOf kind (planOf (meaning s))
+
+-- 11, 1 to 6, and 9: "A layout is refused by 9 if any drawing it measures is"; then 7 for the centres' x and for their y
+abbrev pub layoutRefusals : List ℕ → ℕ → ℕ → ℕ → List Refusal
+layoutRefusals s kind xRoom yRoom =
+    let l = layoutFor s kind in
+    planRefusals mainScreen kind s ++ (refusal 7 (short xRoom (l .xs) || short yRoom (l .ys)) ∷ [])
+
+unfoldable pub layout : List ℕ → ℕ → ℕ → ℕ → Outcome (ℕ × Float × Float)
+layout s kind xRoom yRoom =
+    let l = layoutFor s kind in
+    decide (layoutRefusals s kind xRoom yRoom) number (values (length (meaning s .states), l .width, l .height))
+
+unfoldable pub xsAfter : List ℕ → ℕ → List Float → ℕ → List Float
+xsAfter s kind xs yRoom = decide (layoutRefusals s kind (length xs) yRoom) (λ (n : ℕ). xs) (onto (layoutFor s kind .xs) xs)
+
+unfoldable pub ysAfter : List ℕ → ℕ → ℕ → List Float → List Float
+ysAfter s kind xRoom ys = decide (layoutRefusals s kind xRoom (length ys)) (λ (n : ℕ). ys) (onto (layoutFor s kind .ys) ys)
+
+-- ---- list a drawing, laid out by kind: "A listing shows what routing gives at its layout's centres."
+
+abbrev pub listing : List ℕ → ℕ → List ℕ
+listing s kind =
+    let l = layoutFor s kind in
+    listText (l .width) (l .height) (centres (l .xs) (l .ys)) (meaning s .states) (drawnOf s (l .xs) (l .ys))
+
+abbrev pub listingWritable : List ℕ → ℕ → Bool
+listingWritable s kind =
+    let l = layoutFor s kind in
+    listWritable (l .width) (l .height) (centres (l .xs) (l .ys)) (meaning s .states) (drawnOf s (l .xs) (l .ys))
+
+-- 11 and 1 to 6; 8 for a centre of the layout, if there is a layout; 9 for a drawing that the layout measures, or for the one at its centres; 10 and 7
+abbrev pub listRefusals : List ℕ → ℕ → ℕ → List Refusal
+listRefusals s kind room =
+    let g = meaning s in
+    let l = layoutFor s kind in
+    refusal 11 (ltb 2 kind)
+    ∷ refusals mainScreen s
+    ++ (refusal 8 (not (layoutBeyond kind (planOf g)) && farCentre (length (g .states)) (l .xs) (l .ys))
+    ∷ refusal 9 (layoutBeyond kind (planOf g) || beyond (frameOf g (l .xs) (l .ys)))
+    ∷ refusal 10 (not (listingWritable s kind))
+    ∷ refusal 7 (short room (listing s kind))
+    ∷ [])
+
+unfoldable pub list : List ℕ → ℕ → ℕ → Outcome ℕ
+list s kind room = decide (listRefusals s kind room) number (values (length (listing s kind)))
+
+unfoldable pub listAfter : List ℕ → ℕ → List ℕ → List ℕ
+listAfter s kind out = decide (listRefusals s kind (length out)) (λ (n : ℕ). out) (onto (listing s kind) out)

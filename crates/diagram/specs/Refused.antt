@@ -13,7 +13,7 @@ use Rattle.routing.specs.Sheets.{frameOf}
 use Rattle.clutter.specs.Clutter.{clutterOf}
 use Rattle.lines.specs.Lines.{pathsText}
 use Rattle.draw.specs.Drawn.{drawRefusals}
-use Rattle.diagram.specs.Calls.{Outcome, values, number, mainScreen, check, labelSize, numRefusals, writeNum, writeNumAfter, drawnOf, numbersOf, routeRefusals, route, recordsAfter, textAfter, clutter}
+use Rattle.diagram.specs.Calls.{Outcome, values, number, mainScreen, check, labelSize, numRefusals, writeNum, writeNumAfter, drawnOf, numbersOf, routeRefusals, route, recordsAfter, textAfter, clutter, layoutFor, layoutRefusals, layout, xsAfter, ysAfter, listing, listRefusals, list, listAfter}
 use Rattle.diagram.specs.Decided.{Clear, First, given-exactly, answered-exactly, refused-keeps}
 
 -- ---- "Order: 11, 1, 2, 4, 3, 5, 6, 8, 9, 10, 7": of these a call has those that it can meet, each with its cause
@@ -36,6 +36,12 @@ route-order s xs ys a b = refl
 
 pub clutter-order : (s : List ℕ) (xs ys : List Float) → numbersIn (drawRefusals mainScreen s xs ys) ≡ 1 ∷ 2 ∷ 4 ∷ 3 ∷ 5 ∷ 6 ∷ 8 ∷ 9 ∷ []
 clutter-order s xs ys = refl
+
+pub layout-order : (s : List ℕ) (kind a b : ℕ) → numbersIn (layoutRefusals s kind a b) ≡ 11 ∷ 1 ∷ 2 ∷ 4 ∷ 3 ∷ 5 ∷ 6 ∷ 9 ∷ 7 ∷ []
+layout-order s kind a b = refl
+
+pub list-order : (s : List ℕ) (kind a : ℕ) → numbersIn (listRefusals s kind a) ≡ 11 ∷ 1 ∷ 2 ∷ 4 ∷ 3 ∷ 5 ∷ 6 ∷ 8 ∷ 9 ∷ 10 ∷ 7 ∷ []
+list-order s kind a = refl
 
 -- ---- each number is given under its cause only and whenever no earlier cause holds, the values exactly where no cause holds
 
@@ -66,6 +72,14 @@ pub clutter-answered : (s : List ℕ) (xs ys : List Float) → Answered (drawRef
 unfolding clutter
 clutter-answered s xs ys = answered (drawRefusals mainScreen s xs ys) (clutterOf (frameOf (meaning s) xs ys .centres) (drawnOf s xs ys))
 
+pub layout-answered : (s : List ℕ) (kind a b : ℕ) → Answered (layoutRefusals s kind a b) (length (meaning s .states), layoutFor s kind .width, layoutFor s kind .height) (layout s kind a b)
+unfolding layout
+layout-answered s kind a b = answered (layoutRefusals s kind a b) (length (meaning s .states), layoutFor s kind .width, layoutFor s kind .height)
+
+pub list-answered : (s : List ℕ) (kind a : ℕ) → Answered (listRefusals s kind a) (length (listing s kind)) (list s kind a)
+unfolding list
+list-answered s kind a = answered (listRefusals s kind a) (length (listing s kind))
+
 -- ---- "Left as before: all"
 
 pub num-kept : (v : Float) (out : List ℕ) (n : ℕ) → writeNum v out ≡ number n → writeNumAfter v out ≡ out
@@ -79,3 +93,15 @@ route-kept s xs ys records text n e =
     let rs = routeRefusals s xs ys (length records) (length text) in
     let a : ℕ × ℕ = (length (numbersOf (drawnOf s xs ys)), length (pathsText (drawnOf s xs ys))) in
     (refused-keeps rs a n records _ e, refused-keeps rs a n text _ e)
+
+pub layout-kept : (s : List ℕ) (kind : ℕ) (xs ys : List Float) (n : ℕ) → layout s kind (length xs) (length ys) ≡ number n
+    → (xsAfter s kind xs (length ys) ≡ xs) × (ysAfter s kind (length xs) ys ≡ ys)
+unfolding layout xsAfter ysAfter
+layout-kept s kind xs ys n e =
+    let rs = layoutRefusals s kind (length xs) (length ys) in
+    let a : ℕ × Float × Float = (length (meaning s .states), layoutFor s kind .width, layoutFor s kind .height) in
+    (refused-keeps rs a n xs _ e, refused-keeps rs a n ys _ e)
+
+pub list-kept : (s : List ℕ) (kind : ℕ) (out : List ℕ) (n : ℕ) → list s kind (length out) ≡ number n → listAfter s kind out ≡ out
+unfolding list listAfter
+list-kept s kind out n e = refused-keeps (listRefusals s kind (length out)) (length (listing s kind)) n out _ e

@@ -1,5 +1,7 @@
 // The calls of document 01, for the main screen. None has a requirement.
 use draw::Drawing;
+use number::Written;
+use plan::Planned;
 ghost use mathlib.Core.Path.{_≡_};
 ghost use Prim.Native.Nat.{_*_, _≤_};
 ghost use lib.ListN.{length, take};
@@ -8,6 +10,9 @@ ghost use Rattle.records.specs.Records.{decodeRecords};
 ghost use Rattle.records.specs.Back.{Small};
 ghost use Rattle.routing.specs.Sheets.{centreAt};
 ghost use Rattle.clutter.specs.Clutter.{clutterOf};
+ghost use Rattle.sheet.specs.Sheet.{statesOf};
+ghost use Rattle.free.specs.Centres.{centres};
+ghost use Rattle.lines.specs.Lines.{listText, listWritable};
 ghost use Rattle.diagram.specs.Calls as S;
 ghost use Rattle.diagram.specs.Filled as F;
 
@@ -20,6 +25,12 @@ pub enum Routed {
 // The clutter, or the number of the refusal.
 pub enum Counted {
     Count(usize),
+    Refused(u8),
+}
+
+// The number of states, width and height, or the number of the refusal.
+pub enum LaidOut {
+    Size(usize, f64, f64),
     Refused(u8),
 }
 
@@ -143,5 +154,134 @@ pub fn clutter(sheet: &[u8], xs: &[f64], ys: &[f64]) -> Counted
             let n = meaning::state_count(sheet);
             Counted::Count(clutter_at(xs, ys, n, &drawing, count))
         }
+    }
+}
+
+// ---- layout
+
+// The centres, where there is room for both coordinates.
+fn place(
+    across: &[f64],
+    down: &[f64],
+    width: f64,
+    height: f64,
+    xs: &mut [f64],
+    ys: &mut [f64],
+) -> LaidOut
+    requires { ⌜ length (now down) ≡ length (now across) ⌝ }
+    ensures { λ r. ⌜ (r ≡ F.placedAs (now (across .entry)) (now (down .entry)) width height (length (now (xs .entry))) (length (now (ys .entry)))) × (now (xs .exit) ≡ F.xsLeft (now (across .entry)) (now (down .entry)) (now (xs .entry)) (length (now (ys .entry)))) × (now (ys .exit) ≡ F.ysLeft (now (across .entry)) (now (down .entry)) (length (now (xs .entry))) (now (ys .entry))) ⌝ }
+{
+    let n = across.len();
+    if xs.len() < n {
+        return LaidOut::Refused(7);
+    }
+    if ys.len() < n {
+        return LaidOut::Refused(7);
+    }
+    copy(across, xs);
+    copy(down, ys);
+    LaidOut::Size(n, width, height)
+}
+
+// Lays out a sheet by kind: the centres of its states and the size, or the number of the refusal.
+pub fn layout(sheet: &[u8], kind: u8, xs: &mut [f64], ys: &mut [f64]) -> LaidOut
+    ensures { λ r. ⌜ (S.laidOutAs r ≡ S.layout (now (sheet .entry)) kind (length (now (xs .entry))) (length (now (ys .entry)))) × (now (xs .exit) ≡ S.xsAfter (now (sheet .entry)) kind (now (xs .entry)) (length (now (ys .entry)))) × (now (ys .exit) ≡ S.ysAfter (now (sheet .entry)) kind (length (now (xs .entry))) (now (ys .entry))) ⌝ }
+{
+    let mut across = [0.0f64; 64];
+    let mut down = [0.0f64; 64];
+    let planned = plan::plan(sheet, kind, &mut across, &mut down);
+    match planned {
+        Planned::Refused(n) => LaidOut::Refused(n),
+        Planned::Size(n, width, height) => place(&across[..n], &down[..n], width, height, xs, ys),
+    }
+}
+
+// ---- listing
+
+// The listing of a drawing, where every number may be written and there is room for it.
+fn write_listing(
+    width: f64,
+    height: f64,
+    xs: &[f64],
+    ys: &[f64],
+    flags: &[u8],
+    drawing: &[f64],
+    count: usize,
+    out: &mut [u8],
+) -> Written
+    requires { ⌜ (length (now ys) ≡ length (now xs)) × (length (now flags) ≡ length (now xs)) × (20 * count ≤ length (now drawing)) ⌝ }
+    ensures { λ r. ⌜ (r ≡ F.writtenOf (listWritable width height (centres (now (xs .entry)) (now (ys .entry))) (now (flags .entry)) (decodeRecords count (now (drawing .entry)))) (listText width height (centres (now (xs .entry)) (now (ys .entry))) (now (flags .entry)) (decodeRecords count (now (drawing .entry)))) (length (now (out .entry)))) × (now (out .exit) ≡ F.outLeft (listWritable width height (centres (now (xs .entry)) (now (ys .entry))) (now (flags .entry)) (decodeRecords count (now (drawing .entry)))) (listText width height (centres (now (xs .entry)) (now (ys .entry))) (now (flags .entry)) (decodeRecords count (now (drawing .entry)))) (now (out .entry))) ⌝ }
+{
+    if !lines::listing_writable(width, height, xs, ys, flags, drawing, count) {
+        return Written::Refused(10);
+    }
+    let need = lines::put_listing(
+        &mut out[..0],
+        0,
+        width,
+        height,
+        xs,
+        ys,
+        flags,
+        drawing,
+        count,
+    );
+    if out.len() < need {
+        return Written::Refused(7);
+    }
+    let done = lines::put_listing(out, 0, width, height, xs, ys, flags, drawing, count);
+    Written::Length(done)
+}
+
+// The listing of a sheet drawn at these centres; `flags` is left with the states' flag bytes.
+fn list_by(
+    sheet: &[u8],
+    width: f64,
+    height: f64,
+    xs: &[f64],
+    ys: &[f64],
+    flags: &mut [u8],
+    out: &mut [u8],
+) -> Written
+    requires { ⌜ (length (now ys) ≡ length (now xs)) × (length (now flags) ≡ length (now xs)) × (length (statesOf (now sheet)) ≡ length (now xs)) ⌝ }
+    ensures { λ r. ⌜ (r ≡ F.listedAt (now (sheet .entry)) width height (now (xs .entry)) (now (ys .entry)) (length (now (out .entry)))) × (now (out .exit) ≡ F.listedAfter (now (sheet .entry)) width height (now (xs .entry)) (now (ys .entry)) (now (out .entry))) ⌝ }
+{
+    meaning::flags_into(sheet, flags);
+    let mut drawing = [0.0f64; 5120];
+    let drawn = draw::draw(sheet, xs, ys, &mut drawing);
+    match drawn {
+        Drawing::Refused(n) => Written::Refused(n),
+        Drawing::Records(count) => write_listing(
+            width,
+            height,
+            xs,
+            ys,
+            flags,
+            &drawing,
+            count,
+            out,
+        ),
+    }
+}
+
+// Lists the drawing of a sheet, laid out by kind: the bytes written, or the number of the refusal.
+pub fn list(sheet: &[u8], kind: u8, out: &mut [u8]) -> Written
+    ensures { λ r. ⌜ (S.writtenAs r ≡ S.list (now (sheet .entry)) kind (length (now (out .entry)))) × (now (out .exit) ≡ S.listAfter (now (sheet .entry)) kind (now (out .entry))) ⌝ }
+{
+    let mut xs = [0.0f64; 64];
+    let mut ys = [0.0f64; 64];
+    let mut flags = [0u8; 64];
+    let planned = plan::plan(sheet, kind, &mut xs, &mut ys);
+    match planned {
+        Planned::Refused(n) => Written::Refused(n),
+        Planned::Size(n, width, height) => list_by(
+            sheet,
+            width,
+            height,
+            &xs[..n],
+            &ys[..n],
+            &mut flags[..n],
+            out,
+        ),
     }
 }
