@@ -1,4 +1,6 @@
 // The worked drawings of document 01 that are not starred, each with what the program gives.
+use diagram::Counted;
+use diagram::LaidOut;
 use libc::STDOUT_FILENO;
 use number::Written;
 use sheet::Checked;
@@ -39,6 +41,38 @@ fn shown(out: &[u8], n: usize) {
     say(b"\n");
 }
 
+// What `clutter` says of a sheet whose one state has this x.
+fn centred(sheet: &[u8], x: f64) {
+    let xs = [x];
+    let ys = [0.0];
+    let c = diagram::clutter(sheet, &xs, &ys);
+    match c {
+        Counted::Count(_) => say(b"accepted\n"),
+        Counted::Refused(n) => refused(n),
+    }
+}
+
+// How far apart Auto puts the two states of a sheet: layers 140, a ring 150.
+fn apart(sheet: &[u8]) {
+    let mut xs = [0.0f64; 2];
+    let mut ys = [0.0f64; 2];
+    let l = diagram::layout(sheet, 0, &mut xs, &mut ys);
+    match l {
+        LaidOut::Size(_, _, _) => written(xs[1] - xs[0]),
+        LaidOut::Refused(n) => refused(n),
+    }
+}
+
+// What `list` writes of a sheet, laid out as Auto.
+fn listed(sheet: &[u8]) {
+    let mut out = [0u8; 1024];
+    let w = diagram::list(sheet, 0, &mut out);
+    match w {
+        Written::Length(n) => shown(&out, n),
+        Written::Refused(n) => refused(n),
+    }
+}
+
 fn sheets() {
     say(b"count 0, 16 bytes: ");
     checked(b"\x01\0\0\0\0\0\0\0\0\0\0\0\0\0\0\0");
@@ -55,7 +89,41 @@ fn numbers() {
     written(10000000000000.0);
 }
 
+fn centres() {
+    say(b"a centre of 2^20: ");
+    centred(
+        b"\x01\0\x01\0\x01\0\0\0\0\0\0\0\0\0\0\0\x01\x01\0\0\0\0\0\0\0\0\0\0\0\0\0\0",
+        1048576.0,
+    );
+    say(b"the next f64 above 2^20: ");
+    centred(
+        b"\x01\0\x01\0\x01\0\0\0\0\0\0\0\0\0\0\0\x01\x01\0\0\0\0\0\0\0\0\0\0\0\0\0\0",
+        1048576.0000000002,
+    );
+}
+
+fn layouts() {
+    say(b"2 states, 5 arrows, apart: ");
+    apart(
+        b"\x01\0\x07\0\x01\0\x03\0\0\0\0\0\0\0\0\0\x01\x01\x02\0\0\0\0\0\0\0\0\0\0\0\0\0\x01\0\0\0\0\0\0\0\0\0\0\0\0\0\0\0\x02\0\x04\0\0\0\x01\0\0\0\0\0\0\0\0\0\x02\0\x05\0\x01\0\0\0\0\0\0\0\0\0\0\0\x02\0\x06\0\0\0\x01\0\0\0\0\0\0\0\0\0\x02\0\x07\0\x01\0\0\0\0\0\0\0\0\0\0\0\x02\0\0\0\0\0\x01\0\0\0\0\0\0\0\0\0",
+    );
+    say(b"2 states, 6 arrows, apart: ");
+    apart(
+        b"\x01\0\x08\0\x01\0\x03\0\0\0\0\0\0\0\0\0\x01\x01\x02\0\0\0\0\0\0\0\0\0\0\0\0\0\x01\0\0\0\0\0\0\0\0\0\0\0\0\0\0\0\x02\0\x04\0\0\0\x01\0\0\0\0\0\0\0\0\0\x02\0\x05\0\x01\0\0\0\0\0\0\0\0\0\0\0\x02\0\x06\0\0\0\x01\0\0\0\0\0\0\0\0\0\x02\0\x07\0\x01\0\0\0\0\0\0\0\0\0\0\0\x02\0\x08\0\0\0\x01\0\0\0\0\0\0\0\0\0\x02\0\0\0\x01\0\0\0\0\0\0\0\0\0\0\0",
+    );
+}
+
+fn listing() {
+    say(b"a start state, a second state, an arrow 0 to 1 with the line `a`:\n");
+    listed(
+        b"\x01\0\x05\0\x01\0\x03\0\0\0\0\0\0\0\0\0\x01\x01\x02\0\0\0\0\0\0\0\0\0\0\0\0\0\x01\0\0\0\0\0\0\0\0\0\0\0\0\0\0\0\x02\0\0\0\0\0\x01\0\x04\0\0\0\0\0\0\0\x03\0\0\0\x05\0\0\0\0\0\0\0\0\0\0\0\x04\x01\0\0a\0\0\0\0\0\0\0\0\0\0\0",
+    );
+}
+
 fn main() {
     sheets();
     numbers();
+    centres();
+    layouts();
+    listing();
 }
