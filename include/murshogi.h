@@ -16,6 +16,9 @@
 extern "C" {
 #endif
 
+/* Layout kinds. */
+enum { MURSHOGI_AUTO = 0, MURSHOGI_LAYERED = 1, MURSHOGI_CIRCULAR = 2 };
+
 /* The f64 numbers of a record, and the most of each thing that a sheet holds. */
 enum {
     MURSHOGI_RECORD = 20,
@@ -32,6 +35,11 @@ uint8_t murshogi_label_size(const uint8_t *text, size_t text_len,
                             const size_t *lengths, size_t lines,
                             double size[2]);
 
+/* Lays out a sheet by kind: the centres in x and y, the drawing's width and height in size, the number of states. */
+uint8_t murshogi_layout(const uint8_t *sheet, size_t sheet_len, uint8_t kind,
+                        double *x, size_t x_len, double *y, size_t y_len,
+                        double size[2], size_t *states);
+
 /* Routes a sheet at given centres: the records, and the path text, a line for each record. lengths[0] is the f64
  * numbers written, lengths[1] the bytes. Centres that are missing or not finite count as 0. */
 uint8_t murshogi_route(const uint8_t *sheet, size_t sheet_len,
@@ -47,6 +55,10 @@ uint8_t murshogi_clutter(const uint8_t *sheet, size_t sheet_len,
 
 /* Writes a number, with at most two decimals: the bytes written in length. */
 uint8_t murshogi_write_num(double v, uint8_t *out, size_t out_len, size_t *length);
+
+/* Lists a drawing, laid out by kind: the bytes written in length. */
+uint8_t murshogi_list(const uint8_t *sheet, size_t sheet_len, uint8_t kind,
+                      uint8_t *out, size_t out_len, size_t *length);
 
 #ifdef __cplusplus
 }

@@ -20,3 +20,10 @@ both (a, b) = a ∷ b ∷ []
 -- one number by itself
 abbrev pub itself : {A : Type 0} → A → A
 itself a = a
+
+-- of a layout's values, the number of states, and the width and height
+abbrev pub statesOf : {A B : Type 0} → A × B × B → A
+statesOf (n, w, h) = n
+
+abbrev pub sizeOf : {A B : Type 0} → A × B × B → List B
+sizeOf (n, w, h) = w ∷ h ∷ []

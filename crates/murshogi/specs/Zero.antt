@@ -17,7 +17,7 @@ use Rattle.lines.specs.Lines.{pathsText}
 use Rattle.routing.specs.Sheets.{frameOf}
 use Rattle.sheet.specs.Sheet.{meaning}
 use Rattle.clutter.specs.Clutter.{clutterOf}
-use Rattle.diagram.specs.Calls.{Outcome, values, number, mainScreen, check, labelSize, drawnOf, numbersOf, routeRefusals, route, clutter, numRefusals, writeNum}
+use Rattle.diagram.specs.Calls.{Outcome, values, number, mainScreen, check, labelSize, drawnOf, numbersOf, routeRefusals, route, clutter, numRefusals, writeNum, layoutFor, layoutRefusals, layout, listing, listRefusals, list}
 use Rattle.murshogi.specs.Exports.{code}
 
 -- every refusal of a list has a number above 0
@@ -49,6 +49,10 @@ pub label-zero : (text lengths : List ℕ) → code (labelSize text lengths) ≡
 unfolding labelSize
 label-zero text lengths e = zero-values (blockWidth (cut text lengths), blockHeight (length lengths)) (labelRefusals mainScreen text lengths) refl e
 
+pub layout-zero : (s : List ℕ) (kind xRoom yRoom : ℕ) → code (layout s kind xRoom yRoom) ≡ 0 → layout s kind xRoom yRoom ≡ values (length (meaning s .states), layoutFor s kind .width, layoutFor s kind .height)
+unfolding layout
+layout-zero s kind xRoom yRoom e = zero-values (length (meaning s .states), layoutFor s kind .width, layoutFor s kind .height) (layoutRefusals s kind xRoom yRoom) refl e
+
 pub route-zero : (s : List ℕ) (xs ys : List Float) (room textRoom : ℕ) → code (route s xs ys room textRoom) ≡ 0 → route s xs ys room textRoom ≡ values (length (numbersOf (drawnOf s xs ys)), length (pathsText (drawnOf s xs ys)))
 unfolding route
 route-zero s xs ys room textRoom e = zero-values (length (numbersOf (drawnOf s xs ys)), length (pathsText (drawnOf s xs ys))) (routeRefusals s xs ys room textRoom) refl e
@@ -60,3 +64,7 @@ clutter-zero s xs ys e = zero-values (clutterOf (frameOf (meaning s) xs ys .cent
 pub num-zero : (v : Float) (out : List ℕ) → code (writeNum v out) ≡ 0 → writeNum v out ≡ values (length (numText v))
 unfolding writeNum
 num-zero v out e = zero-values (length (numText v)) (numRefusals v out) refl e
+
+pub list-zero : (s : List ℕ) (kind room : ℕ) → code (list s kind room) ≡ 0 → list s kind room ≡ values (length (listing s kind))
+unfolding list
+list-zero s kind room e = zero-values (length (listing s kind)) (listRefusals s kind room) refl e

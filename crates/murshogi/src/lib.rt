@@ -33,6 +33,33 @@ pub extern "C" fn murshogi_label_size(text: &[u8], lengths: &[usize], size: &mut
     }
 }
 
+// Lays out a sheet by kind: the centres in `x` and `y`, the drawing's width and height, the number of states.
+#[no_mangle]
+pub extern "C" fn murshogi_layout(
+    sheet: &[u8],
+    kind: u8,
+    x: &mut [f64],
+    y: &mut [f64],
+    size: &mut [f64; 2],
+    states: &mut usize,
+) -> u8
+    ensures { λ r. ⌜ r ≡ S.code (C.layout (now (sheet .entry)) kind (L.length (now (x .entry))) (L.length (now (y .entry)))) ⌝ }
+    ensures { λ _. ⌜ now (x .exit) ≡ C.xsAfter (now (sheet .entry)) kind (now (x .entry)) (L.length (now (y .entry))) ⌝ }
+    ensures { λ _. ⌜ now (y .exit) ≡ C.ysAfter (now (sheet .entry)) kind (L.length (now (x .entry))) (now (y .entry)) ⌝ }
+    ensures { λ _. ⌜ now (size .exit) ≡ S.after S.sizeOf (C.layout (now (sheet .entry)) kind (L.length (now (x .entry))) (L.length (now (y .entry)))) (now (size .entry)) ⌝ }
+    ensures { λ _. ⌜ now (states .exit) ≡ S.after S.statesOf (C.layout (now (sheet .entry)) kind (L.length (now (x .entry))) (L.length (now (y .entry)))) (now (states .entry)) ⌝ }
+{
+    let c = diagram::layout(sheet, kind, x, y);
+    match c {
+        diagram::LaidOut::Size(n, w, h) => {
+            *size = [w, h];
+            *states = n;
+            0
+        }
+        diagram::LaidOut::Refused(n) => n,
+    }
+}
+
 // Routes a sheet at given centres: records and path text; `lengths` are the f64 numbers and the bytes written.
 #[no_mangle]
 pub extern "C" fn murshogi_route(
@@ -82,6 +109,23 @@ pub extern "C" fn murshogi_write_num(v: f64, out: &mut [u8], length: &mut usize)
     ensures { λ _. ⌜ now (length .exit) ≡ S.after S.itself (C.writeNum v (now (out .entry))) (now (length .entry)) ⌝ }
 {
     let c = diagram::write_num(v, out);
+    match c {
+        number::Written::Length(n) => {
+            *length = n;
+            0
+        }
+        number::Written::Refused(n) => n,
+    }
+}
+
+// Lists a drawing, laid out by kind, into `out`; `length` is the bytes written.
+#[no_mangle]
+pub extern "C" fn murshogi_list(sheet: &[u8], kind: u8, out: &mut [u8], length: &mut usize) -> u8
+    ensures { λ r. ⌜ r ≡ S.code (C.list (now (sheet .entry)) kind (L.length (now (out .entry)))) ⌝ }
+    ensures { λ _. ⌜ now (out .exit) ≡ C.listAfter (now (sheet .entry)) kind (now (out .entry)) ⌝ }
+    ensures { λ _. ⌜ now (length .exit) ≡ S.after S.itself (C.list (now (sheet .entry)) kind (L.length (now (out .entry)))) (now (length .entry)) ⌝ }
+{
+    let c = diagram::list(sheet, kind, out);
     match c {
         number::Written::Length(n) => {
             *length = n;
