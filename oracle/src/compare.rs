@@ -4,7 +4,7 @@
 use std::collections::BTreeMap;
 
 use crate::calls::{self, Turns};
-use crate::generate::{centres, drawing, shuffled};
+use crate::generate::{Size, centres, drawing, sheet, shuffled};
 use crate::random::Random;
 use crate::sheet::label_block;
 use crate::vectors::damage;
@@ -108,8 +108,8 @@ impl Runs {
 
 /// The room for an answer of n: plenty, just enough, one too few, or none.
 fn room(rng: &mut Random, n: usize) -> usize {
-    match rng.below(8) {
-        0 => n,
+    match rng.below(20) {
+        0 | 4 => n,
         1 => n.saturating_sub(1),
         2 => rng.below(n + 1),
         3 => 0,
@@ -145,6 +145,23 @@ pub fn layouts(count: usize, seed: u64) {
     runs.end();
 }
 
+/// A sheet with one state, arrow or line more than there may be.
+fn too_large(rng: &mut Random) -> Vec<u8> {
+    let mut list = sheet(rng, Size { states: 3, arrows: 4, lines: 2, characters: 8 });
+    match rng.below(3) {
+        0 => list.states.resize(65, 0),
+        1 => {
+            let first = list.arrows[0].clone();
+            list.arrows.resize(257, first);
+        }
+        _ => {
+            let one = vec![b"a".to_vec()];
+            list.arrows[0].lines.resize(9, one);
+        }
+    }
+    shuffled(rng, &list)
+}
+
 pub fn run(turns: usize, seed: u64) {
     let rng = &mut Random::new(seed);
     let mut runs = Runs::default();
@@ -154,6 +171,13 @@ pub fn run(turns: usize, seed: u64) {
         let (xs, ys) = centres(rng, &drawing);
         if rng.once_in(5) {
             damage(rng, &mut sheet);
+        }
+        if rng.once_in(25) {
+            let n = rng.below(sheet.len() + 1);
+            sheet.truncate(n);
+        }
+        if rng.once_in(25) {
+            sheet = too_large(rng);
         }
         checked(&mut runs, &sheet);
         let kind = if rng.once_in(12) { rng.pick(&[3, 4, 255]) } else { rng.below(3) as u8 };
