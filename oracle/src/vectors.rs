@@ -102,7 +102,7 @@ pub mod kind {
 
 /// Whether the program `vectors` replays cases of this kind.
 fn replayed(kind: u8) -> bool {
-    matches!(kind, 0..=46 | kind::ROUTE | kind::CLUTTER | kind::SPOILED)
+    matches!(kind, 0..=46 | kind::ROUTE..=kind::CLUTTER | kind::SPOILED)
 }
 
 /// A case's payload as it is put together.

@@ -77,6 +77,9 @@ fn agrees(kind: u8, p: &[u8]) -> bool {
     if kind < 47 {
         return replay_place::agrees(kind, p);
     }
+    if kind == 51 {
+        return replay_layout::agrees(p);
+    }
     replay_route::agrees(kind, p)
 }
 

@@ -143,7 +143,7 @@ pub fn cases(out: &mut Stream) {
         if i % 3 == 0 {
             add(out, rng, kind::CLUTTER, clutter_case(&d), 4);
         }
-        if i % 4 == 0 {
+        if i % 2 == 0 {
             let number = rng.below(3) as u8;
             add(out, rng, kind::LAYOUT, layout_case(&d.graph, number), 8);
         }
