@@ -144,8 +144,9 @@ pub fn cases(out: &mut Stream) {
             add(out, rng, kind::CLUTTER, clutter_case(&d), 4);
         }
         if i % 2 == 0 {
-            let number = rng.below(3) as u8;
-            add(out, rng, kind::LAYOUT, layout_case(&d.graph, number), 8);
+            for number in 0..3 {
+                add(out, rng, kind::LAYOUT, layout_case(&d.graph, number), 8);
+            }
         }
     }
 }
