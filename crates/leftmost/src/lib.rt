@@ -1,0 +1,1 @@
+// No code: on a ring the start state is leftmost, in specs/.
