@@ -6,6 +6,14 @@
 static uint8_t sheet[MURSHOGI_SHEET + 1];
 static uint8_t text[65536];
 
+/* A layout kind; a word that is no number below 256 gives 255, which is refused by 11. */
+static uint8_t kind_of(const char *word)
+{
+    char *end;
+    long kind = strtol(word, &end, 10);
+    return *word != 0 && *end == 0 && 0 <= kind && kind < 256 ? (uint8_t)kind : 255;
+}
+
 int main(int argc, char **argv)
 {
     if (argc < 2) {
@@ -20,7 +28,7 @@ int main(int argc, char **argv)
     /* one byte more than a sheet may have: a longer file is refused as one that long */
     size_t sheet_len = fread(sheet, 1, sizeof sheet, file);
     fclose(file);
-    uint8_t kind = argc > 2 ? (uint8_t)atoi(argv[2]) : MURSHOGI_AUTO;
+    uint8_t kind = argc > 2 ? kind_of(argv[2]) : MURSHOGI_AUTO;
 
     size_t length = 0;
     uint8_t refused = murshogi_list(sheet, sheet_len, kind, text, sizeof text, &length);

@@ -37,7 +37,8 @@ fn list(sheet: &[u8], kind: u8, out: &mut [u8]) -> Result<usize, u8> {
 fn main() {
     let args: Vec<String> = std::env::args().collect();
     let file = args.get(1).expect("usage: list SHEET [KIND]");
-    let kind = args.get(2).map_or(0, |k| k.parse().unwrap());
+    // a word that is no number below 256 gives 255, which is refused by 11
+    let kind = args.get(2).map_or(0, |k| k.parse().unwrap_or(255));
     let sheet = std::fs::read(file).unwrap_or_else(|e| panic!("{file}: {e}"));
     let mut out = vec![0; 65_536];
     match list(&sheet, kind, &mut out) {

@@ -42,7 +42,8 @@ uint8_t murshogi_layout(const uint8_t *sheet, size_t sheet_len, uint8_t kind,
                         double size[2], size_t *states);
 
 /* Routes a sheet at given centres: the records, and the path text, a line for each record. lengths[0] is the f64
- * numbers written, lengths[1] the bytes. Centres that are missing or not finite count as 0. */
+ * numbers written, lengths[1] the bytes. Records never need more than MURSHOGI_RECORD * MURSHOGI_ARROWS numbers.
+ * Centres that are missing or not finite count as 0. */
 uint8_t murshogi_route(const uint8_t *sheet, size_t sheet_len,
                        const double *x, size_t x_len, const double *y, size_t y_len,
                        double *records, size_t records_len,
