@@ -6,6 +6,8 @@ ghost use Rattle.float.specs.Constants.{f0};
 ghost use Rattle.sheet.specs.Sheet.{lineOf, linesFrom};
 ghost use Rattle.label.specs.Label as S;
 ghost use Rattle.label.specs.Measuring as M;
+use reader::next_of;
+use reader::record_of;
 
 // A line measured so far: the state of its UTF-8, the value of the character that has begun, and the width.
 pub struct Measure {
@@ -95,14 +97,16 @@ fn measure_line(s: &[u8], k: usize) -> Measure
     ensures { λ r. ⌜ r ≡ M.measureAll M.start (lineOf (now (s .entry)) k) ⌝ }
 {
     let mut m = start();
-    let mut i = sheet::first_text_at(s, k);
+    let d = record_of(s, k);
+    let mut i = d.word4;
     let mut left = sheet::word_at(s, 2) + 1;
     while i != 0 {
         if left == 0 {
             return m;
         }
-        m = measure_part(s, 16 * i + 4, sheet::one_at(s, i), m);
-        i = sheet::next_at(s, i);
+        let d = record_of(s, i);
+        m = measure_part(s, 16 * i + 4, d.one, m);
+        i = next_of(s, i);
         left -= 1;
     }
     m
@@ -122,7 +126,7 @@ fn widest(s: &[u8], first: usize) -> f64
         }
         let m = measure_line(s, i);
         w = float::max(w, m.width);
-        i = sheet::next_at(s, i);
+        i = next_of(s, i);
         left -= 1;
     }
     w

@@ -1,14 +1,15 @@
 -- The lists that are read out of a sheet for the layers above, and how an arrow's lines are found from them. Assumes nothing.
 use mathlib.Core.Path.{_≡_, refl, sym, ap, _∙_}
+use mathlib.Core.Bool.{Bool, true, false, cond}
 use mathlib.Core.List.{List, [], _∷_, map}
 use Prim.Native.Nat.{ℕ, zero, suc, _+_, _*_, _<_}
 use native.Mathlib.Nat.{not-suc-le-zero, le-of-suc-le-suc}
 use lib.ListN.{length, getD, length-map}
-use Rattle.sheet.specs.Sheet.{le16, firstLine, Arrow, Graph, chain, arrowChain, fromOf, toOf, arrowOf, arrowsOf, linesFrom, meaning}
+use Rattle.sheet.specs.Sheet.{firstLine, Arrow, Graph, chain, arrowChain, fromOf, toOf, arrowOf, arrowsOf, linesFrom, meaning}
 
--- the u16 at byte b of record k
-abbrev pub wordOf : List ℕ → ℕ → ℕ → ℕ
-wordOf s b k = le16 s (16 * k + b)
+-- an end of arrow record k: the state that it leads to, or the one that it leaves
+abbrev pub endOf : List ℕ → Bool → ℕ → ℕ
+endOf s to k = cond to (toOf s k) (fromOf s k)
 
 -- the ends of the arrows, in their order
 abbrev pub sources : Graph → List ℕ
@@ -31,11 +32,11 @@ unfolding arrowOf
 targets-go s [] = refl
 targets-go s (k ∷ l) = ap (λ (r : List ℕ). toOf s k ∷ r) (targets-go s l)
 
-pub sources-are : (s : List ℕ) → sources (meaning s) ≡ map (wordOf s 4) (arrowChain s)
+pub sources-are : (s : List ℕ) → sources (meaning s) ≡ map (endOf s false) (arrowChain s)
 unfolding arrowsOf
 sources-are s = sources-go s (arrowChain s)
 
-pub targets-are : (s : List ℕ) → targets (meaning s) ≡ map (wordOf s 6) (arrowChain s)
+pub targets-are : (s : List ℕ) → targets (meaning s) ≡ map (endOf s true) (arrowChain s)
 unfolding arrowsOf
 targets-are s = targets-go s (arrowChain s)
 

@@ -8,11 +8,9 @@ ghost use Rattle.text.specs.Automaton.{feedAll};
 ghost use Rattle.sheet.specs.Sheet as S;
 ghost use Rattle.sheet.specs.Refusals as R;
 ghost use Rattle.meaning.specs.Read as M;
+use reader::next_of;
+use reader::record_of;
 use sheet::Limits;
-use sheet::first_line_at;
-use sheet::first_text_at;
-use sheet::next_at;
-use sheet::one_at;
 use sheet::word_at;
 
 // How many records the chain from record `first` on has.
@@ -28,7 +26,7 @@ pub fn chain_length(s: &[u8], first: usize) -> usize
             return n;
         }
         n += 1;
-        i = next_at(s, i);
+        i = next_of(s, i);
         left -= 1;
     }
     n
@@ -40,7 +38,8 @@ pub fn piece_end(s: &[u8], k: usize) -> usize
     ensures { λ r. ⌜ (r ≡ 16 * k + 4 + length (S.piece (now (s .entry)) k)) × (r ≤ 16 * k + 259) × (16 * k + 4 < r → r ≤ length (now (s .entry))) ⌝ }
 {
     let a = 16 * k + 4;
-    let e = a + one_at(s, k);
+    let d = record_of(s, k);
+    let e = a + d.one;
     if e <= s.len() {
         return e;
     }
@@ -55,7 +54,8 @@ pub fn line_length(s: &[u8], k: usize) -> usize
     requires { ⌜ k < 65536 ⌝ }
     ensures { λ r. ⌜ r ≡ length (S.lineOf (now (s .entry)) k) ⌝ }
 {
-    let mut i = first_text_at(s, k);
+    let d = record_of(s, k);
+    let mut i = d.word4;
     let mut left = word_at(s, 2) + 1;
     let mut n = 0;
     while i != 0 {
@@ -63,7 +63,7 @@ pub fn line_length(s: &[u8], k: usize) -> usize
             return n;
         }
         n += piece_end(s, i) - (16 * i + 4);
-        i = next_at(s, i);
+        i = next_of(s, i);
         left -= 1;
     }
     n
@@ -83,7 +83,7 @@ fn some_long(s: &[u8], first: usize, m: Limits) -> bool
         if m.bytes < line_length(s, i) {
             return true;
         }
-        i = next_at(s, i);
+        i = next_of(s, i);
         left -= 1;
     }
     false
@@ -94,7 +94,8 @@ fn large_arrow(s: &[u8], k: usize, m: Limits) -> bool
     requires { ⌜ k < 65536 ⌝ }
     ensures { λ r. ⌜ r ≡ R.largeArrow m (S.arrowOf (now (s .entry)) k) ⌝ }
 {
-    let first = first_line_at(s, k);
+    let d = record_of(s, k);
+    let first = d.word8;
     if m.lines < chain_length(s, first) {
         return true;
     }
@@ -113,7 +114,7 @@ fn some_large(s: &[u8], m: Limits) -> bool
         if large_arrow(s, i, m) {
             return true;
         }
-        i = next_at(s, i);
+        i = next_of(s, i);
         left -= 1;
     }
     false
@@ -137,15 +138,17 @@ fn feed_line(s: &[u8], k: usize) -> u8
     requires { ⌜ k < 65536 ⌝ }
     ensures { λ r. ⌜ r ≡ feedAll 0 (S.lineOf (now (s .entry)) k) ⌝ }
 {
-    let mut i = first_text_at(s, k);
+    let d = record_of(s, k);
+    let mut i = d.word4;
     let mut left = word_at(s, 2) + 1;
     let mut st: u8 = 0;
     while i != 0 {
         if left == 0 {
             return st;
         }
-        st = text::feed_part(s, 16 * i + 4, one_at(s, i), st);
-        i = next_at(s, i);
+        let d = record_of(s, i);
+        st = text::feed_part(s, 16 * i + 4, d.one, st);
+        i = next_of(s, i);
         left -= 1;
     }
     st
@@ -173,7 +176,7 @@ fn some_ill(s: &[u8], first: usize) -> bool
         if ill_line(s, i) {
             return true;
         }
-        i = next_at(s, i);
+        i = next_of(s, i);
         left -= 1;
     }
     false
@@ -189,10 +192,11 @@ pub fn ill_formed(s: &[u8]) -> bool
         if left == 0 {
             return false;
         }
-        if some_ill(s, first_line_at(s, i)) {
+        let d = record_of(s, i);
+        if some_ill(s, d.word8) {
             return true;
         }
-        i = next_at(s, i);
+        i = next_of(s, i);
         left -= 1;
     }
     false
@@ -248,17 +252,29 @@ pub fn flags_into(s: &[u8], out: &mut [u8])
         if left == 0 {
             return;
         }
-        store_u8(out, k, one_at(s, i) as u8);
+        let d = record_of(s, i);
+        store_u8(out, k, d.one as u8);
         k += 1;
-        i = next_at(s, i);
+        i = next_of(s, i);
         left -= 1;
     }
 }
 
-// The u16 at byte `b` of each arrow record, into `out` as far as it reaches.
-fn words_into(s: &[u8], b: usize, out: &mut [usize])
-    requires { ⌜ b < 16 ⌝ }
-    ensures { λ _. ⌜ now (out .exit) ≡ put (now (out .entry)) 0 (map (M.wordOf (now (s .entry)) b) (S.arrowChain (now (s .entry)))) ⌝ }
+// An end of arrow record k: where it leads to, or where it comes from.
+fn end_of(s: &[u8], k: usize, to: bool) -> usize
+    requires { ⌜ k < 65536 ⌝ }
+    ensures { λ r. ⌜ r ≡ M.endOf (now (s .entry)) to k ⌝ }
+{
+    let d = record_of(s, k);
+    if to {
+        return d.word6;
+    }
+    d.word4
+}
+
+// That end of each arrow, into `out` as far as it reaches.
+fn ends_into(s: &[u8], to: bool, out: &mut [usize])
+    ensures { λ _. ⌜ now (out .exit) ≡ put (now (out .entry)) 0 (map (M.endOf (now (s .entry)) to) (S.arrowChain (now (s .entry)))) ⌝ }
 {
     let mut i = word_at(s, 6);
     let mut left = word_at(s, 2) + 1;
@@ -267,9 +283,9 @@ fn words_into(s: &[u8], b: usize, out: &mut [usize])
         if left == 0 {
             return;
         }
-        store(out, k, word_at(s, 16 * i + b));
+        store(out, k, end_of(s, i, to));
         k += 1;
-        i = next_at(s, i);
+        i = next_of(s, i);
         left -= 1;
     }
 }
@@ -278,14 +294,14 @@ fn words_into(s: &[u8], b: usize, out: &mut [usize])
 pub fn sources_into(s: &[u8], out: &mut [usize])
     ensures { λ _. ⌜ now (out .exit) ≡ put (now (out .entry)) 0 (M.sources (S.meaning (now (s .entry)))) ⌝ }
 {
-    words_into(s, 4, out);
+    ends_into(s, false, out);
 }
 
 // The state that each arrow leads to, into `out` as far as it reaches.
 pub fn targets_into(s: &[u8], out: &mut [usize])
     ensures { λ _. ⌜ now (out .exit) ≡ put (now (out .entry)) 0 (M.targets (S.meaning (now (s .entry)))) ⌝ }
 {
-    words_into(s, 6, out);
+    ends_into(s, true, out);
 }
 
 // The first line record of each arrow, into `out` as far as it reaches.
@@ -299,9 +315,10 @@ pub fn heads_into(s: &[u8], out: &mut [u16])
         if left == 0 {
             return;
         }
-        store_u16(out, k, first_line_at(s, i) as u16);
+        let d = record_of(s, i);
+        store_u16(out, k, d.word8 as u16);
         k += 1;
-        i = next_at(s, i);
+        i = next_of(s, i);
         left -= 1;
     }
 }

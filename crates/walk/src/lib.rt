@@ -7,12 +7,10 @@ ghost use Rattle.laws.specs.Loops.{anyUp};
 ghost use Rattle.sheet.specs.Sheet as S;
 ghost use Rattle.sheet.specs.Refusals as R;
 ghost use Rattle.walk.specs.Walk as W;
+use reader::next_of;
+use reader::record_of;
 use sheet::Checked;
 use sheet::Limits;
-use sheet::first_line_at;
-use sheet::first_text_at;
-use sheet::kind_at;
-use sheet::next_at;
 use sheet::word_at;
 
 // Meets record i in a chain of the kind: whether it may be met, and its mark.
@@ -23,7 +21,8 @@ fn meet(s: &[u8], kind: usize, i: usize, marks: &mut [u8]) -> bool
     if word_at(s, 2) < i {
         return false;
     }
-    if kind_at(s, i) != kind {
+    let d = record_of(s, i);
+    if d.kind != kind {
         return false;
     }
     if marks.len() <= i {
@@ -50,7 +49,7 @@ fn walk_alone(s: &[u8], kind: usize, first: usize, marks: &mut [u8]) -> bool
         if !meet(s, kind, i, marks) {
             return false;
         }
-        i = next_at(s, i);
+        i = next_of(s, i);
         left -= 1;
     }
     true
@@ -64,7 +63,8 @@ fn visit_line(s: &[u8], i: usize, marks: &mut [u8]) -> bool
     if !meet(s, 3, i, marks) {
         return false;
     }
-    walk_alone(s, 4, first_text_at(s, i), marks)
+    let d = record_of(s, i);
+    walk_alone(s, 4, d.word4, marks)
 }
 
 fn walk_lines(s: &[u8], first: usize, marks: &mut [u8]) -> bool
@@ -80,7 +80,7 @@ fn walk_lines(s: &[u8], first: usize, marks: &mut [u8]) -> bool
         if !visit_line(s, i, marks) {
             return false;
         }
-        i = next_at(s, i);
+        i = next_of(s, i);
         left -= 1;
     }
     true
@@ -94,7 +94,8 @@ fn visit_arrow(s: &[u8], i: usize, marks: &mut [u8]) -> bool
     if !meet(s, 2, i, marks) {
         return false;
     }
-    walk_lines(s, first_line_at(s, i), marks)
+    let d = record_of(s, i);
+    walk_lines(s, d.word8, marks)
 }
 
 fn walk_arrows(s: &[u8], first: usize, marks: &mut [u8]) -> bool
@@ -110,7 +111,7 @@ fn walk_arrows(s: &[u8], first: usize, marks: &mut [u8]) -> bool
         if !visit_arrow(s, i, marks) {
             return false;
         }
-        i = next_at(s, i);
+        i = next_of(s, i);
         left -= 1;
     }
     true

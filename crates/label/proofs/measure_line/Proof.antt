@@ -16,9 +16,9 @@ use Rattle.label.proofs.measure_line.Reads as reads
 use Rattle.label.proofs.measure_line.Lts as lts
 use Rattle.label.proofs.measure_part.Reads as measure-part-reads
 use Rattle.label.proofs.start.Reads as start-reads
-use Rattle.sheet.proofs.first_text_at.Reads as first-text-at-reads
-use Rattle.sheet.proofs.next_at.Reads as next-at-reads
-use Rattle.sheet.proofs.one_at.Reads as one-at-reads
+use Rattle.reader.specs.declared.Record.{Record}
+use Rattle.reader.proofs.record_of.Reads as record-of-reads
+use Rattle.reader.proofs.next_of.Reads as next-of-reads
 use Rattle.sheet.proofs.word_at.Reads as word-at-reads
 
 abbrev Inv-loop : tie.InvT-loop
@@ -30,8 +30,8 @@ abbrev μ-loop : tie.MeasureT-loop
 start-requires : tie.Need-start-requires Inv-loop μ-loop
 start-requires c κs = tt
 
-first-text-at-requires : tie.Need-first-text-at-requires Inv-loop μ-loop
-first-text-at-requires c κs = search needs
+record-of-requires : tie.Need-record-of-requires Inv-loop μ-loop
+record-of-requires c κs = search needs
 
 word-at-requires : tie.Need-word-at-requires Inv-loop μ-loop
 word-at-requires c κs = search needs
@@ -40,10 +40,13 @@ add-left : tie.Need-add-left Inv-loop μ-loop
 add-left c = search needs
 
 loop-holds : tie.Need-loop-holds Inv-loop μ-loop
-loop-holds c = (line-start (now (c .before .before .before .before .args .s)) (c .before .before .before .before .args .k) (c .before .first-text-at .result) (c .word-at .result) (c .before .before .start .result) (c .before .before .start .ensures) (c .before .first-text-at .ensures .0) (c .word-at .ensures .0), omega arith)
+loop-holds c = (line-start (now (c .before .before .before .before .args .s)) (c .before .before .before .before .args .k) (c .before .record-of .result .word4) (c .word-at .result) (c .before .before .start .result) (c .before .before .start .ensures) (ap (λ (x : Record). x .word4) (c .before .record-of .ensures .0)) (c .word-at .ensures .0), omega arith)
 
 returns : tie.Need-returns Inv-loop μ-loop
 returns c = bytes-cut measureOf (now (c .before .before .before .before .before .before .before .args .s)) (piece (now (c .before .before .before .before .before .before .before .args .s))) (c .before .before .loop .left) (c .before .before .loop .i) (c .before .before .loop .m) (c .if1 .taken) ∙ c .before .before .loop .inv .0
+
+record-of-requires-2 : tie.Need-record-of-requires-2 Inv-loop μ-loop
+record-of-requires-2 c κs = search needs
 
 mul-measure-part : tie.Need-mul-measure-part Inv-loop μ-loop
 mul-measure-part c = search needs
@@ -51,14 +54,11 @@ mul-measure-part c = search needs
 add-measure-part : tie.Need-add-measure-part Inv-loop μ-loop
 add-measure-part c = search needs
 
-one-at-requires : tie.Need-one-at-requires Inv-loop μ-loop
-one-at-requires c κs = search needs
-
 measure-part-requires : tie.Need-measure-part-requires Inv-loop μ-loop
 measure-part-requires c κs = tt
 
-next-at-requires : tie.Need-next-at-requires Inv-loop μ-loop
-next-at-requires c κs = search needs
+next-of-requires : tie.Need-next-of-requires Inv-loop μ-loop
+next-of-requires c κs = search needs
 
 sub-left : tie.Need-sub-left Inv-loop μ-loop
 sub-left c = search needs
@@ -69,9 +69,9 @@ loop-less c = search needs
 loop-again : tie.Need-loop-again Inv-loop μ-loop
 loop-again c =
     let s = now (c .before .before .before .before .before .before .before .before .before .before .args .s) in (
-      ap (λ (j : ℕ). measureAll (c .before .measure-part .result) (flatMap (piece s) (chainBy s (c .before .before .before .before .before .loop .left - 1) j))) (c .next-at .ensures .0)
+      ap (λ (j : ℕ). measureAll (c .before .measure-part .result) (flatMap (piece s) (chainBy s (c .before .before .before .before .before .loop .left - 1) j))) (c .next-of .ensures .0)
           ∙ bytes-turn measureOf s (piece s) (c .before .before .before .before .before .loop .left) (c .before .before .before .before .before .loop .i) (c .before .before .before .before .before .loop .m) (c .before .measure-part .result)
-          (c .before .measure-part .ensures ∙ ap (λ (b : ℕ). measureAll (c .before .before .before .before .before .loop .m) (take b (drop (16 * c .before .before .before .before .before .loop .i + 4) s))) (c .before .before .one-at .ensures .0)) (c .before .before .before .if1 .left) (c .before .before .before .before .loop-test .taken)
+          (c .before .measure-part .ensures ∙ ap (λ (b : ℕ). measureAll (c .before .before .before .before .before .loop .m) (take b (drop (16 * c .before .before .before .before .before .loop .i + 4) s))) (ap (λ (x : Record). x .one) (c .before .before .record-of2 .ensures .0))) (c .before .before .before .if1 .left) (c .before .before .before .before .loop-test .taken)
           ∙ c .before .before .before .before .before .loop .inv .0,
       omega arith,
     )
@@ -86,16 +86,16 @@ measure-line-spec =
     Inv-loop
     μ-loop
     start-requires
-    first-text-at-requires
+    record-of-requires
     word-at-requires
     add-left
     loop-holds
     returns
+    record-of-requires-2
     mul-measure-part
     add-measure-part
-    one-at-requires
     measure-part-requires
-    next-at-requires
+    next-of-requires
     sub-left
     loop-less
     loop-again

@@ -16,7 +16,7 @@ use Rattle.label.proofs.widest.Reads as reads
 use Rattle.label.proofs.widest.Lts as lts
 use Rattle.float.proofs.max.Reads as max-reads
 use Rattle.label.proofs.measure_line.Reads as measure-line-reads
-use Rattle.sheet.proofs.next_at.Reads as next-at-reads
+use Rattle.reader.proofs.next_of.Reads as next-of-reads
 use Rattle.sheet.proofs.word_at.Reads as word-at-reads
 
 abbrev Inv-loop : tie.InvT-loop
@@ -43,8 +43,8 @@ measure-line-requires c κs = search needs
 max-requires : tie.Need-max-requires Inv-loop μ-loop
 max-requires c κs = tt
 
-next-at-requires : tie.Need-next-at-requires Inv-loop μ-loop
-next-at-requires c κs = search needs
+next-of-requires : tie.Need-next-of-requires Inv-loop μ-loop
+next-of-requires c κs = search needs
 
 sub-left : tie.Need-sub-left Inv-loop μ-loop
 sub-left c = search needs
@@ -55,7 +55,7 @@ loop-less c = search needs
 loop-again : tie.Need-loop-again Inv-loop μ-loop
 loop-again c =
     let s = now (c .before .before .before .before .before .before .before .before .args .s) in (
-      ap (λ (j : ℕ). over wider (c .before .max .result) (map (lineOf s) (chainBy s (c .before .before .before .before .before .loop .left - 1) j))) (c .next-at .ensures .0)
+      ap (λ (j : ℕ). over wider (c .before .max .result) (map (lineOf s) (chainBy s (c .before .before .before .before .before .loop .left - 1) j))) (c .next-of .ensures .0)
           ∙ things-turn wider s (lineOf s) (c .before .before .before .before .before .loop .left) (c .before .before .before .before .before .loop .i) (c .before .before .before .before .before .loop .w) (c .before .max .result)
           (wider-measured (c .before .before .before .before .before .loop .w) (c .before .max .result) (lineOf s (c .before .before .before .before .before .loop .i)) (c .before .before .measure-line .result) (c .before .before .measure-line .ensures) (c .before .max .ensures)) (c .before .before .before .if1 .left) (c .before .before .before .before .loop-test .taken)
           ∙ c .before .before .before .before .before .loop .inv .0,
@@ -77,7 +77,7 @@ widest-spec =
     returns
     measure-line-requires
     max-requires
-    next-at-requires
+    next-of-requires
     sub-left
     loop-less
     loop-again

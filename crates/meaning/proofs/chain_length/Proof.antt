@@ -10,7 +10,7 @@ use Rattle.meaning.proofs.chain_length.Statement.{statement}
 use Rattle.meaning.proofs.chain_length.Tie as tie
 use Rattle.meaning.proofs.chain_length.Reads as reads
 use Rattle.meaning.proofs.chain_length.Lts as lts
-use Rattle.sheet.proofs.next_at.Reads as next-at-reads
+use Rattle.reader.proofs.next_of.Reads as next-of-reads
 use Rattle.sheet.proofs.word_at.Reads as word-at-reads
 
 abbrev Inv-loop : tie.InvT-loop
@@ -37,8 +37,8 @@ returns c = (length-cut (now (c .before .before .before .before .before .args .s
 add-n : tie.Need-add-n Inv-loop μ-loop
 add-n c = search needs
 
-next-at-requires : tie.Need-next-at-requires Inv-loop μ-loop
-next-at-requires c κs = search needs
+next-of-requires : tie.Need-next-of-requires Inv-loop μ-loop
+next-of-requires c κs = search needs
 
 sub-left : tie.Need-sub-left Inv-loop μ-loop
 sub-left c = search needs
@@ -49,7 +49,7 @@ loop-less c = search needs
 loop-again : tie.Need-loop-again Inv-loop μ-loop
 loop-again c =
     let s = now (c .before .before .before .before .before .before .args .s) in (
-      ap (λ (j : ℕ). c .before .before .before .loop .n + 1 + length (chainBy s (c .before .before .before .loop .left - 1) j)) (c .next-at .ensures .0)
+      ap (λ (j : ℕ). c .before .before .before .loop .n + 1 + length (chainBy s (c .before .before .before .loop .left - 1) j)) (c .next-of .ensures .0)
           ∙ length-turn s (c .before .before .before .loop .left) (c .before .before .before .loop .i) (c .before .before .before .loop .n) (c .before .if1 .left) (c .before .before .loop-test .taken)
           ∙ c .before .before .before .loop .inv .0,
       omega arith,
@@ -71,7 +71,7 @@ chain-length-spec =
     loop-holds
     returns
     add-n
-    next-at-requires
+    next-of-requires
     sub-left
     loop-less
     loop-again

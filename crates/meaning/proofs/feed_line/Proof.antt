@@ -11,9 +11,9 @@ use Rattle.meaning.proofs.feed_line.Statement.{statement}
 use Rattle.meaning.proofs.feed_line.Tie as tie
 use Rattle.meaning.proofs.feed_line.Reads as reads
 use Rattle.meaning.proofs.feed_line.Lts as lts
-use Rattle.sheet.proofs.first_text_at.Reads as first-text-at-reads
-use Rattle.sheet.proofs.next_at.Reads as next-at-reads
-use Rattle.sheet.proofs.one_at.Reads as one-at-reads
+use Rattle.reader.specs.declared.Record.{Record}
+use Rattle.reader.proofs.record_of.Reads as record-of-reads
+use Rattle.reader.proofs.next_of.Reads as next-of-reads
 use Rattle.sheet.proofs.word_at.Reads as word-at-reads
 use Rattle.text.proofs.feed_part.Reads as feed-part-reads
 
@@ -23,8 +23,8 @@ Inv-loop s k i₀ left₀ st₀ i left st = (feedAll st (flatMap (piece s) (chai
 abbrev μ-loop : tie.MeasureT-loop
 μ-loop s k i₀ left₀ st₀ i left st = left
 
-first-text-at-requires : tie.Need-first-text-at-requires Inv-loop μ-loop
-first-text-at-requires c κs = search needs
+record-of-requires : tie.Need-record-of-requires Inv-loop μ-loop
+record-of-requires c κs = search needs
 
 word-at-requires : tie.Need-word-at-requires Inv-loop μ-loop
 word-at-requires c κs = search needs
@@ -33,10 +33,13 @@ add-left : tie.Need-add-left Inv-loop μ-loop
 add-left c = search needs
 
 loop-holds : tie.Need-loop-holds Inv-loop μ-loop
-loop-holds c = (feed-start (now (c .before .before .before .args .s)) (c .before .before .before .args .k) (c .before .first-text-at .result) (c .word-at .result) (c .before .first-text-at .ensures .0) (c .word-at .ensures .0), omega arith)
+loop-holds c = (feed-start (now (c .before .before .before .args .s)) (c .before .before .before .args .k) (c .before .record-of .result .word4) (c .word-at .result) (ap (λ (x : Record). x .word4) (c .before .record-of .ensures .0)) (c .word-at .ensures .0), omega arith)
 
 returns : tie.Need-returns Inv-loop μ-loop
 returns c = feed-cut (now (c .before .before .before .before .before .before .args .s)) (c .before .before .loop .left) (c .before .before .loop .i) (c .before .before .loop .st) (c .if1 .taken) ∙ c .before .before .loop .inv .0
+
+record-of-requires-2 : tie.Need-record-of-requires-2 Inv-loop μ-loop
+record-of-requires-2 c κs = search needs
 
 mul-feed-part : tie.Need-mul-feed-part Inv-loop μ-loop
 mul-feed-part c = search needs
@@ -44,14 +47,11 @@ mul-feed-part c = search needs
 add-feed-part : tie.Need-add-feed-part Inv-loop μ-loop
 add-feed-part c = search needs
 
-one-at-requires : tie.Need-one-at-requires Inv-loop μ-loop
-one-at-requires c κs = search needs
-
 feed-part-requires : tie.Need-feed-part-requires Inv-loop μ-loop
 feed-part-requires c κs = search needs
 
-next-at-requires : tie.Need-next-at-requires Inv-loop μ-loop
-next-at-requires c κs = search needs
+next-of-requires : tie.Need-next-of-requires Inv-loop μ-loop
+next-of-requires c κs = search needs
 
 sub-left : tie.Need-sub-left Inv-loop μ-loop
 sub-left c = search needs
@@ -62,8 +62,8 @@ loop-less c = search needs
 loop-again : tie.Need-loop-again Inv-loop μ-loop
 loop-again c =
     let s = now (c .before .before .before .before .before .before .before .before .before .args .s) in (
-      ap (λ (j : ℕ). feedAll (c .before .feed-part .result) (flatMap (piece s) (chainBy s (c .before .before .before .before .before .loop .left - 1) j))) (c .next-at .ensures .0)
-          ∙ feed-turn s (c .before .before .before .before .before .loop .left) (c .before .before .before .before .before .loop .i) (c .before .before .before .before .before .loop .st) (c .before .before .one-at .result) (c .before .feed-part .result) (c .before .before .one-at .ensures .0) (c .before .feed-part .ensures) (c .before .before .before .if1 .left) (c .before .before .before .before .loop-test .taken)
+      ap (λ (j : ℕ). feedAll (c .before .feed-part .result) (flatMap (piece s) (chainBy s (c .before .before .before .before .before .loop .left - 1) j))) (c .next-of .ensures .0)
+          ∙ feed-turn s (c .before .before .before .before .before .loop .left) (c .before .before .before .before .before .loop .i) (c .before .before .before .before .before .loop .st) (c .before .before .record-of2 .result .one) (c .before .feed-part .result) (ap (λ (x : Record). x .one) (c .before .before .record-of2 .ensures .0)) (c .before .feed-part .ensures) (c .before .before .before .if1 .left) (c .before .before .before .before .loop-test .taken)
           ∙ c .before .before .before .before .before .loop .inv .0,
       omega arith,
     )
@@ -77,16 +77,16 @@ feed-line-spec =
     (tie.spec
     Inv-loop
     μ-loop
-    first-text-at-requires
+    record-of-requires
     word-at-requires
     add-left
     loop-holds
     returns
+    record-of-requires-2
     mul-feed-part
     add-feed-part
-    one-at-requires
     feed-part-requires
-    next-at-requires
+    next-of-requires
     sub-left
     loop-less
     loop-again

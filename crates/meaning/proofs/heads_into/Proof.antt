@@ -7,15 +7,16 @@ use denote.Ref.{now}
 use Rattle.laws.specs.Put.{put}
 use Rattle.sheet.specs.Sheet.{chainBy, count, byteOne, firstLine, firstState, firstArrow, statesOf, arrowChain}
 use Rattle.sheet.specs.Chains.{put-end, put-cut, put-turn}
-use Rattle.meaning.specs.Read.{wordOf, heads}
+use Rattle.meaning.specs.Read.{heads}
 use borrow.Author.Needs.{needs}
 use Rattle.meaning.proofs.heads_into.Statement.{statement}
 use Rattle.meaning.proofs.heads_into.Tie as tie
 use Rattle.meaning.proofs.heads_into.Reads as reads
 use Rattle.meaning.proofs.heads_into.Lts as lts
 use Rattle.meaning.proofs.store_u16.Reads as store-u16-reads
-use Rattle.sheet.proofs.first_line_at.Reads as first-line-at-reads
-use Rattle.sheet.proofs.next_at.Reads as next-at-reads
+use Rattle.reader.specs.declared.Record.{Record}
+use Rattle.reader.proofs.record_of.Reads as record-of-reads
+use Rattle.reader.proofs.next_of.Reads as next-of-reads
 use Rattle.sheet.proofs.word_at.Reads as word-at-reads
 
 abbrev Inv-loop : tie.InvT-loop
@@ -45,8 +46,8 @@ same-length c = c .before .before .loop .inv .4
 returns : tie.Need-returns Inv-loop μ-loop
 returns c = put-cut (now (c .before .before .before .before .before .before .before .args .s)) (firstLine (now (c .before .before .before .before .before .before .before .args .s))) (c .before .before .loop .left) (c .before .before .loop .i) (c .before .before .loop .k) (c .before .before .loop .out) (c .if1 .taken) ∙ c .before .before .loop .inv .0
 
-first-line-at-requires : tie.Need-first-line-at-requires Inv-loop μ-loop
-first-line-at-requires c κs = search needs
+record-of-requires : tie.Need-record-of-requires Inv-loop μ-loop
+record-of-requires c κs = search needs
 
 cast-store-u16 : tie.Need-cast-store-u16 Inv-loop μ-loop
 cast-store-u16 c = search needs
@@ -57,8 +58,8 @@ store-u16-requires c κs = search needs
 add-k : tie.Need-add-k Inv-loop μ-loop
 add-k c = search needs
 
-next-at-requires : tie.Need-next-at-requires Inv-loop μ-loop
-next-at-requires c κs = search needs
+next-of-requires : tie.Need-next-of-requires Inv-loop μ-loop
+next-of-requires c κs = search needs
 
 sub-left : tie.Need-sub-left Inv-loop μ-loop
 sub-left c = search needs
@@ -68,14 +69,14 @@ loop-less c = search needs
 
 loop-again : tie.Need-loop-again Inv-loop μ-loop
 loop-again c =
-    let s = now (c .before .before .before .before .before .before .before .before .before .before .before .before .before .args .s) in (
-      ap₂ (λ (l : List ℕ) (j : ℕ). put l (c .before .before .before .before .before .before .before .before .loop .k + 1) (map (firstLine s) (chainBy s (c .before .before .before .before .before .before .before .before .loop .left - 1) j))) (c .before .before .before .store-u16 .ensures ∙ ap (set (c .before .before .before .before .before .before .before .before .loop .out) (c .before .before .before .before .before .before .before .before .loop .k)) (c .before .before .before .before .first-line-at .ensures .0)) (c .next-at .ensures .0)
-          ∙ put-turn s (firstLine s) (c .before .before .before .before .before .before .before .before .loop .left) (c .before .before .before .before .before .before .before .before .loop .i) (c .before .before .before .before .before .before .before .before .loop .k) (c .before .before .before .before .before .before .before .before .loop .out) (c .before .before .before .before .before .before .if1 .left) (c .before .before .before .before .before .before .before .loop-test .taken)
-          ∙ c .before .before .before .before .before .before .before .before .loop .inv .0,
+    let s = now (c .before .before .before .before .before .before .before .before .before .before .before .before .before .before .args .s) in (
+      ap₂ (λ (l : List ℕ) (j : ℕ). put l (c .before .before .before .before .before .before .before .before .before .loop .k + 1) (map (firstLine s) (chainBy s (c .before .before .before .before .before .before .before .before .before .loop .left - 1) j))) (c .before .before .before .store-u16 .ensures ∙ ap (set (c .before .before .before .before .before .before .before .before .before .loop .out) (c .before .before .before .before .before .before .before .before .before .loop .k)) (ap (λ (x : Record). x .word8) (c .before .before .before .before .before .before .record-of .ensures .0))) (c .next-of .ensures .0)
+          ∙ put-turn s (firstLine s) (c .before .before .before .before .before .before .before .before .before .loop .left) (c .before .before .before .before .before .before .before .before .before .loop .i) (c .before .before .before .before .before .before .before .before .before .loop .k) (c .before .before .before .before .before .before .before .before .before .loop .out) (c .before .before .before .before .before .before .before .if1 .left) (c .before .before .before .before .before .before .before .before .loop-test .taken)
+          ∙ c .before .before .before .before .before .before .before .before .before .loop .inv .0,
       omega arith,
       omega arith,
       omega arith,
-      c .before .before .before .store-u16 .kept .0 ∙ c .before .before .before .before .before .before .before .before .loop .inv .4,
+      c .before .before .before .store-u16 .kept .0 ∙ c .before .before .before .before .before .before .before .before .before .loop .inv .4,
     )
 
 same-length-2 : tie.Need-same-length-2 Inv-loop μ-loop
@@ -96,11 +97,11 @@ heads-into-spec =
     loop-holds
     same-length
     returns
-    first-line-at-requires
+    record-of-requires
     cast-store-u16
     store-u16-requires
     add-k
-    next-at-requires
+    next-of-requires
     sub-left
     loop-less
     loop-again

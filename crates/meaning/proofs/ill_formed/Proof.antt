@@ -13,8 +13,9 @@ use Rattle.meaning.proofs.ill_formed.Tie as tie
 use Rattle.meaning.proofs.ill_formed.Reads as reads
 use Rattle.meaning.proofs.ill_formed.Lts as lts
 use Rattle.meaning.proofs.some_ill.Reads as some-ill-reads
-use Rattle.sheet.proofs.first_line_at.Reads as first-line-at-reads
-use Rattle.sheet.proofs.next_at.Reads as next-at-reads
+use Rattle.reader.specs.declared.Record.{Record}
+use Rattle.reader.proofs.record_of.Reads as record-of-reads
+use Rattle.reader.proofs.next_of.Reads as next-of-reads
 use Rattle.sheet.proofs.word_at.Reads as word-at-reads
 
 abbrev Inv-loop : tie.InvT-loop
@@ -39,18 +40,18 @@ loop-holds c = (arrows-start illArrow (now (c .before .before .before .args .s))
 returns : tie.Need-returns Inv-loop μ-loop
 returns c = any-cut (now (c .before .before .before .before .before .before .args .s)) (arrowOf (now (c .before .before .before .before .before .before .args .s))) illArrow (c .before .before .loop .left) (c .before .before .loop .i) (c .if1 .taken) ∙ c .before .before .loop .inv .0
 
-first-line-at-requires : tie.Need-first-line-at-requires Inv-loop μ-loop
-first-line-at-requires c κs = search needs
+record-of-requires : tie.Need-record-of-requires Inv-loop μ-loop
+record-of-requires c κs = search needs
 
 some-ill-requires : tie.Need-some-ill-requires Inv-loop μ-loop
 some-ill-requires c κs = search needs
 
 returns-2 : tie.Need-returns-2 Inv-loop μ-loop
 returns-2 c = any-hit (now (c .before .before .before .before .before .before .before .before .before .args .s)) (arrowOf (now (c .before .before .before .before .before .before .before .before .before .args .s))) illArrow (c .before .before .before .before .before .loop .left) (c .before .before .before .before .before .loop .i) (c .before .before .before .if1 .left) (c .before .before .before .before .loop-test .taken)
-    (ill-arrow (now (c .before .before .before .before .before .before .before .before .before .args .s)) (c .before .before .before .before .before .loop .i) (c .before .before .first-line-at .result) (c .before .some-ill .result) (c .before .before .first-line-at .ensures .0) (c .before .some-ill .ensures) ∙ c .if2 .taken) ∙ c .before .before .before .before .before .loop .inv .0
+    (ill-arrow (now (c .before .before .before .before .before .before .before .before .before .args .s)) (c .before .before .before .before .before .loop .i) (c .before .before .record-of .result .word8) (c .before .some-ill .result) (ap (λ (x : Record). x .word8) (c .before .before .record-of .ensures .0)) (c .before .some-ill .ensures) ∙ c .if2 .taken) ∙ c .before .before .before .before .before .loop .inv .0
 
-next-at-requires : tie.Need-next-at-requires Inv-loop μ-loop
-next-at-requires c κs = search needs
+next-of-requires : tie.Need-next-of-requires Inv-loop μ-loop
+next-of-requires c κs = search needs
 
 sub-left : tie.Need-sub-left Inv-loop μ-loop
 sub-left c = search needs
@@ -61,8 +62,8 @@ loop-less c = search needs
 loop-again : tie.Need-loop-again Inv-loop μ-loop
 loop-again c =
     let s = now (c .before .before .before .before .before .before .before .before .before .before .args .s) in (
-      ap (λ (j : ℕ). any illArrow (map (arrowOf s) (chainBy s (c .before .before .before .before .before .before .loop .left - 1) j))) (c .next-at .ensures .0)
-          ∙ any-miss s (arrowOf s) illArrow (c .before .before .before .before .before .before .loop .left) (c .before .before .before .before .before .before .loop .i) (c .before .before .before .before .if1 .left) (c .before .before .before .before .before .loop-test .taken) (ill-arrow (now (c .before .before .before .before .before .before .before .before .before .before .args .s)) (c .before .before .before .before .before .before .loop .i) (c .before .before .before .first-line-at .result) (c .before .before .some-ill .result) (c .before .before .before .first-line-at .ensures .0) (c .before .before .some-ill .ensures) ∙ c .before .if2 .left)
+      ap (λ (j : ℕ). any illArrow (map (arrowOf s) (chainBy s (c .before .before .before .before .before .before .loop .left - 1) j))) (c .next-of .ensures .0)
+          ∙ any-miss s (arrowOf s) illArrow (c .before .before .before .before .before .before .loop .left) (c .before .before .before .before .before .before .loop .i) (c .before .before .before .before .if1 .left) (c .before .before .before .before .before .loop-test .taken) (ill-arrow (now (c .before .before .before .before .before .before .before .before .before .before .args .s)) (c .before .before .before .before .before .before .loop .i) (c .before .before .before .record-of .result .word8) (c .before .before .some-ill .result) (ap (λ (x : Record). x .word8) (c .before .before .before .record-of .ensures .0)) (c .before .before .some-ill .ensures) ∙ c .before .if2 .left)
           ∙ c .before .before .before .before .before .before .loop .inv .0,
       omega arith,
     )
@@ -81,10 +82,10 @@ ill-formed-spec =
     add-left
     loop-holds
     returns
-    first-line-at-requires
+    record-of-requires
     some-ill-requires
     returns-2
-    next-at-requires
+    next-of-requires
     sub-left
     loop-less
     loop-again

@@ -12,8 +12,9 @@ use Rattle.meaning.proofs.line_length.Tie as tie
 use Rattle.meaning.proofs.line_length.Reads as reads
 use Rattle.meaning.proofs.line_length.Lts as lts
 use Rattle.meaning.proofs.piece_end.Reads as piece-end-reads
-use Rattle.sheet.proofs.first_text_at.Reads as first-text-at-reads
-use Rattle.sheet.proofs.next_at.Reads as next-at-reads
+use Rattle.reader.specs.declared.Record.{Record}
+use Rattle.reader.proofs.record_of.Reads as record-of-reads
+use Rattle.reader.proofs.next_of.Reads as next-of-reads
 use Rattle.sheet.proofs.word_at.Reads as word-at-reads
 
 abbrev Inv-loop : tie.InvT-loop
@@ -22,8 +23,8 @@ Inv-loop s k i₀ left₀ n₀ i left n = (n + length (flatMap (piece s) (chainB
 abbrev μ-loop : tie.MeasureT-loop
 μ-loop s k i₀ left₀ n₀ i left n = left
 
-first-text-at-requires : tie.Need-first-text-at-requires Inv-loop μ-loop
-first-text-at-requires c κs = search needs
+record-of-requires : tie.Need-record-of-requires Inv-loop μ-loop
+record-of-requires c κs = search needs
 
 word-at-requires : tie.Need-word-at-requires Inv-loop μ-loop
 word-at-requires c κs = search needs
@@ -32,7 +33,7 @@ add-left : tie.Need-add-left Inv-loop μ-loop
 add-left c = search needs
 
 loop-holds : tie.Need-loop-holds Inv-loop μ-loop
-loop-holds c = (line-start (now (c .before .before .before .args .s)) (c .before .before .before .args .k) (c .before .first-text-at .result) (c .word-at .result) (c .before .first-text-at .ensures .0) (c .word-at .ensures .0), omega arith, omega arith)
+loop-holds c = (line-start (now (c .before .before .before .args .s)) (c .before .before .before .args .k) (c .before .record-of .result .word4) (c .word-at .result) (ap (λ (x : Record). x .word4) (c .before .record-of .ensures .0)) (c .word-at .ensures .0), omega arith, omega arith)
 
 returns : tie.Need-returns Inv-loop μ-loop
 returns c = bytes-cut (now (c .before .before .before .before .before .before .args .s)) (c .before .before .loop .left) (c .before .before .loop .i) (c .before .before .loop .n) (c .if1 .taken) ∙ c .before .before .loop .inv .0
@@ -52,8 +53,8 @@ sub-n c = search needs
 add-n-2 : tie.Need-add-n-2 Inv-loop μ-loop
 add-n-2 c = search needs
 
-next-at-requires : tie.Need-next-at-requires Inv-loop μ-loop
-next-at-requires c κs = search needs
+next-of-requires : tie.Need-next-of-requires Inv-loop μ-loop
+next-of-requires c κs = search needs
 
 sub-left : tie.Need-sub-left Inv-loop μ-loop
 sub-left c = search needs
@@ -65,7 +66,7 @@ loop-again : tie.Need-loop-again Inv-loop μ-loop
 loop-again c =
     let s = now (c .before .before .before .before .before .before .before .before .args .s) in
     let p : c .before .piece-end .result - (16 * c .before .before .before .before .loop .i + 4) ≡ length (piece s (c .before .before .before .before .loop .i)) = omega (arith, c .before .piece-end .ensures .0) in (
-      ap (λ (j : ℕ). c .before .before .before .before .loop .n + (c .before .piece-end .result - (16 * c .before .before .before .before .loop .i + 4)) + length (flatMap (piece s) (chainBy s (c .before .before .before .before .loop .left - 1) j))) (c .next-at .ensures .0)
+      ap (λ (j : ℕ). c .before .before .before .before .loop .n + (c .before .piece-end .result - (16 * c .before .before .before .before .loop .i + 4)) + length (flatMap (piece s) (chainBy s (c .before .before .before .before .loop .left - 1) j))) (c .next-of .ensures .0)
           ∙ bytes-turn s (c .before .before .before .before .loop .left) (c .before .before .before .before .loop .i) (c .before .before .before .before .loop .n) (c .before .piece-end .result - (16 * c .before .before .before .before .loop .i + 4)) p (c .before .before .if1 .left) (c .before .before .before .loop-test .taken)
           ∙ c .before .before .before .before .loop .inv .0,
       omega arith,
@@ -81,7 +82,7 @@ line-length-spec =
     (tie.spec
     Inv-loop
     μ-loop
-    first-text-at-requires
+    record-of-requires
     word-at-requires
     add-left
     loop-holds
@@ -91,7 +92,7 @@ line-length-spec =
     add-n
     sub-n
     add-n-2
-    next-at-requires
+    next-of-requires
     sub-left
     loop-less
     loop-again

@@ -13,7 +13,7 @@ use Rattle.meaning.proofs.some_large.Tie as tie
 use Rattle.meaning.proofs.some_large.Reads as reads
 use Rattle.meaning.proofs.some_large.Lts as lts
 use Rattle.meaning.proofs.large_arrow.Reads as large-arrow-reads
-use Rattle.sheet.proofs.next_at.Reads as next-at-reads
+use Rattle.reader.proofs.next_of.Reads as next-of-reads
 use Rattle.sheet.proofs.word_at.Reads as word-at-reads
 
 abbrev Inv-loop : tie.InvT-loop
@@ -44,8 +44,8 @@ returns-2 : tie.Need-returns-2 Inv-loop μ-loop
 returns-2 c = any-hit (now (c .before .before .before .before .before .before .before .before .args .s)) (arrowOf (now (c .before .before .before .before .before .before .before .before .args .s))) (largeArrow (c .before .before .before .before .before .before .before .before .args .m)) (c .before .before .before .before .loop .left) (c .before .before .before .before .loop .i) (c .before .before .if1 .left) (c .before .before .before .loop-test .taken)
     (sym (c .before .large-arrow .ensures) ∙ c .if2 .taken) ∙ c .before .before .before .before .loop .inv .0
 
-next-at-requires : tie.Need-next-at-requires Inv-loop μ-loop
-next-at-requires c κs = search needs
+next-of-requires : tie.Need-next-of-requires Inv-loop μ-loop
+next-of-requires c κs = search needs
 
 sub-left : tie.Need-sub-left Inv-loop μ-loop
 sub-left c = search needs
@@ -56,7 +56,7 @@ loop-less c = search needs
 loop-again : tie.Need-loop-again Inv-loop μ-loop
 loop-again c =
     let s = now (c .before .before .before .before .before .before .before .before .before .args .s) in (
-      ap (λ (j : ℕ). any (largeArrow (c .before .before .before .before .before .before .before .before .before .args .m)) (map (arrowOf s) (chainBy s (c .before .before .before .before .before .loop .left - 1) j))) (c .next-at .ensures .0)
+      ap (λ (j : ℕ). any (largeArrow (c .before .before .before .before .before .before .before .before .before .args .m)) (map (arrowOf s) (chainBy s (c .before .before .before .before .before .loop .left - 1) j))) (c .next-of .ensures .0)
           ∙ any-miss s (arrowOf s) (largeArrow (c .before .before .before .before .before .before .before .before .before .args .m)) (c .before .before .before .before .before .loop .left) (c .before .before .before .before .before .loop .i) (c .before .before .before .if1 .left) (c .before .before .before .before .loop-test .taken) (sym (c .before .before .large-arrow .ensures) ∙ c .before .if2 .left)
           ∙ c .before .before .before .before .before .loop .inv .0,
       omega arith,
@@ -78,7 +78,7 @@ some-large-spec =
     returns
     large-arrow-requires
     returns-2
-    next-at-requires
+    next-of-requires
     sub-left
     loop-less
     loop-again

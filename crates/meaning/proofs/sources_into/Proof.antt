@@ -9,16 +9,16 @@ use Rattle.meaning.proofs.sources_into.Statement.{statement}
 use Rattle.meaning.proofs.sources_into.Tie as tie
 use Rattle.meaning.proofs.sources_into.Reads as reads
 use Rattle.meaning.proofs.sources_into.Lts as lts
-use Rattle.meaning.proofs.words_into.Reads as words-into-reads
+use Rattle.meaning.proofs.ends_into.Reads as ends-into-reads
 
-words-into-requires : tie.Need-words-into-requires
-words-into-requires c κs = search needs
+ends-into-requires : tie.Need-ends-into-requires
+ends-into-requires c κs = search needs
 
 same-length : tie.Need-same-length
 same-length c = search needs
 
 returns : tie.Need-returns
-returns c = c .before .before .words-into .ensures ∙ ap (λ (l : List ℕ). put (now (c .before .before .before .before .before .before .args .out)) 0 l) (sym (sources-are (now (c .before .before .before .before .before .before .args .s))))
+returns c = c .before .before .ends-into .ensures ∙ ap (λ (l : List ℕ). put (now (c .before .before .before .before .before .before .args .out)) 0 l) (sym (sources-are (now (c .before .before .before .before .before .before .args .s))))
 
 pub sources-into-spec : {M : Type 1} → statement M
-sources-into-spec = tie.close (tie.spec words-into-requires same-length returns)
+sources-into-spec = tie.close (tie.spec ends-into-requires same-length returns)

@@ -1,3 +1,4 @@
+use mathlib.Core.Path.{ap}
 use borrow.Author.Tests.{not-true, not-false}
 use denote.Ref.{now}
 use Rattle.walk.specs.Walk.{at}
@@ -7,7 +8,8 @@ use Rattle.walk.proofs.visit_line.Statement.{statement}
 use Rattle.walk.proofs.visit_line.Tie as tie
 use Rattle.walk.proofs.visit_line.Reads as reads
 use Rattle.walk.proofs.visit_line.Lts as lts
-use Rattle.sheet.proofs.first_text_at.Reads as first-text-at-reads
+use Rattle.reader.specs.declared.Record.{Record}
+use Rattle.reader.proofs.record_of.Reads as record-of-reads
 use Rattle.walk.proofs.meet.Reads as meet-reads
 use Rattle.walk.proofs.walk_alone.Reads as walk-alone-reads
 
@@ -20,8 +22,8 @@ same-length c = search needs
 returns : tie.Need-returns
 returns c = line-bad (now (c .before .before .before .before .before .before .before .args .s)) (c .before .before .before .before .before .before .before .args .i) (now (c .before .before .before .before .before .before .before .args .marks)) (c .before .before .before .meet .last .1 .1 .1 .0) (c .before .before .before .meet .result) (not-true _ (c .if1 .taken)) (c .before .before .before .meet .ensures)
 
-first-text-at-requires : tie.Need-first-text-at-requires
-first-text-at-requires c κs = search needs
+record-of-requires : tie.Need-record-of-requires
+record-of-requires c κs = search needs
 
 walk-alone-requires : tie.Need-walk-alone-requires
 walk-alone-requires c κs = search needs
@@ -30,7 +32,7 @@ same-length-2 : tie.Need-same-length-2
 same-length-2 c = search needs
 
 returns-2 : tie.Need-returns-2
-returns-2 c = line-on (now (c .before .before .before .before .before .before .before .before .before .before .before .before .args .s)) (c .before .before .before .before .before .before .before .before .before .before .before .before .args .i) (now (c .before .before .before .before .before .before .before .before .before .before .before .before .args .marks)) (c .before .before .before .before .before .before .before .before .meet .last .1 .1 .1 .0) (c .before .before .before .before .before .before .before .before .meet .result) (c .before .before .before .before .first-text-at .result) (at (c .before .before .walk-alone .result) (c .before .before .walk-alone .last .1 .1 .1 .0)) (not-false _ (c .before .before .before .before .before .if1 .left)) (c .before .before .before .before .before .before .before .before .meet .ensures) (c .before .before .before .before .first-text-at .ensures .0) (c .before .before .walk-alone .ensures)
+returns-2 c = line-on (now (c .before .before .before .before .before .before .before .before .before .before .before .before .args .s)) (c .before .before .before .before .before .before .before .before .before .before .before .before .args .i) (now (c .before .before .before .before .before .before .before .before .before .before .before .before .args .marks)) (c .before .before .before .before .before .before .before .before .meet .last .1 .1 .1 .0) (c .before .before .before .before .before .before .before .before .meet .result) (c .before .before .before .before .record-of .result .word4) (at (c .before .before .walk-alone .result) (c .before .before .walk-alone .last .1 .1 .1 .0)) (not-false _ (c .before .before .before .before .before .if1 .left)) (c .before .before .before .before .before .before .before .before .meet .ensures) (ap (λ (x : Record). x .word4) (c .before .before .before .before .record-of .ensures .0)) (c .before .before .walk-alone .ensures)
 
 pub visit-line-spec : {M : Type 1} → statement M
 visit-line-spec =
@@ -39,7 +41,7 @@ visit-line-spec =
     meet-requires
     same-length
     returns
-    first-text-at-requires
+    record-of-requires
     walk-alone-requires
     same-length-2
     returns-2)
