@@ -70,7 +70,7 @@ module _ {M : Type 1} (𝓤 : URA M) (H : Heap 𝓤) (A : Atoms 𝓤) (W : Given
       qed W ((‵ (flft κ q) ⊛ ‵ ftrue) ∷ ‵ (owns (ShrSlice (named 0) κ u8 ∷ usize ∷ []) (s, (n, tt)) at) ∷ []) ∵
       suffices ! _ (ends-at 𝓤 H A new.ended stayed (new.clauses 𝓤 H A mem run) W (((κ, tt), (q, tt), tt, (s, (n, tt)), at), tt) (T′.lowered made) made (tt, (tt, tt)) (tt, (tt, tt))) $ says ! (refl, refl) $
       frame ! $ fsplit ! $ use1 W (‵ Own ⊛ ‵ Own) (shr-slice-copy 𝓤 H A W (named 0) κ u8 .twice s (v ∷ [])) $ split ! $ move ! (0 ∷ 2 ∷ []) $ fjoin ! $ frame ! $
-      -- [what src owns]: what the fields own together, of it and of at's facts, is what the struct owns
+      -- [what sheet owns]: what the fields own together, of it and of at's facts, is what the struct owns
       nothing ! $ owned ! usize (Is usize) (uint-makes 𝓤 H A W w64) n _ (refl, ok) $ fjoin ! $ move ! (1 ∷ 0 ∷ []) $ fjoin ! $ by ! (own-shut 𝓤 H A W (T.the-type α) (T′.the-laws α) (s, (n, tt)))
 
   module _ (C : Calls 𝓤 H) (Λ : Loops 𝓤 H) where

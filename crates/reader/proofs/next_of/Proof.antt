@@ -24,7 +24,7 @@ use denote.Laws.{Is, shows}
 use denote.Plain.{uint-vals, uint-tells, uint-makes}
 use denote.Builtin.{u8, usize}
 use denote.Ref.{RefT, NamedLft, now}
-use denote.Signature.{plain, namedLft}
+use denote.Signature.{plain}
 use denote.Slice.{ShrSlice, slice-vals, shr-slice-tells, shr-slice-lawful}
 use denote.Steps.{only, owned, peeks, heard, nothing}
 use denote.Struct.Laws as LL
@@ -33,13 +33,13 @@ use denote.Triple.Call.{calls-at}
 use denote.Triple.Entry.{onEntry}
 use denote.Triple.Spec.{Meets, tripleOf}
 use denote.Triple.Table.{entered, cited}
-use denote.Triple.Walked.{says, needs, Stays, stay-none, stay-none-slice, walkOf, goes-none, goes-none-slice, Walks, ends-at, walked, walk-meets}
+use denote.Triple.Walked.{says, needs, Stays, stay-none, stay-none-slice, walkOf, goes-none, goes-none-slice, ends-at, walked, walk-meets}
 use denote.Exit.{yes}
 use denote.Triple.Clauses.{ensured, lasts}
 use Rattle.sheet.specs.Sheet.{next}
 use Rattle.reader.specs.declared.Reader.{Reader}
-use Rattle.reader.proofs.Held.{B}
-use Rattle.reader.proofs.Made.{val, OwnSlice, Stands, stands-low, New, passed, to-new, goes-new, new-said}
+use Rattle.reader.proofs.Held.{B, D, L}
+use Rattle.reader.proofs.Made.{val, OwnSlice, Stands, stands-low, New, to-new, goes-new, new-said}
 use Rattle.reader.proofs.Reader as T
 use Rattle.reader.proofs.Reader.Laws as T′
 use Rattle.reader.proofs.new as new
@@ -70,9 +70,6 @@ abbrev Next : RefT (List ℕ) → ℕ → ℕ → Type 0
 Next s n m = (m ≡ next (now s) n) × (m < 65536)
 
 module _ {M : Type 1} (𝓤 : URA M) (H : Heap 𝓤) (A : Atoms 𝓤) (W : Given 𝓤 H A) (mem : Memory → SProp 𝓤) (run : Routine → Fun 𝓤) (κ : Lft) (q : Share) (s : RefT (List ℕ)) (n : ℕ) (ok : n < 2 ^ 64) (low : n < 65536) where
-  abbrev α : NamedLft
-  α = namedLft 1 0 tt (κ, tt)
-
   -- the struct's type as a local of a body has it
   abbrev αᵉ : NamedLft
   αᵉ = record { mir = erased; lft = κ }
@@ -115,25 +112,21 @@ module _ {M : Type 1} (𝓤 : URA M) (H : Heap 𝓤) (A : Atoms 𝓤) (W : Given
         split ! $ move ! (1 ∷ []) $ use1 W (raw (fact 𝓤 (Found (r .sheet) (r .at) t))) (step-said r t) $ heard ! (Found (r .sheet) (r .at) t) (λ e′. split ! $ move ! (1 ∷ []) $
         -- [what the next struct owns; the token; what s owns; _4; …; room for _3; …; _2; …; _1; …; room for _0; …]
         peeks ! (B (κ, tt)) (Is (B (κ, tt))) (shows 𝓤 H A (B (κ, tt))) t (u′ ∷ []) (λ is′.
-        let fits : t .at < 2 ^ 64 = LL.owed (T.the-type α) (T′.the-laws α) t _ is′ .1 .0 .1 in
+        let fits : t .at < 2 ^ 64 = LL.owed (D (κ, tt)) (L (κ, tt)) t _ is′ .1 .0 .1 in
         land ! (from ! (stop !)) (init ! 5 refl (LL.lawful (T.the-type αᵉ) (T′.the-laws αᵉ) 𝓤 H A W .typed t _ is′ .0)) $
-        rewrite ! 5 (λ (w : Val). ‵ (fat fullShare (T′.mir erased) l₃ 0 w)) (ap only (LL.tells (T.the-type α) (T′.the-laws α) t _ is′)) refl $
+        rewrite ! 5 (λ (w : Val). ‵ (fat fullShare (T′.mir erased) l₃ 0 w)) (ap only (LL.tells (D (κ, tt)) (L (κ, tt)) t _ is′)) refl $
         assigns ! (of-opd ! (load ! (from ! (fld ! refl (stop !))) (look-in ! 5 (sub ! 1 refl (whole !))))) (from ! (stop !)) (init ! 11 refl (tt, record { fits = fits })) $
         returns ! (look ! 11 refl) $ forget ! 3 refl $ forget ! 5 refl $ forget ! 7 refl $ forget ! 9 refl $ forget ! 11 refl $
         move ! (11 ∷ 12 ∷ []) $ free1 ! $ move ! (9 ∷ 10 ∷ []) $ free1 ! $ move ! (7 ∷ 8 ∷ []) $ free1 ! $ move ! (5 ∷ 6 ∷ []) $ free1 ! $ move ! (3 ∷ 4 ∷ []) $ free1 ! $ free0 ! $
         by ! (exits t u′ (e′ .1 ∙ ap₂ (λ (x : RefT (List ℕ)) (k : ℕ). next (now x) k) (e .0) (e .1), e′ .2) fits))))))))))))))
 
-module _ {M : Type 1} (𝓤 : URA M) (H : Heap 𝓤) (A : Atoms 𝓤) (W : Given 𝓤 H A) (mem : Memory → SProp 𝓤) (run : Routine → Fun 𝓤) where
-  next-of-walks : (C : Calls 𝓤 H) (Λ : Loops 𝓤 H) → FmC 𝓤 H (W .laws) C → Triple 𝓤 (C #reader·new) (New 𝓤 H A mem run) → Triple 𝓤 (C #reader·step) (Step 𝓤 H A mem run)
-      → Walks 𝓤 H A next-of.ended stayed (WpFn 𝓤 H C Λ code.function) (next-of.clauses 𝓤 H A mem run)
-  next-of-walks C Λ fm known-new known-step = walked 𝓤 H A next-of.ended stayed (next-of.clauses 𝓤 H A mem run) (WpFn 𝓤 H C Λ code.function) (λ κs. (slice-vals, (uint-vals w64, tt))) (λ κs. (shr-slice-tells (named 0) (κs .0) u8, (uint-tells w64, tt)))
-      (λ κs qs bounds a g are. needs 𝓤 (a .1 .0 < 65536) _ (λ low. walk 𝓤 H A W mem run (κs .0) (qs .0) (a .0) (a .1 .0) (are .1 .0 .1) low C Λ fm known-new known-step (are .0)))
-
 next-of-meets : {M : Type 1} (𝓤 : URA M) (H : Heap 𝓤) (A : Atoms 𝓤) (W : Given 𝓤 H A) (mem : Memory → SProp 𝓤) (run : Routine → Fun 𝓤) (𝓣 : Tables 𝓤 H)
     → Triple 𝓤 (𝓣 .C #reader·new) (New 𝓤 H A mem run) → Triple 𝓤 (𝓣 .C #reader·step) (Step 𝓤 H A mem run)
     → Meets 𝓤 H A next-of.signature (WpFn 𝓤 H (𝓣 .C) (𝓣 .Λ) code.function) (next-of.spec 𝓤 H A mem run)
-next-of-meets 𝓤 H A W mem run 𝓣 known-new known-step = walk-meets 𝓤 H A next-of.ended stayed W (goes-none-slice 𝓤 H A W 1 (0 ∷ []) tt (plain (λ _. u8)) yes, (goes-none 𝓤 H A W 1 (λ _. usize) yes (λ κs x f. refl), tt)) (next-of.clauses 𝓤 H A mem run) (WpFn 𝓤 H (𝓣 .C) (𝓣 .Λ) code.function) (WpFn-mono 𝓤 H (W .laws) 𝓣 code.function)
-    (next-of-walks 𝓤 H A W mem run (𝓣 .C) (𝓣 .Λ) (fmOf 𝓤 H (W .laws) 𝓣) known-new known-step)
+next-of-meets 𝓤 H A W mem run 𝓣 known-new known-step =
+    walk-meets 𝓤 H A next-of.ended stayed W (goes-none-slice 𝓤 H A W 1 (0 ∷ []) tt (plain (λ _. u8)) yes, (goes-none 𝓤 H A W 1 (λ _. usize) yes (λ κs x f. refl), tt)) (next-of.clauses 𝓤 H A mem run) (WpFn 𝓤 H (𝓣 .C) (𝓣 .Λ) code.function) (WpFn-mono 𝓤 H (W .laws) 𝓣 code.function)
+    (walked 𝓤 H A next-of.ended stayed (next-of.clauses 𝓤 H A mem run) (WpFn 𝓤 H (𝓣 .C) (𝓣 .Λ) code.function) (λ κs. (slice-vals, (uint-vals w64, tt))) (λ κs. (shr-slice-tells (named 0) (κs .0) u8, (uint-tells w64, tt)))
+    (λ κs qs bounds a g are. needs 𝓤 (a .1 .0 < 65536) _ (λ low. walk 𝓤 H A W mem run (κs .0) (qs .0) (a .0) (a .1 .0) (are .1 .0 .1) low (𝓣 .C) (𝓣 .Λ) (fmOf 𝓤 H (W .laws) 𝓣) known-new known-step (are .0))))
 
 pub next-of-spec : {M : Type 1} → stated.statement M
 unfolding code.routine tablesOf
