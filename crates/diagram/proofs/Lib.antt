@@ -1,4 +1,4 @@
 pub mod Held
-pub mod Laws
+pub mod Whole
 pub mod Routes
 pub mod Lists

@@ -30,11 +30,11 @@ use Rattle.number.specs.declared.Written.{Written}
 use Rattle.number.specs.declared.Written.the-variants as N
 use Rattle.diagram.specs.Calls.{Outcome, number, values, mainScreen, drawnOf, onto, writtenAs, laidOutAs, layoutFor, layout, xsAfter, ysAfter, listing, listingWritable, listRefusals, list, listAfter}
 use Rattle.diagram.specs.Decided.{Clear, First, Verdict, stops, goes, verdict, refused-first, answered-clear, first-decides, clear-decides, first-joined, clear-joined}
-use Rattle.diagram.specs.Filled.{placeRefusals, textRefusals, writtenOf, listedAt, listedAfter}
-use Rattle.diagram.specs.declared.LaidOut.{LaidOut}
-use Rattle.diagram.specs.declared.LaidOut.the-variants as Z
+use Rattle.answers.specs.Answers.{placeRefusals, textRefusals, writtenOf, Placed, Wrote-out}
+use Rattle.diagram.specs.Listed.{listedAt, listedAfter}
+use Rattle.answers.specs.declared.LaidOut.{LaidOut}
+use Rattle.answers.specs.declared.LaidOut.the-variants as Z
 use Rattle.diagram.proofs.Held.{Held, stopped}
-use Rattle.diagram.proofs.Laws.{Placed, Wrote-out}
 
 -- ---- what the answer says of the refusals
 

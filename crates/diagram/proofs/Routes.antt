@@ -15,12 +15,11 @@ use Rattle.draw.specs.Drawn.{drawRefusals, drawOf}
 use Rattle.draw.specs.declared.Drawing.the-variants as P
 use Rattle.diagram.specs.Calls.{number, values, mainScreen, drawnOf, numbersOf, onto, routedAs, countedAs, route, recordsAfter, textAfter, clutter}
 use Rattle.diagram.specs.Decided.{First, first-decides, clear-decides, first-joined, clear-joined}
-use Rattle.diagram.specs.Filled.{fillRefusals}
-use Rattle.diagram.specs.declared.Routed.{Routed}
-use Rattle.diagram.specs.declared.Routed.the-variants as D
+use Rattle.answers.specs.Answers.{fillRefusals, Filled}
+use Rattle.answers.specs.declared.Routed.{Routed}
+use Rattle.answers.specs.declared.Routed.the-variants as D
 use Rattle.diagram.specs.declared.Counted.the-variants as K
 use Rattle.diagram.proofs.Held.{Held, stopped}
-use Rattle.diagram.proofs.Laws.{Filled}
 
 module _ (s : List ℕ) (xs ys : List Float) where
   abbrev drawing : List Refusal

@@ -3,7 +3,7 @@ use mathlib.Core.Bool.{Bool, not, _&&_, _||_}
 use mathlib.Core.List.{List, [], _∷_, _++_, flatMap}
 use Prim.Native.Nat.{ℕ}
 use lib.Dec.{ltb}
-use lib.ListN.{length, drop}
+use lib.ListN.{length}
 use lib.Ieee.{Float}
 use Rattle.laws.specs.Refusals.{Refusal, refusal, decide}
 use Rattle.sheet.specs.Refusals as R
@@ -28,12 +28,13 @@ use Rattle.lines.specs.Lines.{pathsText, pathsWritable, listText, listWritable}
 use Rattle.draw.specs.Drawn.{farCentre, drawRefusals}
 use Rattle.layout.specs.Layout.{Layout, planOf, layoutOf, layoutBeyond}
 use Rattle.plan.specs.Planned.{planRefusals}
-use Rattle.diagram.specs.declared.Routed.{Routed}
-use Rattle.diagram.specs.declared.Routed.the-variants as D
+use Rattle.answers.specs.declared.Routed.{Routed}
+use Rattle.answers.specs.declared.Routed.the-variants as D
 use Rattle.diagram.specs.declared.Counted.{Counted}
 use Rattle.diagram.specs.declared.Counted.the-variants as K
-use Rattle.diagram.specs.declared.LaidOut.{LaidOut}
-use Rattle.diagram.specs.declared.LaidOut.the-variants as Z
+use Rattle.answers.specs.declared.LaidOut.{LaidOut}
+use Rattle.answers.specs.declared.LaidOut.the-variants as Z
+pub use Rattle.answers.specs.Answers.{short, onto}
 
 -- What a call returns: the values, or the number of the refusal.
 pub data Outcome (A : Type 0) : Type 0 where
@@ -66,16 +67,6 @@ countedAs (K.Refused n) = number n
 abbrev pub laidOutAs : LaidOut → Outcome (ℕ × Float × Float)
 laidOutAs (Z.Size n w h) = values (n, w, h)
 laidOutAs (Z.Refused n) = number n
-
--- ---- a lent output
-
--- 7: "a lent output shorter than the answer"
-abbrev pub short : {A : Type 0} → ℕ → List A → Bool
-short room answer = ltb room (length answer)
-
--- "Longer outputs keep their tail."
-abbrev pub onto : {A : Type 0} → List A → List A → List A
-onto answer out = answer ++ drop (length answer) out
 
 -- ---- check, size a label block, write a number
 

@@ -1,5 +1,5 @@
 pub mod Calls
 pub mod Decided
 pub mod Refused
-pub mod Filled
+pub mod Listed
 pub mod Laws

@@ -1,36 +1,18 @@
 // The calls of document 01, for the main screen. None has a requirement.
+pub use answers::LaidOut;
+pub use answers::Routed;
 use draw::Drawing;
 use number::Written;
 use plan::Planned;
 ghost use mathlib.Core.Path.{_≡_};
-ghost use Prim.Native.Nat.{_*_, _≤_};
-ghost use lib.ListN.{length, take};
-ghost use Rattle.laws.specs.Flat.{table};
-ghost use Rattle.records.specs.Records.{decodeRecords};
-ghost use Rattle.records.specs.Back.{Small};
-ghost use Rattle.routing.specs.Sheets.{centreAt};
-ghost use Rattle.clutter.specs.Clutter.{clutterOf};
+ghost use lib.ListN.{length};
 ghost use Rattle.sheet.specs.Sheet.{statesOf};
-ghost use Rattle.free.specs.Centres.{centres};
-ghost use Rattle.lines.specs.Lines.{listText, listWritable};
 ghost use Rattle.diagram.specs.Calls as S;
-ghost use Rattle.diagram.specs.Filled as F;
-
-// The f64 numbers and the bytes written, or the number of the refusal.
-pub enum Routed {
-    Lengths(usize, usize),
-    Refused(u8),
-}
+ghost use Rattle.diagram.specs.Listed as F;
 
 // The clutter, or the number of the refusal.
 pub enum Counted {
     Count(usize),
-    Refused(u8),
-}
-
-// The number of states, width and height, or the number of the refusal.
-pub enum LaidOut {
-    Size(usize, f64, f64),
     Refused(u8),
 }
 
@@ -69,37 +51,6 @@ pub fn write_num(v: f64, out: &mut [u8]) -> number::Written
 
 // ---- routing
 
-// The numbers of `from`, at the front of `to`.
-fn copy(from: &[f64], to: &mut [f64])
-    requires { ⌜ length (now from) ≤ length (now to) ⌝ }
-    ensures { λ _. ⌜ now (to .exit) ≡ S.onto (now (from .entry)) (now (to .entry)) ⌝ }
-{
-    for k in 0..from.len() {
-        to[k] = from[k];
-    }
-}
-
-// The first `count` records of a drawing and their paths, where every number may be written and there is room for both.
-fn fill(drawing: &[f64], count: usize, records: &mut [f64], text: &mut [u8]) -> Routed
-    requires { ⌜ 20 * count ≤ length (now drawing) ⌝ }
-    ensures { λ r. ⌜ (r ≡ F.filledAs (take (20 * count) (now (drawing .entry))) (decodeRecords count (now (drawing .entry))) (length (now (records .entry))) (length (now (text .entry)))) × (now (records .exit) ≡ F.recordsLeft (take (20 * count) (now (drawing .entry))) (decodeRecords count (now (drawing .entry))) (now (records .entry)) (length (now (text .entry)))) × (now (text .exit) ≡ F.textLeft (take (20 * count) (now (drawing .entry))) (decodeRecords count (now (drawing .entry))) (length (now (records .entry))) (now (text .entry))) ⌝ }
-{
-    if !lines::paths_writable(drawing, count) {
-        return Routed::Refused(10);
-    }
-    let n = 20 * count;
-    if records.len() < n {
-        return Routed::Refused(7);
-    }
-    let need = lines::put_paths(&mut text[..0], 0, drawing, count);
-    if text.len() < need {
-        return Routed::Refused(7);
-    }
-    copy(&drawing[..n], records);
-    let done = lines::put_paths(text, 0, drawing, count);
-    Routed::Lengths(n, done)
-}
-
 // Routes a sheet at the given centres: its records and their paths, or the number of the refusal.
 pub fn route(sheet: &[u8], xs: &[f64], ys: &[f64], records: &mut [f64], text: &mut [u8]) -> Routed
     ensures { λ r. ⌜ (S.routedAs r ≡ S.route (now (sheet .entry)) (now (xs .entry)) (now (ys .entry)) (length (now (records .entry))) (length (now (text .entry)))) × (now (records .exit) ≡ S.recordsAfter (now (sheet .entry)) (now (xs .entry)) (now (ys .entry)) (now (records .entry)) (length (now (text .entry)))) × (now (text .exit) ≡ S.textAfter (now (sheet .entry)) (now (xs .entry)) (now (ys .entry)) (length (now (records .entry))) (now (text .entry))) ⌝ }
@@ -108,39 +59,11 @@ pub fn route(sheet: &[u8], xs: &[f64], ys: &[f64], records: &mut [f64], text: &m
     let drawn = draw::draw(sheet, xs, ys, &mut drawing);
     match drawn {
         Drawing::Refused(n) => Routed::Refused(n),
-        Drawing::Records(count) => fill(&drawing, count, records, text),
+        Drawing::Records(count) => answers::fill(&drawing, count, records, text),
     }
 }
 
 // ---- clutter
-
-// The clutter of the first `count` records of a drawing, with the states at the given centres; `across` and `down` are left with these, 0 for those
-// that are missing or not finite.
-fn clutter_by(
-    xs: &[f64],
-    ys: &[f64],
-    across: &mut [f64],
-    down: &mut [f64],
-    drawing: &[f64],
-    count: usize,
-) -> usize
-    requires { ⌜ (length (now down) ≡ length (now across)) × (count ≤ 256) × (20 * count ≤ length (now drawing)) × Small (decodeRecords count (now drawing)) ⌝ }
-    ensures { λ r. ⌜ r ≡ clutterOf (table (centreAt (now (xs .entry)) (now (ys .entry))) 0 (length (now (across .entry)))) (decodeRecords count (now (drawing .entry))) ⌝ }
-{
-    lay::centred(xs, across);
-    lay::centred(ys, down);
-    clutter::clutter(across, down, drawing, count)
-}
-
-// The same for n states.
-fn clutter_at(xs: &[f64], ys: &[f64], n: usize, drawing: &[f64], count: usize) -> usize
-    requires { ⌜ (n ≤ 64) × (count ≤ 256) × (20 * count ≤ length (now drawing)) × Small (decodeRecords count (now drawing)) ⌝ }
-    ensures { λ r. ⌜ r ≡ clutterOf (table (centreAt (now (xs .entry)) (now (ys .entry))) 0 n) (decodeRecords count (now (drawing .entry))) ⌝ }
-{
-    let mut across = [0.0f64; 64];
-    let mut down = [0.0f64; 64];
-    clutter_by(xs, ys, &mut across[..n], &mut down[..n], drawing, count)
-}
 
 // Counts the clutter of a sheet routed at the given centres, or gives the number of the refusal.
 pub fn clutter(sheet: &[u8], xs: &[f64], ys: &[f64]) -> Counted
@@ -152,36 +75,12 @@ pub fn clutter(sheet: &[u8], xs: &[f64], ys: &[f64]) -> Counted
         Drawing::Refused(n) => Counted::Refused(n),
         Drawing::Records(count) => {
             let n = meaning::state_count(sheet);
-            Counted::Count(clutter_at(xs, ys, n, &drawing, count))
+            Counted::Count(answers::clutter_at(xs, ys, n, &drawing, count))
         }
     }
 }
 
 // ---- layout
-
-// The centres, where there is room for both coordinates.
-fn place(
-    across: &[f64],
-    down: &[f64],
-    width: f64,
-    height: f64,
-    xs: &mut [f64],
-    ys: &mut [f64],
-) -> LaidOut
-    requires { ⌜ length (now down) ≡ length (now across) ⌝ }
-    ensures { λ r. ⌜ (r ≡ F.placedAs (now (across .entry)) (now (down .entry)) width height (length (now (xs .entry))) (length (now (ys .entry)))) × (now (xs .exit) ≡ F.xsLeft (now (across .entry)) (now (down .entry)) (now (xs .entry)) (length (now (ys .entry)))) × (now (ys .exit) ≡ F.ysLeft (now (across .entry)) (now (down .entry)) (length (now (xs .entry))) (now (ys .entry))) ⌝ }
-{
-    let n = across.len();
-    if xs.len() < n {
-        return LaidOut::Refused(7);
-    }
-    if ys.len() < n {
-        return LaidOut::Refused(7);
-    }
-    copy(across, xs);
-    copy(down, ys);
-    LaidOut::Size(n, width, height)
-}
 
 // Lays out a sheet by kind: the centres of its states and the size, or the number of the refusal.
 pub fn layout(sheet: &[u8], kind: u8, xs: &mut [f64], ys: &mut [f64]) -> LaidOut
@@ -192,46 +91,18 @@ pub fn layout(sheet: &[u8], kind: u8, xs: &mut [f64], ys: &mut [f64]) -> LaidOut
     let planned = plan::plan(sheet, kind, &mut across, &mut down);
     match planned {
         Planned::Refused(n) => LaidOut::Refused(n),
-        Planned::Size(n, width, height) => place(&across[..n], &down[..n], width, height, xs, ys),
+        Planned::Size(n, width, height) => answers::place(
+            &across[..n],
+            &down[..n],
+            width,
+            height,
+            xs,
+            ys,
+        ),
     }
 }
 
 // ---- listing
-
-// The listing of a drawing, where every number may be written and there is room for it.
-fn write_listing(
-    width: f64,
-    height: f64,
-    xs: &[f64],
-    ys: &[f64],
-    flags: &[u8],
-    drawing: &[f64],
-    count: usize,
-    out: &mut [u8],
-) -> Written
-    requires { ⌜ (length (now ys) ≡ length (now xs)) × (length (now flags) ≡ length (now xs)) × (20 * count ≤ length (now drawing)) ⌝ }
-    ensures { λ r. ⌜ (r ≡ F.writtenOf (listWritable width height (centres (now (xs .entry)) (now (ys .entry))) (now (flags .entry)) (decodeRecords count (now (drawing .entry)))) (listText width height (centres (now (xs .entry)) (now (ys .entry))) (now (flags .entry)) (decodeRecords count (now (drawing .entry)))) (length (now (out .entry)))) × (now (out .exit) ≡ F.outLeft (listWritable width height (centres (now (xs .entry)) (now (ys .entry))) (now (flags .entry)) (decodeRecords count (now (drawing .entry)))) (listText width height (centres (now (xs .entry)) (now (ys .entry))) (now (flags .entry)) (decodeRecords count (now (drawing .entry)))) (now (out .entry))) ⌝ }
-{
-    if !lines::listing_writable(width, height, xs, ys, flags, drawing, count) {
-        return Written::Refused(10);
-    }
-    let need = lines::put_listing(
-        &mut out[..0],
-        0,
-        width,
-        height,
-        xs,
-        ys,
-        flags,
-        drawing,
-        count,
-    );
-    if out.len() < need {
-        return Written::Refused(7);
-    }
-    let done = lines::put_listing(out, 0, width, height, xs, ys, flags, drawing, count);
-    Written::Length(done)
-}
 
 // The listing of a sheet drawn at these centres; `flags` is left with the states' flag bytes.
 fn list_by(
@@ -251,7 +122,7 @@ fn list_by(
     let drawn = draw::draw(sheet, xs, ys, &mut drawing);
     match drawn {
         Drawing::Refused(n) => Written::Refused(n),
-        Drawing::Records(count) => write_listing(
+        Drawing::Records(count) => answers::write_listing(
             width,
             height,
             xs,

@@ -4,7 +4,7 @@ use native.Mathlib.Omega.{arith}
 use denote.Ref.{now}
 use Rattle.sheet.specs.Sheet.{statesOf}
 use Rattle.diagram.proofs.Held.{held}
-use Rattle.diagram.proofs.Laws.{put-whole}
+use Rattle.diagram.proofs.Whole.{put-whole}
 use Rattle.diagram.proofs.Lists.{at-refused, at-drawn}
 use borrow.Author.Needs.{needs}
 use Rattle.diagram.proofs.list_by.Statement.{statement}
