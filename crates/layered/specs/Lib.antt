@@ -1,1 +1,4 @@
 pub mod Layered
+pub mod Single
+pub mod Xs
+pub mod Ys

@@ -2,3 +2,4 @@ pub mod Sweeps
 pub mod Steps
 pub mod Counted
 pub mod Sorted
+pub mod Centred

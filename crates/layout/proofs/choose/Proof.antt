@@ -11,11 +11,17 @@ use Rattle.layout.proofs.choose.Tie as tie
 
 returns : tie.Need-returns
 unfolding choice
-returns c = search needs
+returns c =
+    let a = c .before .before .before .before .before .before .before .before .args in
+    let p : Plan = planBy (now (a .flags)) (now (a .sources)) (now (a .targets)) (now (a .widths)) (now (a .heights)) in
+    sym (ap (λ (k : ℕ). choice k p) (c .if1 .taken))
 
 returns-2 : tie.Need-returns-2
 unfolding choice
-returns-2 c = search needs
+returns-2 c =
+    let a = c .before .before .before .before .before .before .before .before .before .args in
+    let p : Plan = planBy (now (a .flags)) (now (a .sources)) (now (a .targets)) (now (a .widths)) (now (a .heights)) in
+    sym (ap (λ (k : ℕ). choice k p) (c .if2 .taken))
 
 auto-requires : tie.Need-auto-requires
 auto-requires c κs = search needs

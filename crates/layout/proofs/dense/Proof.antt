@@ -1,9 +1,9 @@
 -- `layout::dense` meets its contract.
+use mathlib.Core.Path.{refl}
 use Prim.Native.Nat.{_^_}
 use native.Mathlib.Omega.{arith}
 use lib.Dec.{le→leb}
 use lib.Ieee.{inFloat}
-use borrow.Author.Needs.{needs}
 use Rattle.layout.proofs.dense.Statement.{statement}
 use Rattle.layout.proofs.dense.Tie as tie
 
@@ -16,7 +16,7 @@ unfolding inFloat
 int-to-float-result-2 c = le→leb (c .before .before .args .m) (2 ^ 53) (omega arith)
 
 returns : tie.Need-returns
-returns c = search needs
+returns c = refl
 
 pub dense-spec : {M : Type 1} → statement M
 dense-spec = tie.close (tie.spec int-to-float-result int-to-float-result-2 returns)

@@ -40,10 +40,10 @@ push-box-requires c κs =
     omega arith
 
 same-length : tie.Need-same-length
-same-length c = search needs
+same-length c = c .before .before .push-box .kept .0
 
 same-length-2 : tie.Need-same-length-2
-same-length-2 c = search needs
+same-length-2 c = c .before .before .before .before .before .before .write-at .kept .0
 
 returns : tie.Need-returns
 returns c =

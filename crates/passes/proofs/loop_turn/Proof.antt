@@ -35,13 +35,13 @@ push-box-requires c κs =
     omega arith
 
 same-length : tie.Need-same-length
-same-length c = search needs
+same-length c = c .before .before .push-box .kept .0
 
 same-length-2 : tie.Need-same-length-2
-same-length-2 c = search needs
+same-length-2 c = c .before .before .before .before .before .before .push-trace .kept .0
 
 same-length-3 : tie.Need-same-length-3
-same-length-3 c = search needs
+same-length-3 c = c .before .before .before .before .before .before .before .before .before .before .write-at .kept .0
 
 returns : tie.Need-returns
 returns c =
