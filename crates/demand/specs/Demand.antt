@@ -173,12 +173,17 @@ Agree c d t = arrowAt (graph c) (turnArrow c t) .lines ≡ arrowAt (graph d) (tu
 
 -- ---- (2) prefix
 
+-- the records of turn t in two calls: alike in all twenty numbers, and so are their curves, path text included
+pub record Alike (c d : Call) (t : ℕ) : Type 0 where
+  pub numbers : recordAt c (turnNumber c t) ≡ recordAt d (turnNumber d t)
+  pub curve : curveAt c (turnNumber c t) ≡ curveAt d (turnNumber d t)
+
 pub record Prefix (c d : Call) : Type 0 where
   -- "two such sheets at the same centres have the same turns in the same order", and so the same record numbers
   pub order : turns c ≡ turns d
   pub numbers : (e : ℕ) → numberOf c e ≡ numberOf d e
-  -- where label lines agree at a turn and at all before it, the records are alike in all twenty numbers
-  pub alike : (t : ℕ) → t < length (turns c) → ((j : ℕ) → j ≤ t → Agree c d j) → recordAt c (turnNumber c t) ≡ recordAt d (turnNumber d t)
+  -- where label lines agree at a turn and at all before it, of a loop too, the records are alike
+  pub alike : (t : ℕ) → t < length (turns c) → ((j : ℕ) → j ≤ t → Agree c d j) → Alike c d t
 
 -- ---- (3) curves
 

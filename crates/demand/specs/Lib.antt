@@ -2,4 +2,3 @@ pub mod Demand
 pub mod Newlines
 pub mod Places
 pub mod Proof
-pub mod Worked

@@ -1,9 +1,10 @@
--- The lines of path text: no path has a newline byte in it. Assumes nothing.
-use mathlib.Core.Path.{_≡_, refl, ap, _∙_}
+-- The lines of a text of paths or of such: no number and no path has a newline byte in it. Assumes nothing.
+use mathlib.Core.Path.{_≡_, refl, sym, ap, ap₂, _∙_}
 use mathlib.Core.Bool.{Bool, true, false, cond}
 use mathlib.Core.List.{List, [], _∷_, _++_, append-assoc, flatMap}
-use Prim.Native.Nat.{ℕ, zero, suc, _+_, _/_, _%_, _<_}
-use native.Mathlib.Nat.{not-suc-le-zero}
+use Prim.Native.Nat.{ℕ, zero, suc, _+_, _*_, _/_, _%_, _<_}
+use native.Mathlib.Nat.{not-suc-le-zero, add-assoc, add-comm, zero-add, mul-zero, mul-suc, one-mul}
+use native.Mathlib.Numerals.{one-add}
 use native.Mathlib.Omega.{arith}
 use borrow.Author.Tests.{ne-eqb}
 use lib.Dec.{eqb, ltb}
@@ -22,15 +23,15 @@ use Rattle.demand.specs.Demand.{line, later, lineAt}
 -- ---- a line ends at the first newline
 
 -- every byte is above the newline: letters, blanks, digits, `-` and `.` are
-abbrev Above : List ℕ → Type 0
+abbrev pub Above : List ℕ → Type 0
 Above [] = Unit {0}
 Above (b ∷ l) = (10 < b) × Above l
 
-join : (l m : List ℕ) → Above l → Above m → Above (l ++ m)
+pub join : (l m : List ℕ) → Above l → Above m → Above (l ++ m)
 join [] m p q = q
 join (b ∷ l) m p q = (p .0, join l m (p .1) q)
 
-line-first : (l m : List ℕ) → Above l → line (l ++ 10 ∷ m) ≡ l
+pub line-first : (l m : List ℕ) → Above l → line (l ++ 10 ∷ m) ≡ l
 unfolding line
 line-first [] m h = refl
 line-first (b ∷ l) m h = rw (ne-eqb b 10 (λ e. absurd (omega (arith, h .0)))) (ap (λ (r : List ℕ). b ∷ r) (line-first l m (h .1)))
@@ -51,7 +52,7 @@ by-above (suc f) n = go (ltb n 10) (by-above f (n / 10))
     go true h = (omega arith, tt)
     go false h = join (digitsBy f (n / 10)) ((48 + n % 10) ∷ []) h (omega arith, tt)
 
-digits-above : (n : ℕ) → Above (digits n)
+pub digits-above : (n : ℕ) → Above (digits n)
 unfolding digits
 digits-above n = by-above n n
 
@@ -69,7 +70,7 @@ fraction-above n = go (eqb n 0) (eqb (n % 10) 0)
     go false true = (omega arith, (omega arith, tt))
     go false false = (omega arith, (omega arith, (omega arith, tt)))
 
-num-above : (v : Float) → Above (numText v)
+pub num-above : (v : Float) → Above (numText v)
 unfolding numText decimal
 num-above v =
     let h : Hundredths = hundredths v in
@@ -87,7 +88,7 @@ points-above [] = tt
 points-above (p ∷ ps) = join (pointText p) (pointsText ps) (point-above p) (points-above ps)
 
 -- the letters of a path's commands
-abbrev Letters : List (Command «V») → Type 0
+abbrev pub Letters : List (Command «V») → Type 0
 Letters [] = Unit {0}
 Letters (c ∷ cs) = (10 < c .letter) × Letters cs
 
@@ -96,7 +97,7 @@ unfolding moreText
 more-above [] h = tt
 more-above (c ∷ cs) h = (omega arith, join (commandText c) (moreText cs) (h .0, points-above (c .points)) (more-above cs (h .1)))
 
-path-above : (cs : List (Command «V»)) → Letters cs → Above (pathText cs)
+pub path-above : (cs : List (Command «V»)) → Letters cs → Above (pathText cs)
 unfolding pathText
 path-above [] h = tt
 path-above (c ∷ cs) h = join (commandText c) (moreText cs) (h .0, points-above (c .points)) (more-above cs (h .1))
@@ -106,23 +107,58 @@ letters (Line a b) = (omega arith, (omega arith, tt))
 letters (Quad a c b) = (omega arith, (omega arith, tt))
 letters (Cubic a c d b) = (omega arith, (omega arith, tt))
 
-curve-above : (k : Curve) → Above (curveText k)
+pub curve-above : (k : Curve) → Above (curveText k)
 unfolding curveText
 curve-above k = path-above (curvePath k) (letters k)
 
+-- ---- texts of so many lines each, one after another
+
+-- what stands behind l is reached after w lines
+abbrev pub Skips : ℕ → List ℕ → Type 0
+Skips w l = (m : List ℕ) (k : ℕ) → lineAt (w + k) (l ++ m) ≡ lineAt k m
+
+pub skips-line : (l : List ℕ) → Above l → Skips 1 (l ++ (10 ∷ []))
+unfolding lineAt
+skips-line l h m k =
+    ap (λ (n : ℕ). lineAt n ((l ++ (10 ∷ [])) ++ m)) (one-add k)
+    ∙ ap (λ (t : List ℕ). lineAt k (later t)) (append-assoc l (10 ∷ []) m)
+    ∙ ap (lineAt k) (line-later l m h)
+
+pub skips-join : (a b : ℕ) (l m : List ℕ) → Skips a l → Skips b m → Skips (a + b) (l ++ m)
+skips-join a b l m p q n k =
+    ap₂ lineAt (add-assoc a b k) (append-assoc l m n)
+    ∙ p (m ++ n) (b + k)
+    ∙ q n k
+
+module _ {A : Type 0} (f : A → List ℕ) (w : ℕ) (each : (x : A) → Skips w (f x)) where
+  pub skips-all : (xs : List A) → Skips (w * length xs) (flatMap f xs)
+  unfolding flatMap
+  skips-all [] m k = ap (λ (n : ℕ). lineAt n m) (ap (λ (n : ℕ). n + k) (mul-zero w) ∙ zero-add k)
+  skips-all (x ∷ xs) m k =
+      ap (λ (n : ℕ). lineAt (n + k) ((f x ++ flatMap f xs) ++ m)) (mul-suc w (length xs) ∙ add-comm (w * length xs) w)
+      ∙ skips-join w (w * length xs) (f x) (flatMap f xs) (each x) (skips-all xs) m k
+
+  -- the first line of text k, with anything behind them
+  pub first-of : (h : A → List ℕ) → ((x : A) (m : List ℕ) → line (f x ++ m) ≡ h x) → (xs : List A) (m : List ℕ) (k : ℕ) (d : A) → k < length xs
+      → lineAt (w * k) (flatMap f xs ++ m) ≡ h (getD xs k d)
+  unfolding flatMap lineAt
+  first-of h p [] m k d i = absurd (not-suc-le-zero i)
+  first-of h p (x ∷ xs) m zero d i = ap₂ lineAt (mul-zero w) (append-assoc (f x) (flatMap f xs) m) ∙ p x (flatMap f xs ++ m)
+  first-of h p (x ∷ xs) m (suc k) d i =
+      ap₂ lineAt (mul-suc w k ∙ add-comm (w * k) w) (append-assoc (f x) (flatMap f xs) m)
+      ∙ each x (flatMap f xs ++ m) (w * k)
+      ∙ first-of h p xs m k d (omega arith)
+
 -- ---- line k of the paths of some records, with anything behind them, is the path of record k
 
-path-split : (g : Geometry) (gs : List Geometry) (tail : List ℕ) → pathsText (g ∷ gs) ++ tail ≡ curveText (g .curve) ++ 10 ∷ (pathsText gs ++ tail)
-unfolding pathsText pathLine flatMap
-path-split g gs tail =
-    ap (λ (l : List ℕ). l ++ tail) (append-assoc (curveText (g .curve)) (10 ∷ []) (flatMap pathLine gs))
-    ∙ append-assoc (curveText (g .curve)) (10 ∷ flatMap pathLine gs) tail
+path-skips : (g : Geometry) → Skips 1 (pathLine g)
+unfolding pathLine
+path-skips g = skips-line (curveText (g .curve)) (curve-above (g .curve))
+
+path-first : (g : Geometry) (m : List ℕ) → line (pathLine g ++ m) ≡ curveText (g .curve)
+unfolding pathLine
+path-first g m = ap line (append-assoc (curveText (g .curve)) (10 ∷ []) m) ∙ line-first (curveText (g .curve)) m (curve-above (g .curve))
 
 pub line-path : (gs : List Geometry) (tail : List ℕ) (k : ℕ) (d : Geometry) → k < length gs → lineAt k (pathsText gs ++ tail) ≡ curveText (getD gs k d .curve)
-unfolding lineAt
-line-path [] tail k d h = absurd (not-suc-le-zero h)
-line-path (g ∷ gs) tail zero d h = ap line (path-split g gs tail) ∙ line-first (curveText (g .curve)) (pathsText gs ++ tail) (curve-above (g .curve))
-line-path (g ∷ gs) tail (suc k) d h =
-    ap (λ (l : List ℕ). lineAt k (later l)) (path-split g gs tail)
-    ∙ ap (lineAt k) (line-later (curveText (g .curve)) (pathsText gs ++ tail) (curve-above (g .curve)))
-    ∙ line-path gs tail k d (omega arith)
+unfolding pathsText
+line-path gs tail k d h = ap (λ (n : ℕ). lineAt n (flatMap pathLine gs ++ tail)) (sym (one-mul k)) ∙ first-of pathLine 1 path-skips (λ g. curveText (g .curve)) path-first gs tail k d h

@@ -25,14 +25,14 @@ use Rattle.routing.specs.Sheets.{frameOf, recordsOf, recordOf, linesAt, endsOf,
 use Rattle.routing.specs.Sheets as Sheets
 use Rattle.diagram.specs.Calls.{route, recordsAfter, textAfter, routeRefusals, numbersOf, onto}
 use Rattle.diagram.specs.Decided.{Clear, clear-decides, answered-clear}
-use Rattle.demand.specs.Demand.{Call, Answered, recordAt, pathAt, lineAt, curveAt, tipAt, graph, frame, sizes, turns, stepAt, turnArrow, recordNumber, numberOf, turnNumber, drawnAt, Held, Cheapest, Same, Agree, Prefix, Between, Curves, Demand3}
+use Rattle.demand.specs.Demand.{Call, Answered, recordAt, pathAt, lineAt, curveAt, tipAt, graph, frame, sizes, turns, stepAt, turnArrow, recordNumber, numberOf, turnNumber, drawnAt, Held, Cheapest, Same, Agree, Alike, Prefix, Between, Curves, Demand3}
 use Rattle.demand.specs.Newlines.{line-path}
 use Rattle.demand.specs.Places.{part-flat, number-inside, turn-number, turn-kept, record-inside, record-only, number-turn, item-edge}
 
 -- ---- what an answered call leaves
 
 -- what is drawn, in record order
-abbrev drawn : Call → List Geometry
+abbrev pub drawn : Call → List Geometry
 drawn c = recordsOf (graph c) (c .xs) (c .ys)
 
 -- past the last record
@@ -40,11 +40,11 @@ abbrev none : Call → Geometry
 none c = drawnAt c 0 0
 
 module _ (c : Call) (a : Answered c) where
-  abbrev rs : List Refusal
+  abbrev pub rs : List Refusal
   rs = routeRefusals (c .sheet) (c .xs) (c .ys) (length (c .records)) (length (c .text))
 
   -- no cause holds, and the answer is what was written
-  stands : Clear rs × (_≡_ {A = ℕ × ℕ} (a .numbers, a .bytes) (length (numbersOf (drawn c)), length (pathsText (drawn c))))
+  pub stands : Clear rs × (_≡_ {A = ℕ × ℕ} (a .numbers, a .bytes) (length (numbersOf (drawn c)), length (pathsText (drawn c))))
   unfolding route
   stands = answered-clear rs (length (numbersOf (drawn c)), length (pathsText (drawn c))) (a .numbers, a .bytes) (sym (a .answer))
 
@@ -63,7 +63,7 @@ module _ (c : Call) (a : Answered c) where
       ap (part 20 k) (clear-decides (λ (n : ℕ). c .records) (onto (numbersOf (drawn c)) (c .records)) rs (stands .0))
       ∙ part-flat fields 20 (λ g. refl) (drawn c) (drop (length (numbersOf (drawn c))) (c .records)) k d h
 
-  path-is : (k : ℕ) (d : Geometry) → k < length (drawn c) → pathAt c k ≡ curveText (getD (drawn c) k d .curve)
+  pub path-is : (k : ℕ) (d : Geometry) → k < length (drawn c) → pathAt c k ≡ curveText (getD (drawn c) k d .curve)
   unfolding textAfter
   path-is k d h =
       ap (lineAt k) (clear-decides (λ (n : ℕ). c .text) (onto (pathsText (drawn c)) (c .text)) rs (stands .0))
@@ -139,23 +139,44 @@ module _ (c d : Call) (a : Answered c) (b : Answered d) (s : Same c d) where
   -- ---- (2)
 
   module _ (t : ℕ) (h : t < length (turns c)) (l : (j : ℕ) → j ≤ t → Agree c d j) where
-    alike : recordAt c (turnNumber c t) ≡ recordAt d (turnNumber d t)
-    alike =
-        let i : t < length (turns d) = subst (λ (f : Frame). t < length (order f)) frames h in
+    in-turns : t < length (turns d)
+    in-turns = subst (λ (f : Frame). t < length (order f)) frames h
+
+    -- what is drawn at that turn
+    abbrev drawn-c : Geometry
+    drawn-c = its c a (turnArrow c t) (within c a t h) (stays c a t h)
+
+    abbrev drawn-d : Geometry
+    drawn-d = its d b (turnArrow d t) (within d b t in-turns) (stays d b t in-turns)
+
+    drawn-alike : drawn-c ≡ drawn-d
+    drawn-alike =
         let e : ℕ = turnArrow c t in
         let e′ : ℕ = turnArrow d t in
         let back : (j : ℕ) → linesAt (graph d) (d .xs) (d .ys) noItem j ≡ linesAt (graph d) (c .xs) (c .ys) noItem j =
         λ j. sym (ap₂ (λ (xs ys : List Float). linesAt (graph d) xs ys noItem j) (s .xs) (s .ys)) in
         let both : recordFor (frame c) (sizes c) e ≡ recordFor (frame d) (sizes d) e =
         over-sheets .prefix (graph d) (s .ends) t h (λ j k. l j k ∙ back j) ∙ records-d e in
-        let g : its c a e (within c a t h) (stays c a t h) ∷ [] ≡ its d b e′ (within d b t i) (stays d b t i) ∷ [] =
-        sym (arrow-only c a e (within c a t h) (stays c a t h))
+        ap (λ (m : List Geometry). getD m 0 (none c))
+        (sym (arrow-only c a e (within c a t h) (stays c a t h))
         ∙ both
         ∙ ap (λ (f : Frame). recordFor (frame d) (sizes d) (edgeAt f t)) frames
-        ∙ arrow-only d b e′ (within d b t i) (stays d b t i) in
-        arrow-record c a e (within c a t h) (stays c a t h)
-        ∙ ap (λ (m : List Geometry). fields (getD m 0 (none c))) g
-        ∙ sym (arrow-record d b e′ (within d b t i) (stays d b t i))
+        ∙ arrow-only d b e′ (within d b t in-turns) (stays d b t in-turns))
+
+    numbers-alike : recordAt c (turnNumber c t) ≡ recordAt d (turnNumber d t)
+    numbers-alike =
+        arrow-record c a (turnArrow c t) (within c a t h) (stays c a t h)
+        ∙ ap fields drawn-alike
+        ∙ sym (arrow-record d b (turnArrow d t) (within d b t in-turns) (stays d b t in-turns))
+
+    path-alike : pathAt c (turnNumber c t) ≡ pathAt d (turnNumber d t)
+    path-alike =
+        arrow-path c a (turnArrow c t) (within c a t h) (stays c a t h)
+        ∙ ap (λ (g : Geometry). curveText (g .curve)) drawn-alike
+        ∙ sym (arrow-path d b (turnArrow d t) (within d b t in-turns) (stays d b t in-turns))
+
+    alike : Alike c d t
+    alike = record { numbers = numbers-alike; curve = ap₂ (λ (x : List Float) (y : List ℕ). (take 9 (drop 1 x), y)) numbers-alike path-alike }
 
   prefix : Prefix c d
   prefix = record { order = ap order frames; numbers = λ e. ap (λ (f : Frame). recordNumber f e) frames; alike = alike }

@@ -1,0 +1,153 @@
+-- Document 01, 'Worked drawings': "Sheet: a start state, a second state, an arrow 0 to 1 with the line `a`. Output, whole". What `layout`, `route` and `list` answer and leave of it. Assumes nothing.
+use mathlib.Core.Path.{_≡_, refl, ap, ap₂, _∙_}
+use mathlib.Core.Bool.{Bool, false, not, _&&_, _||_}
+use mathlib.Core.List.{List, [], _∷_, flatMap}
+use Prim.Native.Nat.{ℕ, _≤_}
+use native.Mathlib.Omega.{arith}
+use borrow.Author.Tests.{le-ltb}
+use lib.ListN.{length, take, replicate}
+use lib.Ieee.{Float}
+use Rattle.laws.specs.Loops.{over, anyFor, anyUp}
+use Rattle.float.specs.Constants.{whole}
+use Rattle.sheet.specs.Sheet as Sheet
+use Rattle.sheet.specs.Sheet.{Graph, meaning}
+use Rattle.sheet.specs.Refusals as Refusals
+use Rattle.sheet.specs.Refusals.{refusals}
+use Rattle.sheet.specs.Any.{or-none}
+use Rattle.sheet.specs.Examples.{small, small-means}
+use Rattle.free.specs.Centres.{centres}
+use Rattle.routing.specs.Routing.{beyond}
+use Rattle.routing.specs.Sheets.{frameOf, recordsOf}
+use Rattle.lines.specs.Lines.{pathsText, pathsWritable, listText, listWritable}
+use Rattle.lines.specs.Worked.{shown}
+use Rattle.draw.specs.Drawn.{farCentre}
+use Rattle.layout.specs.Layout.{Layout, planOf, layoutOf, layoutBeyond}
+use Rattle.diagram.specs.Calls.{number, values, mainScreen, short, onto, drawnOf, numbersOf, routeRefusals, route, textAfter, layoutFor, layoutRefusals, layout, xsAfter, ysAfter, listing, listRefusals, list, listAfter}
+use Rattle.diagram.specs.Decided.{Clear, clear-decides}
+use Rattle.demand.specs.Demand.{Answered}
+use Rattle.shown.specs.Shown.{Lent, Listed, LaidOut, routed}
+use Rattle.shown.specs.Clears.{clear-none, clear-more, clear-join}
+use Rattle.worked_calls.specs.Numbers.{xs, ys, placed, path, drawn, computed}
+
+-- with every lent slice that is long enough
+pub record Drawn : Type 0 where
+  -- `layout` as Auto: `size 244 76`, `state 0 66 38`, `state 1 206 38`
+  pub lays : (n m : ℕ) → 2 ≤ n → 2 ≤ m → layout small 0 n m ≡ values (2, whole 244, whole 76)
+  pub across : (l : List Float) (m : ℕ) → 2 ≤ length l → 2 ≤ m → xsAfter small 0 l m ≡ onto xs l
+  pub down : (n : ℕ) (l : List Float) → 2 ≤ n → 2 ≤ length l → ysAfter small 0 n l ≡ onto ys l
+  -- `route` at those centres: one record, and its path
+  pub routes : (n m : ℕ) → 20 ≤ n → 17 ≤ m → route small xs ys n m ≡ values (20, 17)
+  pub paths : (n : ℕ) (t : List ℕ) → 20 ≤ n → 17 ≤ length t → textAfter small xs ys n t ≡ onto path t
+  -- `list` as Auto: the output, whole
+  pub lists : (n : ℕ) → 180 ≤ n → list small 0 n ≡ values 180
+  pub text : (out : List ℕ) → 180 ≤ length out → listAfter small 0 out ≡ onto shown out
+
+-- ---- what refuses nothing
+
+sheet-clear : Clear (refusals mainScreen small)
+unfolding flatMap over anyFor anyUp Refusals.any Refusals.repeats Refusals.isSet Refusals.wrongRecord Refusals.wrongBytes Refusals.indices Refusals.wrongChains Refusals.largeArrow Refusals.overLimits Refusals.illArrow Refusals.illFormed Sheet.chainBy Sheet.metLine Sheet.metArrow Sheet.met Sheet.lineOf Sheet.linesFrom Sheet.arrowOf Sheet.statesOf Sheet.arrowsOf
+sheet-clear = clear-more _ _ refl (clear-more _ _ refl (clear-more _ _ refl (clear-more _ _ refl (clear-more _ _ refl (clear-more _ _ refl clear-none)))))
+
+laid : layoutFor small 0 ≡ placed
+laid = ap (λ (g : Graph). layoutOf 0 (planOf g)) small-means ∙ computed .laid
+
+within : layoutBeyond 0 (planOf (meaning small)) ≡ false
+within = ap (λ (g : Graph). layoutBeyond 0 (planOf g)) small-means ∙ computed .within
+
+layout-clear : (n m : ℕ) → 2 ≤ n → 2 ≤ m → Clear (layoutRefusals small 0 n m)
+layout-clear n m h i =
+    let o : (short n (layoutFor small 0 .xs) || short m (layoutFor small 0 .ys)) ≡ false =
+    ap (λ (l : Layout). short n (l .xs) || short m (l .ys)) laid ∙ or-none _ _ (le-ltb n 2 h) (le-ltb m 2 i) in
+    clear-more _ _ refl (clear-join (refusals mainScreen small) _ sheet-clear (clear-more _ _ within (clear-more _ _ o clear-none)))
+
+route-clear : (n m : ℕ) → 20 ≤ n → 17 ≤ m → Clear (routeRefusals small xs ys n m)
+route-clear n m h i =
+    let near : farCentre (length (meaning small .states)) xs ys ≡ false = ap (λ (g : Graph). farCentre (length (g .states)) xs ys) small-means ∙ computed .near in
+    let single : beyond (frameOf (meaning small) xs ys) ≡ false = ap (λ (g : Graph). beyond (frameOf g xs ys)) small-means ∙ computed .single in
+    let ok : not (pathsWritable (drawnOf small xs ys)) ≡ false = ap (λ (g : Graph). not (pathsWritable (recordsOf g xs ys))) small-means ∙ ap not (computed .paths-ok) in
+    let o : (short n (numbersOf (drawnOf small xs ys)) || short m (pathsText (drawnOf small xs ys))) ≡ false =
+    ap (λ (g : Graph). short n (numbersOf (recordsOf g xs ys)) || short m (pathsText (recordsOf g xs ys))) small-means
+    ∙ or-none _ _ (le-ltb n (length (numbersOf drawn)) (omega (arith, computed .numbers))) (le-ltb m (length (pathsText drawn)) (omega (arith, ap length (computed .paths)))) in
+    clear-join (refusals mainScreen small) _ sheet-clear (clear-more _ _ near (clear-more _ _ single (clear-more _ _ ok (clear-more _ _ o clear-none))))
+
+listing-is : listing small 0 ≡ shown
+listing-is =
+    ap₂ (λ (g : Graph) (l : Layout). listText (l .width) (l .height) (centres (l .xs) (l .ys)) (g .states) (recordsOf g (l .xs) (l .ys))) small-means laid
+    ∙ computed .text
+
+list-clear : (n : ℕ) → 180 ≤ n → Clear (listRefusals small 0 n)
+list-clear n h =
+    let g : Graph = meaning small in
+    let p : Layout = layoutFor small 0 in
+    let near : (not (layoutBeyond 0 (planOf g)) && farCentre (length (g .states)) (p .xs) (p .ys)) ≡ false =
+    ap₂ (λ (g : Graph) (l : Layout). not (layoutBeyond 0 (planOf g)) && farCentre (length (g .states)) (l .xs) (l .ys)) small-means laid
+    ∙ ap₂ (λ (a b : Bool). not a && b) (computed .within) (computed .near) in
+    let single : (layoutBeyond 0 (planOf g) || beyond (frameOf g (p .xs) (p .ys))) ≡ false =
+    ap₂ (λ (g : Graph) (l : Layout). layoutBeyond 0 (planOf g) || beyond (frameOf g (l .xs) (l .ys))) small-means laid
+    ∙ or-none _ _ (computed .within) (computed .single) in
+    let ok : not (listWritable (p .width) (p .height) (centres (p .xs) (p .ys)) (g .states) (drawnOf small (p .xs) (p .ys))) ≡ false =
+    ap₂ (λ (g : Graph) (l : Layout). not (listWritable (l .width) (l .height) (centres (l .xs) (l .ys)) (g .states) (recordsOf g (l .xs) (l .ys)))) small-means laid
+    ∙ ap not (computed .text-ok) in
+    let o : short n (listing small 0) ≡ false = ap (short n) listing-is ∙ le-ltb n 180 h in
+    clear-more _ _ refl (clear-join (refusals mainScreen small) _ sheet-clear (clear-more _ _ near (clear-more _ _ single (clear-more _ _ ok (clear-more _ _ o clear-none)))))
+
+-- ---- what is answered and left
+
+lays : (n m : ℕ) → 2 ≤ n → 2 ≤ m → layout small 0 n m ≡ values (2, whole 244, whole 76)
+unfolding layout
+lays n m h i =
+    clear-decides number _ (layoutRefusals small 0 n m) (layout-clear n m h i)
+    ∙ ap₂ (λ (g : Graph) (l : Layout). values (length (g .states), l .width, l .height)) small-means laid
+
+across : (l : List Float) (m : ℕ) → 2 ≤ length l → 2 ≤ m → xsAfter small 0 l m ≡ onto xs l
+unfolding xsAfter
+across l m h i = clear-decides (λ (k : ℕ). l) _ (layoutRefusals small 0 (length l) m) (layout-clear (length l) m h i) ∙ ap (λ (p : Layout). onto (p .xs) l) laid
+
+down : (n : ℕ) (l : List Float) → 2 ≤ n → 2 ≤ length l → ysAfter small 0 n l ≡ onto ys l
+unfolding ysAfter
+down n l h i = clear-decides (λ (k : ℕ). l) _ (layoutRefusals small 0 n (length l)) (layout-clear n (length l) h i) ∙ ap (λ (p : Layout). onto (p .ys) l) laid
+
+routes : (n m : ℕ) → 20 ≤ n → 17 ≤ m → route small xs ys n m ≡ values (20, 17)
+unfolding route
+routes n m h i =
+    clear-decides number _ (routeRefusals small xs ys n m) (route-clear n m h i)
+    ∙ ap (λ (g : Graph). values (length (numbersOf (recordsOf g xs ys)), length (pathsText (recordsOf g xs ys)))) small-means
+    ∙ ap₂ (λ (a : ℕ) (t : List ℕ). values (a, length t)) (computed .numbers) (computed .paths)
+
+paths : (n : ℕ) (t : List ℕ) → 20 ≤ n → 17 ≤ length t → textAfter small xs ys n t ≡ onto path t
+unfolding textAfter
+paths n t h i =
+    clear-decides (λ (k : ℕ). t) _ (routeRefusals small xs ys n (length t)) (route-clear n (length t) h i)
+    ∙ ap (λ (g : Graph). onto (pathsText (recordsOf g xs ys)) t) small-means
+    ∙ ap (λ (p : List ℕ). onto p t) (computed .paths)
+
+lists : (n : ℕ) → 180 ≤ n → list small 0 n ≡ values 180
+unfolding list
+lists n h = clear-decides number _ (listRefusals small 0 n) (list-clear n h) ∙ ap (λ (t : List ℕ). values (length t)) listing-is
+
+text : (out : List ℕ) → 180 ≤ length out → listAfter small 0 out ≡ onto shown out
+unfolding listAfter
+text out h = clear-decides (λ (k : ℕ). out) _ (listRefusals small 0 (length out)) (list-clear (length out) h) ∙ ap (λ (t : List ℕ). onto t out) listing-is
+
+pub worked : Drawn
+worked = record { lays = lays; across = across; down = down; routes = routes; paths = paths; lists = lists; text = text }
+
+-- ---- so the claims of `demand` and `shown` are about something
+
+abbrev pub lent : Lent
+lent = record { sheet = small; kind = 0; xs = replicate 2 (whole 0); ys = replicate 2 (whole 0); records = replicate 20 (whole 0); text = replicate 17 0; out = replicate 180 0 }
+
+pub listed : Listed lent
+listed = record { bytes = 180; answer = worked .lists 180 (omega arith) }
+
+abbrev pub laid-out : LaidOut lent
+laid-out = record { states = 2; width = whole 244; height = whole 76; answer = worked .lays 2 2 (omega arith) (omega arith) }
+
+pub answered : Answered (routed lent laid-out)
+answered = record {
+  numbers = 20;
+  bytes = 17;
+  answer =
+      ap₂ (λ (a b : List Float). route small (take 2 a) (take 2 b) 20 17) (across (lent .xs) 2 (omega arith) (omega arith)) (down 2 (lent .ys) (omega arith) (omega arith))
+      ∙ routes 20 17 (omega arith) (omega arith);
+}

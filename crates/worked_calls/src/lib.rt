@@ -1,0 +1,1 @@
+// No code: calls of document 01's worked drawings, computed over the definitions of their answers, in specs/.
