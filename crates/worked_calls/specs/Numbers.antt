@@ -94,5 +94,5 @@ pub record Computed : Type 0 where
   pub text-ok : listWritable (whole 244) (whole 76) (centres xs ys) (smallGraph .states) drawn ≡ true
 
 pub computed : Computed
-unfolding flatMap trailingZeros LawsBest.best LawsBest.total LawsCounting.number LawsFilter.filter LawsFlat.table LawsLoops.turns LawsLoops.up LawsLoops.down LawsLoops.anyFor LawsLoops.anyUp LawsLoops.over LawsRun.run LawsSort.insert LawsSort.sorted LawsZip.zip RootRoot.digits RootRoot.wholeRoot RootRoot.nearestRoot RootRoot.scale RootRoot.rootBits FloatStandins.rootOf FloatStandins.root FloatStandins.round FloatStandins.reduced FloatStandins.series FloatStandins.sin FloatStandins.cos FloatStandins.arcSeries FloatStandins.arc FloatStandins.quarter FloatStandins.atan2 TextUtf8.payload TextUtf8.codesFrom TextDigits.digitsBy TextDigits.digits SheetRefusals.any LabelLabel.charWidth LabelLabel.lineWidth LabelLabel.wider ShapeClipping.test ShapeClipping.side ShapeClipping.meets ShapeClipping.segmentHitsRect ShapeClipping.segmentsCross ShapeCurves.at ShapeCurves.tangent ShapePlane.unitOr ShapePlane.overlaps ShapePlane.touches ShapePlane.spanning ShapePlane.outside TraceTraces.sample TraceTraces.samples TraceTraces.extended TraceTraces.boundsOf TraceTraces.traceOf TraceTraces.foreign TraceTraces.anySegment TraceTraces.hitsRect TraceTraces.pairCross TraceTraces.segmentCrosses TraceTraces.crosses FreeBlocked.intervals FreeCentres.chord FreeCentres.othersFrom FreeFree.holds BowBend.singleBow BowBend.bend BowBend.leads BowBetween.straight BowBetween.drawn BowBetween.between SpotLabels.sideOf SpotLabels.placeLabel SpotLabels.labelled SpotSpots.normal SpotSpots.isUp SpotSpots.upper SpotSpots.lineSpot SpotSpots.labelSpots PlaceScene.near PlaceScene.struck PlaceScene.boxCost PlaceTurn.boxAt RoutingRouting.numberedFrom RoutingRouting.kept RoutingRouting.joined RoutingRouting.beyond RoutingRouting.routes RoutingRouting.firstScene RoutingRouting.order RoutingRouting.drawing RoutingRouting.records RoutingSheets.frameOf ClutterClutter.crossings ClutterClutter.near ClutterClutter.collides ClutterClutter.collisions ClutterClutter.clutterOf RingRing.startFrom RingRing.largest RingRing.around RingRing.ringed ColumnsColumns.successors ColumnsColumns.elem ColumnsColumns.discover ColumnsColumns.explore ColumnsColumns.columnsAfter ColumnsColumns.reached ColumnsColumns.unreached ColumnsColumns.concat ColumnsColumns.columns SweepSweeps.centre SweepSweeps.otherEnd SweepSweeps.neighbours SweepSweeps.total SweepSweeps.barycentre SweepSweeps.ordered SweepSweeps.arrange SweepSweeps.sweepDown SweepSweeps.sweepUp SweepSweeps.fourSweeps SweepSweeps.swept LayeredLayered.gap LayeredLayered.row LayeredLayered.columnOf LayeredLayered.layeredXs LayeredLayered.layeredYs FitFit.statePoints FitFit.statesPoints FitFit.drawnPoints FitFit.covered FitFit.drawingBounds FitFit.shifted LayoutLayout.layers LayoutLayout.ring LayoutLayout.clutterAt LayoutLayout.isDense LayoutLayout.isTangled LayoutLayout.chosen LayoutLayout.measured LayoutLayout.layoutBeyond LayoutLayout.fitted LayoutLayout.layoutOf NumberNumber.sizeOf NumberNumber.minusText NumberNumber.fraction NumberNumber.decimal NumberNumber.numText SvgPaths.headOf SvgPaths.pointText SvgPaths.pointsText SvgPaths.moreText SvgPaths.pathText SvgPaths.curveText SvgPaths.headText SvgPaths.pointsWritable SvgPaths.pathWritable LinesEvery.every LinesLines.pathLine LinesLines.pathsText LinesLines.pathOk LinesLines.pathsWritable LinesLines.field LinesLines.pair LinesLines.titled LinesLines.anchorText LinesLines.statesFrom LinesLines.sizeLine LinesLines.stateLine LinesLines.edgeLine LinesLines.tipLine LinesLines.headLine LinesLines.labelLine LinesLines.startLine LinesLines.recordLines LinesLines.startText LinesLines.statesText LinesLines.recordsText LinesLines.startsText LinesLines.listText LinesLines.stateOk LinesLines.tipOk LinesLines.recordOk LinesLines.startOk LinesLines.statesOk LinesLines.recordsOk LinesLines.startsOk LinesLines.listWritable DrawDrawn.farCentre Ieee.add Ieee.sub Ieee.mul Ieee.div Ieee.rem Ieee.neg Ieee.lt Ieee.le Ieee.eq Ieee.ne Ieee.ofInt Ieee.round Ieee.size Ieee.span Ieee.climb Ieee.units Ieee.odd Ieee.sum Ieee.ofBits Ieee.ofFields Ieee.toBits Ieee.toUnsigned Ieee.isNan
+unfolding flatMap trailingZeros LawsBest.best LawsBest.total LawsCounting.number LawsFilter.filter LawsFlat.table LawsLoops.turns LawsLoops.up LawsLoops.down LawsLoops.anyFor LawsLoops.anyUp LawsLoops.over LawsRun.run LawsSort.insert LawsSort.sorted LawsZip.zip RootRoot.digits RootRoot.wholeRoot RootRoot.nearestRoot RootRoot.scale RootRoot.rootBits FloatStandins.rootOf FloatStandins.root FloatStandins.round FloatStandins.reduced FloatStandins.series FloatStandins.sin FloatStandins.cos FloatStandins.arcSeries FloatStandins.arc FloatStandins.quarter FloatStandins.atan2 TextUtf8.payload TextUtf8.codesFrom TextDigits.digitsBy TextDigits.digits SheetRefusals.any LabelLabel.charWidth LabelLabel.lineWidth LabelLabel.wider ShapeClipping.test ShapeClipping.side ShapeClipping.meets ShapeClipping.segmentHitsRect ShapeCurves.at ShapeCurves.tangent ShapePlane.unitOr ShapePlane.overlaps ShapePlane.touches ShapePlane.spanning ShapePlane.outside TraceTraces.sample TraceTraces.samples TraceTraces.extended TraceTraces.boundsOf TraceTraces.traceOf TraceTraces.foreign TraceTraces.anySegment TraceTraces.hitsRect FreeBlocked.intervals FreeCentres.chord FreeCentres.othersFrom FreeFree.holds BowBend.singleBow BowBend.bend BowBend.leads BowBetween.straight BowBetween.drawn BowBetween.between SpotLabels.placeLabel SpotLabels.labelled SpotSpots.normal SpotSpots.isUp SpotSpots.upper SpotSpots.lineSpot SpotSpots.labelSpots PlaceScene.near PlaceScene.struck PlaceScene.boxCost PlaceTurn.boxAt RoutingRouting.numberedFrom RoutingRouting.kept RoutingRouting.joined RoutingRouting.beyond RoutingRouting.routes RoutingRouting.firstScene RoutingRouting.order RoutingRouting.drawing RoutingRouting.records RoutingSheets.frameOf ClutterClutter.crossings ClutterClutter.near ClutterClutter.collides ClutterClutter.collisions ClutterClutter.clutterOf RingRing.startFrom RingRing.largest RingRing.around RingRing.ringed ColumnsColumns.successors ColumnsColumns.elem ColumnsColumns.discover ColumnsColumns.explore ColumnsColumns.columnsAfter ColumnsColumns.reached ColumnsColumns.unreached ColumnsColumns.concat ColumnsColumns.columns SweepSweeps.centre SweepSweeps.otherEnd SweepSweeps.neighbours SweepSweeps.total SweepSweeps.barycentre SweepSweeps.ordered SweepSweeps.arrange SweepSweeps.sweepDown SweepSweeps.sweepUp SweepSweeps.fourSweeps SweepSweeps.swept LayeredLayered.gap LayeredLayered.row LayeredLayered.columnOf LayeredLayered.layeredXs LayeredLayered.layeredYs FitFit.statePoints FitFit.statesPoints FitFit.drawnPoints FitFit.covered FitFit.drawingBounds FitFit.shifted LayoutLayout.layers LayoutLayout.ring LayoutLayout.clutterAt LayoutLayout.isDense LayoutLayout.isTangled LayoutLayout.chosen LayoutLayout.measured LayoutLayout.layoutBeyond LayoutLayout.fitted LayoutLayout.layoutOf NumberNumber.sizeOf NumberNumber.minusText NumberNumber.fraction NumberNumber.decimal NumberNumber.numText SvgPaths.headOf SvgPaths.pointText SvgPaths.pointsText SvgPaths.moreText SvgPaths.pathText SvgPaths.curveText SvgPaths.headText SvgPaths.pointsWritable SvgPaths.pathWritable LinesEvery.every LinesLines.pathLine LinesLines.pathsText LinesLines.pathOk LinesLines.pathsWritable LinesLines.field LinesLines.pair LinesLines.titled LinesLines.anchorText LinesLines.statesFrom LinesLines.sizeLine LinesLines.stateLine LinesLines.edgeLine LinesLines.tipLine LinesLines.headLine LinesLines.labelLine LinesLines.startLine LinesLines.recordLines LinesLines.startText LinesLines.statesText LinesLines.recordsText LinesLines.startsText LinesLines.listText LinesLines.stateOk LinesLines.tipOk LinesLines.recordOk LinesLines.startOk LinesLines.statesOk LinesLines.recordsOk LinesLines.startsOk LinesLines.listWritable DrawDrawn.farCentre Ieee.add Ieee.sub Ieee.mul Ieee.div Ieee.rem Ieee.neg Ieee.lt Ieee.le Ieee.eq Ieee.ne Ieee.ofInt Ieee.round Ieee.size Ieee.span Ieee.climb Ieee.units Ieee.odd Ieee.sum Ieee.ofBits Ieee.ofFields Ieee.toBits Ieee.toUnsigned Ieee.isNan
 computed = record { laid = refl; within = refl; near = refl; single = refl; numbers = refl; paths = refl; paths-ok = refl; text = refl; text-ok = refl }
