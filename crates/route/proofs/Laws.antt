@@ -69,6 +69,3 @@ module _ (n : ℕ) (l : List Float) (h : n ≤ length l) where
 
   pub taken-few : (k : ℕ) → n ≤ k → length (take n l) ≤ k
   taken-few k e = rw (length-take-le n l h) e
-
-  pub taken-room : (m k : ℕ) → 40 * (2 * m + n) ≤ k → 40 * (2 * m + length (take n l)) ≤ k
-  taken-room m k e = rw (length-take-le n l h) e

@@ -114,6 +114,151 @@ fn draw_at(
     )
 }
 
+// ---- the space that a drawing needs: setting it to 0 takes longer than drawing a small sheet
+
+// In space for 32 states and 32 arrows.
+fn draw_little(
+    flags: &[u8],
+    sources: &[usize],
+    targets: &[usize],
+    widths: &[f64],
+    heights: &[f64],
+    xs: &[f64],
+    ys: &[f64],
+    cx: &mut [f64],
+    cy: &mut [f64],
+    kinds: &mut [usize],
+    leaves: &mut [f64],
+    reaches: &mut [f64],
+    records: &mut [f64],
+) -> Answer
+    requires { ⌜ S.States (now flags) (now cx) (now cy) × S.Arrows (now sources) (now targets) (now leaves) (now reaches) × (length (now kinds) ≡ length (now sources)) × (length (now widths) ≡ length (now sources)) × (length (now heights) ≡ length (now sources)) × (20 * length (now sources) ≤ length (now records)) × (length (now flags) ≤ 32) × (length (now sources) ≤ 32) ⌝ }
+    ensures { λ r. ⌜ (r ≡ G.answer (G.frameAt (now (flags .entry)) (now (xs .entry)) (now (ys .entry)) (now (sources .entry)) (now (targets .entry))) (sizesBy (now (widths .entry)) (now (heights .entry)))) × (now (records .exit) ≡ put (now (records .entry)) 0 (G.numbers (G.frameAt (now (flags .entry)) (now (xs .entry)) (now (ys .entry)) (now (sources .entry)) (now (targets .entry))) (sizesBy (now (widths .entry)) (now (heights .entry))))) ⌝ }
+{
+    let mut slots = [0.0f64; 640];
+    let mut boxes = [0.0f64; 384];
+    let mut traces = [0.0f64; 3840];
+    let mut drawn = [0.0f64; 640];
+    draw_at(
+        flags,
+        sources,
+        targets,
+        widths,
+        heights,
+        xs,
+        ys,
+        cx,
+        cy,
+        kinds,
+        leaves,
+        reaches,
+        &mut slots,
+        &mut boxes,
+        &mut traces,
+        &mut drawn,
+        records,
+    )
+}
+
+// In space for 64 states and 256 arrows.
+fn draw_full(
+    flags: &[u8],
+    sources: &[usize],
+    targets: &[usize],
+    widths: &[f64],
+    heights: &[f64],
+    xs: &[f64],
+    ys: &[f64],
+    cx: &mut [f64],
+    cy: &mut [f64],
+    kinds: &mut [usize],
+    leaves: &mut [f64],
+    reaches: &mut [f64],
+    records: &mut [f64],
+) -> Answer
+    requires { ⌜ S.States (now flags) (now cx) (now cy) × S.Arrows (now sources) (now targets) (now leaves) (now reaches) × (length (now kinds) ≡ length (now sources)) × (length (now widths) ≡ length (now sources)) × (length (now heights) ≡ length (now sources)) × (20 * length (now sources) ≤ length (now records)) ⌝ }
+    ensures { λ r. ⌜ (r ≡ G.answer (G.frameAt (now (flags .entry)) (now (xs .entry)) (now (ys .entry)) (now (sources .entry)) (now (targets .entry))) (sizesBy (now (widths .entry)) (now (heights .entry)))) × (now (records .exit) ≡ put (now (records .entry)) 0 (G.numbers (G.frameAt (now (flags .entry)) (now (xs .entry)) (now (ys .entry)) (now (sources .entry)) (now (targets .entry))) (sizesBy (now (widths .entry)) (now (heights .entry))))) ⌝ }
+{
+    let mut slots = [0.0f64; 5120];
+    let mut boxes = [0.0f64; 3072];
+    let mut traces = [0.0f64; 23040];
+    let mut drawn = [0.0f64; 5120];
+    draw_at(
+        flags,
+        sources,
+        targets,
+        widths,
+        heights,
+        xs,
+        ys,
+        cx,
+        cy,
+        kinds,
+        leaves,
+        reaches,
+        &mut slots,
+        &mut boxes,
+        &mut traces,
+        &mut drawn,
+        records,
+    )
+}
+
+// In space for the sheet.
+fn draw_sized(
+    flags: &[u8],
+    sources: &[usize],
+    targets: &[usize],
+    widths: &[f64],
+    heights: &[f64],
+    xs: &[f64],
+    ys: &[f64],
+    cx: &mut [f64],
+    cy: &mut [f64],
+    kinds: &mut [usize],
+    leaves: &mut [f64],
+    reaches: &mut [f64],
+    records: &mut [f64],
+) -> Answer
+    requires { ⌜ S.States (now flags) (now cx) (now cy) × S.Arrows (now sources) (now targets) (now leaves) (now reaches) × (length (now kinds) ≡ length (now sources)) × (length (now widths) ≡ length (now sources)) × (length (now heights) ≡ length (now sources)) × (20 * length (now sources) ≤ length (now records)) ⌝ }
+    ensures { λ r. ⌜ (r ≡ G.answer (G.frameAt (now (flags .entry)) (now (xs .entry)) (now (ys .entry)) (now (sources .entry)) (now (targets .entry))) (sizesBy (now (widths .entry)) (now (heights .entry)))) × (now (records .exit) ≡ put (now (records .entry)) 0 (G.numbers (G.frameAt (now (flags .entry)) (now (xs .entry)) (now (ys .entry)) (now (sources .entry)) (now (targets .entry))) (sizesBy (now (widths .entry)) (now (heights .entry))))) ⌝ }
+{
+    if flags.len() <= 32 {
+        if sources.len() <= 32 {
+            return draw_little(
+                flags,
+                sources,
+                targets,
+                widths,
+                heights,
+                xs,
+                ys,
+                cx,
+                cy,
+                kinds,
+                leaves,
+                reaches,
+                records,
+            );
+        }
+    }
+    draw_full(
+        flags,
+        sources,
+        targets,
+        widths,
+        heights,
+        xs,
+        ys,
+        cx,
+        cy,
+        kinds,
+        leaves,
+        reaches,
+        records,
+    )
+}
+
 // The drawing of a graph at given centres: for each arrow of the records its twenty numbers, in arrow order.
 pub fn geometry(
     flags: &[u8],
@@ -133,13 +278,9 @@ pub fn geometry(
     let mut kinds = [0usize; 256];
     let mut leaves = [0.0f64; 256];
     let mut reaches = [0.0f64; 256];
-    let mut slots = [0.0f64; 5120];
-    let mut boxes = [0.0f64; 3072];
-    let mut traces = [0.0f64; 23040];
-    let mut drawn = [0.0f64; 5120];
     let n = flags.len();
     let m = sources.len();
-    draw_at(
+    draw_sized(
         flags,
         sources,
         targets,
@@ -152,10 +293,6 @@ pub fn geometry(
         &mut kinds[..m],
         &mut leaves[..m],
         &mut reaches[..m],
-        &mut slots,
-        &mut boxes,
-        &mut traces,
-        &mut drawn,
         records,
     )
 }
