@@ -151,8 +151,10 @@ fn strikes(t: &[f64], own: usize, b: Rect) -> bool
     requires { ⌜ 40 ≤ length (now t) ⌝ }
     ensures { λ r. ⌜ r ≡ struck own b (decodeTrace (now (t .entry))) ⌝ }
 {
-    if trace::foreign(t, own) {
-        return trace::hits_rect(t, b);
+    if trace::reaches(t, b) {
+        if trace::foreign(t, own) {
+            return trace::hits_rect(t, b);
+        }
     }
     false
 }

@@ -10,6 +10,7 @@ use borrow.Author.Tests.{ne-eqb, eq-eqb}
 use lib.Dec.{eqb}
 use lib.ListN.{length, getD, take}
 use lib.Ieee.{Float, nan}
+use Rattle.laws.specs.Cases.{by-bool}
 use Rattle.laws.specs.Best.{search-from}
 use Rattle.laws.specs.Flat.{table, part, part-new}
 use Rattle.laws.specs.Put.{put}
@@ -18,11 +19,13 @@ use Rattle.laws.specs.Zip.{zip-length}
 use Rattle.float.specs.Constants.{f0-5, f0-75, f1}
 use Rattle.float.specs.Ops.{lt}
 use Rattle.shape.specs.declared.«V».{«V»}
+use Rattle.shape.specs.declared.Rect.{Rect}
 use Rattle.shape.specs.declared.Curve.{Curve}
-use Rattle.shape.specs.Plane.{vec, polar, angle}
+use Rattle.shape.specs.Plane.{vec, touches, polar, angle}
 use Rattle.shape.specs.Curves.{at, tangent}
 use Rattle.trace.specs.Traces.{Trace, foreign, crosses, near, arrow, traceOf}
-use Rattle.trace.specs.Form.{decodeRect, decodeTrace}
+use Rattle.trace.specs.Form.{decodeRect, boundsIn, decodeTrace}
+use Rattle.trace.specs.Reach.{crosses-none}
 use Rattle.bow.specs.declared.Routed.{Routed}
 use Rattle.bow.specs.declared.Shape.the-variants as Shape
 use Rattle.spot.specs.declared.Geometry.{Geometry}
@@ -113,6 +116,13 @@ module _ (edge : ℕ) (looped t : Trace) (f : Bool) (e : f ≡ foreign edge t) w
   pub crossed-not : f ≡ false → 0 ≡ worth (crossed edge looped) 3 t
   unfolding crossed
   crossed-not x = rw (← e, x)
+
+-- b is the loop's bounds as the code reads them
+pub crossed-none : (edge : ℕ) (m l : List Float) (b : Rect) (s : Bool) → b ≡ boundsIn m → s ≡ touches (boundsIn l) b → s ≡ false → 0 ≡ worth (crossed edge (decodeTrace m)) 3 (decodeTrace l)
+unfolding crossed
+crossed-none edge m l b s e f g =
+    let w : touches (boundsIn l) (boundsIn m) ≡ false = ap (touches (boundsIn l)) (sym e) ∙ sym f ∙ g in
+    rw (← crosses-none l m w) (by-bool (foreign edge (decodeTrace l)) (λ h. rw h) (λ h. rw h))
 
 down : (k : ℕ) → suc k - 1 ≡ k
 down k = omega arith

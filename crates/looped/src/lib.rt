@@ -86,9 +86,11 @@ fn trace_add(t: &[f64], edge: usize, looped: &[f64]) -> usize
     requires { ⌜ (40 ≤ length (now t)) × (40 ≤ length (now looped)) ⌝ }
     ensures { λ r. ⌜ (r ≡ worth (L.crossed edge (decodeTrace (now (looped .entry)))) 3 (decodeTrace (now (t .entry)))) × (r ≤ 3) ⌝ }
 {
-    if trace::foreign(t, edge) {
-        if trace::crosses(t, looped) {
-            return 3;
+    if trace::reaches(t, trace::bounds_of(looped)) {
+        if trace::foreign(t, edge) {
+            if trace::crosses(t, looped) {
+                return 3;
+            }
         }
     }
     0

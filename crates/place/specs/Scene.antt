@@ -1,9 +1,10 @@
 -- What is drawn already while labels are placed, and the full cost of a label box in it.
 use mathlib.Core.Path.{_≡_, ap}
-use mathlib.Core.Bool.{Bool, _&&_}
+use mathlib.Core.Bool.{Bool, false, _&&_}
 use mathlib.Core.List.{List, [], _∷_, _++_}
 use Prim.Native.Nat.{ℕ, _+_, _*_}
 use lib.Ieee.{Float}
+use Rattle.laws.specs.Cases.{by-bool}
 use Rattle.laws.specs.Flat.{records}
 use Rattle.laws.specs.Counting.{number}
 use Rattle.float.specs.Ops.{_⊕_, _⊖_, lt}
@@ -11,10 +12,11 @@ use Rattle.float.specs.Constants.{f4, f22}
 use Rattle.label.specs.Label.{asciiWidth}
 use Rattle.shape.specs.declared.«V».{«V»}
 use Rattle.shape.specs.declared.Rect.{Rect}
-use Rattle.shape.specs.Plane.{rect, grown, overlaps, boxDist}
+use Rattle.shape.specs.Plane.{rect, grown, overlaps, touches, boxDist}
 use Rattle.free.specs.Centres.{centres as centresOf}
 use Rattle.trace.specs.Traces.{Trace, foreign, hitsRect}
-use Rattle.trace.specs.Form.{decodeRect, decodeTraces}
+use Rattle.trace.specs.Form.{decodeRect, boundsIn, decodeTrace, decodeTraces}
+use Rattle.trace.specs.Reach.{hits-none}
 
 -- "states and traces .. and what `geometry` adds": the labels placed so far, as boxes
 pub record Scene : Type 0 where
@@ -66,6 +68,11 @@ decodeBoxes n l = records decodeRect 4 n l
 
 abbrev pub scene : List Float → List Float → ℕ → List Float → ℕ → List Float → Scene
 scene xs ys nb boxes nt traces = sceneOf (centresOf xs ys) (decodeTraces nt traces) (decodeBoxes nb boxes)
+
+-- what the bounds of a trace do not touch is not struck
+pub struck-none : (own : ℕ) (b : Rect) (l : List Float) → touches (boundsIn l) b ≡ false → false ≡ struck own b (decodeTrace l)
+unfolding struck
+struck-none own b l e = rw (← hits-none l b e) (by-bool (foreign own (decodeTrace l)) (λ f. rw f) (λ f. rw f))
 
 -- a push into the boxes is a box more in the scene, and so with traces
 pub box-pushed : (xs ys : List Float) (n m : ℕ) (bs bs′ : List Float) (nt : ℕ) (ts : List Float) (b : Rect) → decodeBoxes m bs′ ≡ decodeBoxes n bs ++ (b ∷ [])

@@ -80,9 +80,11 @@ fn trace_add(t: &[f64], own: usize, wide: Rect) -> usize
     requires { ⌜ 40 ≤ length (now t) ⌝ }
     ensures { λ r. ⌜ (r ≡ worth (S.struck own wide) 3 (decodeTrace (now (t .entry)))) × (r ≤ 3) ⌝ }
 {
-    if trace::foreign(t, own) {
-        if trace::hits_rect(t, wide) {
-            return 3;
+    if trace::reaches(t, wide) {
+        if trace::foreign(t, own) {
+            if trace::hits_rect(t, wide) {
+                return 3;
+            }
         }
     }
     0

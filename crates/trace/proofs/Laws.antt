@@ -1,6 +1,6 @@
 -- A turn of each loop and its end, and what the calls come to. Assumes nothing.
 use mathlib.Core.Path.{_≡_, refl, sym, ap, ap₂, _∙_}
-use mathlib.Core.Bool.{Bool, true, false, not, _&&_}
+use mathlib.Core.Bool.{Bool, true, false, not, cond, _&&_}
 use mathlib.Core.List.{List, [], _∷_, _++_, append-nil}
 use Prim.Native.Nat.{ℕ, zero, suc, _+_, _-_, _*_, _≤_, _<_}
 use native.Mathlib.Nat.{not-suc-le-zero, add-zero}
@@ -13,6 +13,7 @@ use lib.Ieee.{Float, nan}
 use Rattle.laws.specs.Flat.{table, part, table-more}
 use Rattle.laws.specs.Put.{put, put-eq}
 use Rattle.laws.specs.Loops.{over, over-join}
+use Rattle.float.specs.Ops.{le}
 use Rattle.shape.specs.declared.«V».{«V»}
 use Rattle.shape.specs.declared.Rect.{Rect}
 use Rattle.shape.specs.declared.Curve.{Curve}
@@ -133,6 +134,31 @@ module _ (l : List Float) (a b : «V») (ab q : Rect) (s : Bool) (i : ab ≡ spa
   pub segment-off : s ≡ false → false ≡ segmentCrosses (decodeTrace l) a b
   unfolding segmentCrosses decodeTrace
   segment-off h = and-off s (touches (spanning a b) (boundsIn l)) _ (f ∙ ap₂ touches i e) h
+
+-- four tests, each counted as 1 or 0
+four : (a b c d : Bool) → eqb (cond a 1 0 + cond b 1 0 + (cond c 1 0 + cond d 1 0)) 4 ≡ (a && b && c && d)
+four false false false false = refl
+four false false false true = refl
+four false false true false = refl
+four false false true true = refl
+four false true false false = refl
+four false true false true = refl
+four false true true false = refl
+four false true true true = refl
+four true false false false = refl
+four true false false true = refl
+four true false true false = refl
+four true false true true = refl
+four true true false false = refl
+four true true false true = refl
+four true true true false = refl
+four true true true true = refl
+
+pub reach-is : (l : List Float) (r : Rect) (p q u v : ℕ)
+    → p ≡ cond (le (getD l 2 nan) (r .x1)) 1 0 → q ≡ cond (le (r .x0) (getD l 4 nan)) 1 0 → u ≡ cond (le (getD l 3 nan) (r .y1)) 1 0 → v ≡ cond (le (r .y0) (getD l 5 nan)) 1 0
+    → eqb (p + q + (u + v)) 4 ≡ touches (boundsIn l) r
+unfolding touches
+reach-is l r p q u v e f g h = rw (e, f, g, h) (four (le (getD l 2 nan) (r .x1)) (le (r .x0) (getD l 4 nan)) (le (getD l 3 nan) (r .y1)) (le (r .y0) (getD l 5 nan)))
 
 module _ (l m : List Float) (p q : Rect) (s : Bool) (d : p ≡ boundsIn l) (e : q ≡ boundsIn m) (f : s ≡ touches p q) where
   pub crosses-on : (n : ℕ) (x : Bool) → s ≡ true → n ≡ pointsIn (getD l 1 nan) → x ≡ anySegment (segmentCrosses (decodeTrace m)) (pointsOf n l) → x ≡ crosses (decodeTrace l) (decodeTrace m)

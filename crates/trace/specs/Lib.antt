@@ -1,3 +1,4 @@
+pub mod Reach
 pub mod Traces
 pub mod Form
 pub mod Forms

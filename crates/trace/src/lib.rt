@@ -4,12 +4,15 @@ use shape::Curve;
 use shape::Rect;
 use shape::V;
 ghost use mathlib.Core.Path.{_≡_};
+ghost use mathlib.Core.Bool.{cond};
 ghost use mathlib.Core.List.{[], _∷_, _++_};
 ghost use Prim.Native.Nat.{_+_, _*_, _≤_, _<_};
 ghost use lib.ListN.{length, drop, getD};
 ghost use lib.Ieee.{nan};
 ghost use Rattle.laws.specs.Flat.{part, records, table};
 ghost use Rattle.laws.specs.Put.{put};
+ghost use Rattle.float.specs.Ops.{le};
+ghost use Rattle.shape.specs.Plane.{touches};
 ghost use Rattle.trace.specs.Traces as S;
 ghost use Rattle.trace.specs.Form as F;
 
@@ -61,7 +64,7 @@ fn points_in(n: f64) -> usize
     17
 }
 
-fn bounds_of(t: &[f64]) -> Rect
+pub fn bounds_of(t: &[f64]) -> Rect
     requires { ⌜ 40 ≤ length (now t) ⌝ }
     ensures { λ r. ⌜ r ≡ F.boundsIn (now (t .entry)) ⌝ }
 {
@@ -219,6 +222,26 @@ fn any_hit(t: &[f64], n: usize, r: Rect) -> bool
         left -= 1;
     }
     false
+}
+
+// 1 where a is at most b.
+fn at_most(a: f64, b: f64) -> usize
+    ensures { λ r. ⌜ (r ≡ cond (le a b) 1 0) × (r ≤ 1) ⌝ }
+{
+    if a <= b {
+        return 1;
+    }
+    0
+}
+
+// Whether the bounds of the trace touch the box. A sum, since a branch for each side would often be guessed wrong.
+pub fn reaches(t: &[f64], r: Rect) -> bool
+    requires { ⌜ 40 ≤ length (now t) ⌝ }
+    ensures { λ x. ⌜ x ≡ touches (F.boundsIn (now (t .entry))) r ⌝ }
+{
+    let across = at_most(t[2], r.x1) + at_most(r.x0, t[4]);
+    let along = at_most(t[3], r.y1) + at_most(r.y0, t[5]);
+    across + along == 4
 }
 
 // Whether the trace meets the box.
