@@ -2,12 +2,12 @@
 
 use std::cell::Cell;
 
-use crate::counted;
-use crate::graph::Graph;
-use crate::layout::{Layout, LayoutKind, NODE_RADIUS, layout as place};
-use crate::route::{Anchor, Geometry, clutter as count, geometry, probe};
-use crate::sheet::{self, Sheet};
-use crate::svg;
+use super::counted;
+use super::graph::Graph;
+use super::layout::{Layout, LayoutKind, NODE_RADIUS, layout as place};
+use super::route::{Anchor, Geometry, clutter as count, geometry, probe};
+use super::sheet::{self, Sheet};
+use super::svg;
 
 thread_local! {
     static LARGEST_BOW: Cell<f64> = const { Cell::new(0.0) };

@@ -5,66 +5,41 @@ mod bench;
 mod calls;
 #[cfg(port = "murshogi")]
 mod compare;
+mod counted;
 mod differ;
 mod generate;
+mod graph;
+mod layout;
 mod random;
+#[cfg(all(port = "murshogi", not(test)))]
+mod rivals;
+mod root;
+mod route;
 mod sheet;
 mod standin;
+mod svg;
 mod vectors;
-
-/// The routing again, with its turns counted.
-#[allow(dead_code)]
-mod counted {
-    include!(concat!(env!("OUT_DIR"), "/counted.rs"));
-}
-
-#[allow(dead_code)]
-mod graph {
-    include!(concat!(env!("OUT_DIR"), "/graph.rs"));
-}
-
-#[allow(dead_code)]
-mod layout {
-    include!(concat!(env!("OUT_DIR"), "/layout.rs"));
-}
-
-#[allow(dead_code)]
-mod route {
-    include!(concat!(env!("OUT_DIR"), "/route.rs"));
-    pub mod probe;
-}
-
-#[allow(dead_code)]
-mod svg {
-    include!(concat!(env!("OUT_DIR"), "/svg.rs"));
-
-    /// The six numbers that an arrowhead writes.
-    pub fn head_points(tip: (f64, f64), angle: f64) -> [f64; 6] {
-        let (dx, dy) = (crate::standin::cos(angle), crate::standin::sin(angle));
-        let (bx, by) = (tip.0 - dx * ARROW_LENGTH, tip.1 - dy * ARROW_LENGTH);
-        let (nx, ny) = (-dy * ARROW_HALF_WIDTH, dx * ARROW_HALF_WIDTH);
-        [tip.0, tip.1, bx + nx, by + ny, bx - nx, by - ny]
-    }
-
-    pub fn head(tip: (f64, f64), angle: f64) -> String {
-        let mut out = String::new();
-        arrowhead(&mut out, tip, angle);
-        out
-    }
-}
 
 fn main() {
     let args: Vec<String> = std::env::args().skip(1).collect();
     let words: Vec<&str> = args.iter().map(String::as_str).collect();
     match words.as_slice() {
         ["vectors", file] => vectors::write(file),
-        ["bench", "root"] => bench::root(),
+        ["bench", "root"] => bench::roots(),
         ["bench", "check"] => bench::check(),
         ["differ", "route", count, seed] => differ::routings(count.parse().unwrap(), seed.parse().unwrap()),
         ["differ", "layout", count, seed] => differ::layouts(count.parse().unwrap(), seed.parse().unwrap()),
         ["list", kind] => list(kind.parse().unwrap_or(255)),
-        #[cfg(port = "murshogi")]
-        ["bench", "calls"] => bench::calls(),
+        #[cfg(all(port = "murshogi", not(test)))]
+        ["bench", "calls"] => bench::calls::print(),
+        #[cfg(all(port = "murshogi", not(test)))]
+        ["bench", "counts"] => bench::counts::print(),
+        #[cfg(all(port = "murshogi", not(test)))]
+        ["bench", "each"] => bench::counts::each(),
+        #[cfg(all(port = "murshogi", not(test)))]
+        ["bench", "stack"] => bench::stack::print(),
+        #[cfg(all(port = "murshogi", not(test)))]
+        ["bench", "sheet", name] => bench::calls::sheet_of(name),
         #[cfg(port = "murshogi")]
         ["compare", "routings", count, seed] => compare::routings(count.parse().unwrap(), seed.parse().unwrap()),
         #[cfg(port = "murshogi")]
@@ -72,7 +47,7 @@ fn main() {
         #[cfg(port = "murshogi")]
         ["compare", turns, seed] => compare::run(turns.parse().unwrap(), seed.parse().unwrap()),
         _ => {
-            eprintln!("usage: oracle vectors FILE | differ (route | layout) COUNT SEED | bench root | bench check | bench calls | list KIND < SHEET | compare [routings | layouts] COUNT SEED");
+            eprintln!("usage: oracle vectors FILE | differ (route | layout) COUNT SEED | bench (root | check | calls | counts | stack | sheet NAME) | list KIND < SHEET | compare [routings | layouts] COUNT SEED");
             std::process::exit(2);
         }
     }

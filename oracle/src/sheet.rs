@@ -1,6 +1,6 @@
 //! Method sheets, read and written from document 01's words alone.
 
-use crate::graph::{Edge, Graph, Node};
+use super::graph::{Edge, Graph, Node};
 
 pub const STATES: usize = 64;
 pub const ARROWS: usize = 256;
@@ -207,7 +207,7 @@ pub fn label_block(text: &[u8], lengths: &[usize]) -> Result<(f64, f64), u8> {
         lines.push(line.to_string());
         at += n;
     }
-    Ok(crate::route::label_size(&lines))
+    Ok(super::route::label_size(&lines))
 }
 
 #[cfg(test)]

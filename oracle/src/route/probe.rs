@@ -155,7 +155,7 @@ pub fn bend(from: usize, to: usize, centres: &[Point], both_ways: bool) -> f64 {
 
 /// 0 and the bow, or 9 where a two-way pair's first free bow exceeds 10^9.
 pub fn bow(from: usize, to: usize, centres: &[Point], both_ways: bool) -> (u8, f64) {
-    match crate::calls::bowed(|| bend(from, to, centres, both_ways)) {
+    match super::super::calls::bowed(|| bend(from, to, centres, both_ways)) {
         Ok(h) => (0, h),
         Err(n) => (n, 0.0),
     }
@@ -164,7 +164,7 @@ pub fn bow(from: usize, to: usize, centres: &[Point], both_ways: bool) -> (u8, f
 /// 0 or 9, the curve, the angle of its tip, and which side of it is outer, 0 for a line.
 pub fn between(from: usize, to: usize, centres: &[Point], both_ways: bool) -> (u8, Vec<Point>, f64, f64) {
     let pos: Vec<V> = centres.iter().map(|&c| v(c)).collect();
-    match crate::calls::bowed(|| super::between(0, from, to, &pos, both_ways, &[])) {
+    match super::super::calls::bowed(|| super::between(0, from, to, &pos, both_ways, &[])) {
         Ok(r) => {
             let outer = match r.shape {
                 Shape::Arc { outer } => outer,

@@ -1,0 +1,203 @@
+//! The calls, timed: the port's beside the Rust's over three sorts of float functions.
+
+use std::hint::black_box;
+use std::io::Write;
+use std::time::Duration;
+
+use crate::calls as hardware;
+use crate::generate::{Size, sheet, shuffled};
+use crate::random::Random;
+use crate::rivals::library::calls as library;
+use crate::rivals::whole::calls as whole;
+
+unsafe extern "C" {
+    fn clock_gettime(clock: i32, time: *mut [i64; 2]) -> i32;
+    fn murshogi_check(sheet: *const u8, length: usize) -> u8;
+    fn murshogi_layout(
+        sheet: *const u8, sheet_len: usize, kind: u8, x: *mut f64, x_len: usize, y: *mut f64,
+        y_len: usize, size: *mut f64, states: *mut usize,
+    ) -> u8;
+    fn murshogi_route(
+        sheet: *const u8, sheet_len: usize, x: *const f64, x_len: usize, y: *const f64,
+        y_len: usize, records: *mut f64, records_len: usize, text: *mut u8, text_len: usize,
+        lengths: *mut usize,
+    ) -> u8;
+    fn murshogi_list(
+        sheet: *const u8, sheet_len: usize, kind: u8, out: *mut u8, out_len: usize,
+        length: *mut usize,
+    ) -> u8;
+}
+
+#[derive(Clone, Copy)]
+pub enum Call {
+    Check,
+    Route,
+    Layout,
+    List,
+}
+
+pub const CALLS: [(Call, &str); 4] =
+    [(Call::Check, "check"), (Call::Route, "route"), (Call::Layout, "layout"), (Call::List, "list")];
+
+/// Who answers: the port, or the Rust over the stand-ins with roots by whole numbers, over the
+/// stand-ins with the hardware's root, over the library's functions with the hardware's root.
+#[derive(Clone, Copy)]
+pub enum Side {
+    Port,
+    Whole,
+    Hardware,
+    Library,
+}
+
+pub const SIDES: [Side; 4] = [Side::Port, Side::Whole, Side::Hardware, Side::Library];
+
+/// A sheet, the centres of its layout, and room for answers.
+pub struct Case {
+    pub name: &'static str,
+    sheet: Vec<u8>,
+    x: Vec<f64>,
+    y: Vec<f64>,
+    records: Vec<f64>,
+    text: Vec<u8>,
+}
+
+/// The three sheets: typical, middle, largest.
+pub fn cases() -> Vec<Case> {
+    let rng = &mut Random::new(19);
+    [
+        ("10 states, 20 arrows", 10, 20, 2),
+        ("30 states, 80 arrows", 30, 80, 3),
+        ("64 states, 256 arrows, 8 lines", 64, 256, 8),
+    ]
+    .into_iter()
+    .map(|(name, states, arrows, lines)| {
+        let s = sheet(rng, Size { states, arrows, lines, characters: 12 });
+        let sheet = shuffled(rng, &s);
+        let l = hardware::layout(&sheet, 0, 64, 64).unwrap();
+        let (records, text) = (vec![0.0; 5120], vec![0; 65_536]);
+        Case { name, sheet, x: l.x, y: l.y, records, text }
+    })
+    .collect()
+}
+
+/// Writes one of these sheets: typical, middle or largest.
+pub fn sheet_of(name: &str) {
+    let at = ["typical", "middle", "largest"].iter().position(|n| *n == name).unwrap();
+    std::io::stdout().write_all(&cases()[at].sheet).unwrap();
+}
+
+macro_rules! theirs {
+    ($calls:ident, $case:ident, $call:ident) => {
+        match $call {
+            Call::Check => $calls::check(&$case.sheet).err(),
+            Call::Route => $calls::route(&$case.sheet, &$case.x, &$case.y, (5120, 65_536)).err(),
+            Call::Layout => $calls::layout(&$case.sheet, 0, 64, 64).err(),
+            Call::List => $calls::list(&$case.sheet, 0, 65_536).err(),
+        }
+        .unwrap_or(0)
+    };
+}
+
+impl Case {
+    fn port(&mut self, call: Call) -> u8 {
+        let (s, n) = (self.sheet.as_ptr(), self.sheet.len());
+        let (text, room) = (self.text.as_mut_ptr(), self.text.len());
+        let (x, y) = (&self.x, &self.y);
+        let (mut nx, mut ny, mut size, mut lengths) = ([0.0; 64], [0.0; 64], [0.0; 2], [0; 2]);
+        unsafe {
+            match call {
+                Call::Check => murshogi_check(s, n),
+                Call::Route => murshogi_route(
+                    s, n, x.as_ptr(), x.len(), y.as_ptr(), y.len(), self.records.as_mut_ptr(),
+                    self.records.len(), text, room, lengths.as_mut_ptr(),
+                ),
+                Call::Layout => murshogi_layout(
+                    s, n, 0, nx.as_mut_ptr(), 64, ny.as_mut_ptr(), 64, size.as_mut_ptr(),
+                    lengths.as_mut_ptr(),
+                ),
+                Call::List => murshogi_list(s, n, 0, text, room, lengths.as_mut_ptr()),
+            }
+        }
+    }
+
+    /// The answer: 0, or a refusal's number.
+    pub fn run(&mut self, side: Side, call: Call) -> u8 {
+        match side {
+            Side::Port => self.port(call),
+            Side::Whole => theirs!(whole, self, call),
+            Side::Hardware => theirs!(hardware, self, call),
+            Side::Library => theirs!(library, self, call),
+        }
+    }
+
+    /// Microseconds a call, over ten milliseconds at the least.
+    fn timed(&mut self, side: Side, call: Call) -> f64 {
+        let start = spent();
+        let mut calls = 0;
+        while calls == 0 || (spent() - start).as_millis() < 10 {
+            assert!(black_box(self.run(side, call)) == 0);
+            calls += 1;
+        }
+        (spent() - start).as_nanos() as f64 / 1000.0 / f64::from(calls)
+    }
+}
+
+/// The processor's time that this thread has had: what others take of a shared machine is not in it.
+fn spent() -> Duration {
+    const THREAD: i32 = 3;
+    let mut t = [0; 2];
+    assert!(unsafe { clock_gettime(THREAD, &mut t) } == 0);
+    Duration::new(t[0] as u64, t[1] as u32)
+}
+
+const ROUNDS: usize = 15;
+
+/// The median of several rounds, in each of which the four take their turns.
+fn medians(case: &mut Case, call: Call) -> [f64; 4] {
+    let mut times = [[0.0; ROUNDS]; 4];
+    for round in 0..ROUNDS {
+        for (list, side) in times.iter_mut().zip(SIDES) {
+            list[round] = case.timed(side, call);
+        }
+    }
+    times.map(|mut list| {
+        list.sort_by(f64::total_cmp);
+        list[ROUNDS / 2]
+    })
+}
+
+/// A number with three digits, thousands apart.
+pub fn figure(v: f64) -> String {
+    if v < 100.0 {
+        return format!("{v:.1}");
+    }
+    let digits = format!("{v:.0}");
+    let mut out = String::new();
+    for (i, c) in digits.chars().enumerate() {
+        if i > 0 && (digits.len() - i).is_multiple_of(3) {
+            out.push(',');
+        }
+        out.push(c);
+    }
+    out
+}
+
+/// A table: a row for each sheet and call, what the port takes, and what the Rust takes with its ratio to that.
+pub fn table(unit: &str, mut row: impl FnMut(usize, usize) -> [f64; 4]) {
+    println!("| sheet | call | port, {unit} | Rust, stand-ins | the same, hardware's root | Rust, library's functions |");
+    println!("|---|---|---|---|---|---|");
+    for (i, case) in cases().iter().enumerate() {
+        for (j, (_, call)) in CALLS.iter().enumerate() {
+            let [port, theirs @ ..] = row(i, j);
+            let name = if j == 0 { case.name } else { "" };
+            let cells = theirs.map(|t| format!("{} ({:.2})", figure(t), t / port)).join(" | ");
+            println!("| {name} | {call} | {} | {cells} |", figure(port));
+        }
+    }
+}
+
+/// The table of times.
+pub fn print() {
+    let mut cases = cases();
+    table("µs", |i, j| medians(&mut cases[i], CALLS[j].0));
+}

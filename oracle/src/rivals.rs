@@ -1,0 +1,6 @@
+//! The Rust twice more, for times: the same sources over other float functions.
+
+#![allow(dead_code)]
+
+pub mod library;
+pub mod whole;
