@@ -1,21 +1,20 @@
 -- One turn of each walk.
-use mathlib.Core.Path.{_≡_, refl, sym, ap, _∙_}
-use mathlib.Core.Bool.{Bool, true, false, not, _||_}
-use mathlib.Core.List.{List, [], _∷_, _++_, map, flatMap, append-nil}
-use Prim.Native.Nat.{ℕ, zero, suc, _+_, _-_, _*_, _≤_, _<_, min}
+use mathlib.Core.Path.{_≡_, refl, sym, ap, ap₂, _∙_}
+use mathlib.Core.Bool.{Bool, true, false, not}
+use mathlib.Core.List.{List, map, flatMap}
+use Prim.Native.Nat.{ℕ, _+_, _-_, _*_, _≤_, _<_}
 use native.Mathlib.Omega.{arith}
-use lib.ListN.{length, take, drop, length-append, length-take, length-drop}
+use lib.ListN.{length, take, drop, set, length-append, length-take, length-drop, length-set, length-map}
 use Rattle.text.specs.Automaton.{feedAll}
 use Rattle.text.specs.Table.{feedAll-join, well-formed-is}
-use Rattle.sheet.specs.Sheet.{chainBy, next, piece, byteOne, count, firstText, firstArrow, lineOf, linesFrom, Arrow, arrowOf, arrowsOf}
+use Rattle.sheet.specs.Sheet.{chainBy, next, piece, byteOne, count, firstText, firstArrow, lineOf, linesFrom, Arrow, arrowOf, arrowsOf, chain, firstLine, firstState, statesOf, meaning}
 use Rattle.sheet.specs.Refusals.{any, longLine, largeArrow, overLimits, illLine, illArrow}
-use Rattle.sheet.specs.Sheet.{chain, firstLine, firstState, statesOf, meaning}
 use Rattle.sheet.specs.declared.Limits.{Limits}
 use borrow.Author.Tests.{lt-ltb, le-ltb}
 use lib.Dec.{ltb, eqb}
-use lib.ListN.{length-map}
 use Rattle.laws.specs.Loops.{over}
-use Rattle.sheet.specs.Chains.{chain-end, chain-cut, chain-turn}
+use Rattle.sheet.specs.Chains.{chain-end, chain-cut, chain-turn, put-end, put-cut, put-turn}
+use Rattle.laws.specs.Put.{put}
 
 module _ (s : List ℕ) (n i k : ℕ) where
   pub length-end : i ≡ 0 → k ≡ k + length (chainBy s n i)
@@ -136,3 +135,24 @@ count-states s f n e q = q ∙ ap (λ (j : ℕ). length (chain s j)) e ∙ sym (
 pub count-arrows : (s : List ℕ) (f n : ℕ) → f ≡ firstArrow s → n ≡ length (chain s f) → n ≡ length (arrowsOf s)
 unfolding arrowsOf
 count-arrows s f n e q = q ∙ ap (λ (j : ℕ). length (chain s j)) e ∙ sym (length-map (chain s (firstArrow s)) (arrowOf s))
+
+-- ---- a value of each record of a chain, stored from place 0 on: where the loop stands at record i with place k, at its start, after a turn and at its ends
+pub record Fills (s : List ℕ) (f : ℕ → ℕ) (all out₀ out : List ℕ) (i left k : ℕ) : Type 0 where
+  pub rest : put out k (map f (chainBy s left i)) ≡ put out₀ 0 all
+  pub same : length out ≡ length out₀
+
+pub fills-start : {s : List ℕ} {f : ℕ → ℕ} {out : List ℕ} {i j m : ℕ} → i ≡ j → m ≡ count s → Fills s f (map f (chain s j)) out out i (m + 1) 0
+fills-start {s} {f} {out} e q = record { rest = ap₂ (λ (i : ℕ) (m : ℕ). put out 0 (map f (chainBy s (m + 1) i))) e q; same = refl }
+
+module _ {s : List ℕ} {f : ℕ → ℕ} {all out₀ out : List ℕ} {i left k : ℕ} (x : Fills s f all out₀ out i left k) where
+  pub fills-cut : left ≡ 0 → out ≡ put out₀ 0 all
+  fills-cut e = put-cut s f left i k out e ∙ x .rest
+
+  pub fills-end : i ≡ 0 → out ≡ put out₀ 0 all
+  fills-end e = put-end s f left i k out e ∙ x .rest
+
+  pub fills-turn : {v j : ℕ} {out′ : List ℕ} → (left ≡ 0 → ⊥) → (i ≡ 0 → ⊥) → v ≡ f i → out′ ≡ set out k v → j ≡ next s i → Fills s f all out₀ out′ j (left - 1) (k + 1)
+  fills-turn {v} h e q r n = record {
+    rest = ap₂ (λ (l : List ℕ) (j : ℕ). put l (k + 1) (map f (chainBy s (left - 1) j))) (r ∙ ap (set out k) q) n ∙ put-turn s f left i k out h e ∙ x .rest;
+    same = ap length r ∙ length-set out k v ∙ x .same;
+  }

@@ -2,10 +2,10 @@
 use mathlib.Core.Path.{_≡_, refl, sym, ap, _∙_}
 use mathlib.Core.Bool.{Bool, true, false, cond}
 use mathlib.Core.List.{List, [], _∷_, map}
-use Prim.Native.Nat.{ℕ, zero, suc, _+_, _*_, _<_}
+use Prim.Native.Nat.{ℕ, zero, suc, _<_}
 use native.Mathlib.Nat.{not-suc-le-zero, le-of-suc-le-suc}
 use lib.ListN.{length, getD, length-map}
-use Rattle.sheet.specs.Sheet.{firstLine, Arrow, Graph, chain, arrowChain, fromOf, toOf, arrowOf, arrowsOf, linesFrom, meaning}
+use Rattle.sheet.specs.Sheet.{firstLine, Arrow, Graph, arrowChain, fromOf, toOf, arrowOf, arrowsOf, linesFrom, meaning}
 
 -- an end of arrow record k: the state that it leads to, or the one that it leaves
 abbrev pub endOf : List ℕ → Bool → ℕ → ℕ

@@ -1,13 +1,12 @@
 -- The walk, one record and one chain at a time.
 use mathlib.Core.Path.{_≡_, refl, sym, ap, _∙_}
-use mathlib.Core.Bool.{Bool, true, false, cond, _&&_, true≢false}
-use mathlib.Core.List.{List, [], _∷_, _++_, map, flatMap}
-use Prim.Native.Nat.{ℕ, zero, suc, _+_, _-_, _*_, _≤_, _<_}
+use mathlib.Core.Bool.{Bool, true, false, cond, true≢false}
+use mathlib.Core.List.{List, [], _∷_, _++_, flatMap}
+use Prim.Native.Nat.{ℕ, zero, suc, _+_, _-_, _≤_, _<_}
 use lib.ListN.{length, getD, set, List·getD-eq-default}
 use native.Mathlib.Nat.{not-suc-le-zero, le-of-suc-le-suc}
 use borrow.Author.Tests.{lt-leb, le-leb, eq-eqb, ne-eqb}
-use Rattle.laws.specs.Cases.{by-bool}
-use Rattle.sheet.specs.Sheet.{kindOf, chainBy, chain, next, count, Met, meet, metAlone, metLine, metArrow, met, firstText, firstLine, firstState, firstArrow}
+use Rattle.sheet.specs.Sheet.{kindOf, chainBy, chain, next, count, Met, metAlone, metArrow, met, firstState, firstArrow}
 use Rattle.sheet.specs.Chains.{chain-end, chain-cut, chain-turn}
 use Rattle.walk.specs.Walk.{At, at, fresh, walk}
 
@@ -32,24 +31,36 @@ walk-stop s (x ∷ xs) ys m m′ e = go (fresh s x m) refl (λ q. walk-stop s xs
     go true f r = rw f (r (rw f at e))
     go false f r = rw f (rw f at e)
 
--- ---- a chain: f is what meeting a record brings
-module _ (s : List ℕ) (f : ℕ → List Met) (n i : ℕ) (m : List ℕ) where
-  pub chain-over : i ≡ 0 → at true m ≡ walk s (flatMap f (chainBy s n i)) m
+-- ---- a chain: f is what meeting a record brings. Where the loop stands at record i with the marks m, at its start, after a turn and at its ends
+pub record Walks (s : List ℕ) (f : ℕ → List Met) (first : ℕ) (m₀ m : List ℕ) (i n : ℕ) : Type 0 where
+  pub rest : walk s (flatMap f (chainBy s n i)) m ≡ walk s (flatMap f (chain s first)) m₀
+  pub same : length m ≡ length m₀
+
+pub walks-start : {s : List ℕ} {f : ℕ → List Met} {i : ℕ} {m : List ℕ} {n : ℕ} → n ≡ count s → Walks s f i m m i (n + 1)
+walks-start {s} {f} {i} {m} e = record { rest = ap (λ (n : ℕ). walk s (flatMap f (chainBy s (n + 1) i)) m) e; same = refl }
+
+module _ {s : List ℕ} {f : ℕ → List Met} {first : ℕ} {m₀ m : List ℕ} {i n : ℕ} (x : Walks s f first m₀ m i n) where
+  pub walks-end : i ≡ 0 → at true m ≡ walk s (flatMap f (chain s first)) m₀
   unfolding flatMap walk
-  chain-over e = rw (chain-end s n i e)
+  walks-end e = rw (chain-end s n i e) at (x .rest)
 
-  pub chain-short : n ≡ 0 → at true m ≡ walk s (flatMap f (chainBy s n i)) m
+  pub walks-cut : n ≡ 0 → at true m ≡ walk s (flatMap f (chain s first)) m₀
   unfolding flatMap walk
-  chain-short e = rw (chain-cut s n i e)
+  walks-cut e = rw (chain-cut s n i e) at (x .rest)
 
-  module _ (m′ : List ℕ) (h : n ≡ 0 → ⊥) (e : i ≡ 0 → ⊥) (b : Bool) (q : at b m′ ≡ walk s (f i) m) where
-    pub chain-on : b ≡ true → walk s (flatMap f (chainBy s (n - 1) (next s i))) m′ ≡ walk s (flatMap f (chainBy s n i)) m
+  module _ {m′ : List ℕ} {b : Bool} (h : n ≡ 0 → ⊥) (e : i ≡ 0 → ⊥) (q : at b m′ ≡ walk s (f i) m) where
+    turned : walk s (f i ++ flatMap f (chainBy s (n - 1) (next s i))) m ≡ walk s (flatMap f (chain s first)) m₀
     unfolding flatMap
-    chain-on t = rw (chain-turn s n i h e) (walk-then s (f i) (flatMap f (chainBy s (n - 1) (next s i))) m m′ (rw t at q))
+    turned = rw (chain-turn s n i h e) at (x .rest)
 
-    pub chain-bad : b ≡ false → at false m′ ≡ walk s (flatMap f (chainBy s n i)) m
-    unfolding flatMap
-    chain-bad t = rw (chain-turn s n i h e) (walk-stop s (f i) (flatMap f (chainBy s (n - 1) (next s i))) m m′ (rw t at q))
+    pub walks-turn : {j : ℕ} → b ≡ true → j ≡ next s i → length m′ ≡ length m → Walks s f first m₀ m′ j (n - 1)
+    walks-turn t r l = record {
+      rest = rw r (walk-then s (f i) (flatMap f (chainBy s (n - 1) (next s i))) m m′ (rw t at q) ∙ turned);
+      same = l ∙ x .same;
+    }
+
+    pub walks-stop : b ≡ false → at false m′ ≡ walk s (flatMap f (chain s first)) m₀
+    walks-stop t = walk-stop s (f i) (flatMap f (chainBy s (n - 1) (next s i))) m m′ (rw t at q) ∙ turned
 
 -- ---- one record
 pub getD-any : (l : List ℕ) (i d e : ℕ) → i < length l → getD l i d ≡ getD l i e
@@ -80,32 +91,20 @@ module _ (s : List ℕ) (k i : ℕ) (m : List ℕ) where
       unfolding walk fresh
       meet-first l g = rw (le-leb i (count s) h, eq-eqb (kindOf s i) k e, getD-any m i 1 0 l, g)
 
--- ---- a record and the chain that it begins
-module _ (s : List ℕ) (i : ℕ) (m m′ : List ℕ) (b : Bool) where
-  pub line-bad : b ≡ false → at b m′ ≡ walk s (metAlone 3 i) m → at false m′ ≡ walk s (metLine s i) m
-  unfolding metLine
-  line-bad t q = walk-stop s (metAlone 3 i) (flatMap (metAlone 4) (chain s (firstText s i))) m m′ (rw t at q)
+-- ---- records that are met, and then a chain
+module _ (s : List ℕ) (xs : List Met) (f : ℕ → List Met) (first : ℕ) (m m′ : List ℕ) (b : Bool) (q : at b m′ ≡ walk s xs m) where
+  pub then-bad : b ≡ false → at false m′ ≡ walk s (xs ++ flatMap f (chain s first)) m
+  then-bad t = walk-stop s xs (flatMap f (chain s first)) m m′ (rw t at q)
 
-  pub line-on : (f : ℕ) (a : At) → b ≡ true → at b m′ ≡ walk s (metAlone 3 i) m → f ≡ firstText s i → a ≡ walk s (flatMap (metAlone 4) (chain s f)) m′ → a ≡ walk s (metLine s i) m
-  unfolding metLine
-  line-on f a t q e r = r ∙ ap (λ (j : ℕ). walk s (flatMap (metAlone 4) (chain s j)) m′) e ∙ walk-then s (metAlone 3 i) (flatMap (metAlone 4) (chain s (firstText s i))) m m′ (rw t at q)
-
-  pub arrow-bad : b ≡ false → at b m′ ≡ walk s (metAlone 2 i) m → at false m′ ≡ walk s (metArrow s i) m
-  unfolding metArrow
-  arrow-bad t q = walk-stop s (metAlone 2 i) (flatMap (metLine s) (chain s (firstLine s i))) m m′ (rw t at q)
-
-  pub arrow-on : (f : ℕ) (a : At) → b ≡ true → at b m′ ≡ walk s (metAlone 2 i) m → f ≡ firstLine s i → a ≡ walk s (flatMap (metLine s) (chain s f)) m′ → a ≡ walk s (metArrow s i) m
-  unfolding metArrow
-  arrow-on f a t q e r = r ∙ ap (λ (j : ℕ). walk s (flatMap (metLine s) (chain s j)) m′) e ∙ walk-then s (metAlone 2 i) (flatMap (metLine s) (chain s (firstLine s i))) m m′ (rw t at q)
+  pub then-on : (j : ℕ) (a : At) → b ≡ true → j ≡ first → a ≡ walk s (flatMap f (chain s j)) m′ → a ≡ walk s (xs ++ flatMap f (chain s first)) m
+  then-on j a t e r = r ∙ ap (λ (j : ℕ). walk s (flatMap f (chain s j)) m′) e ∙ walk-then s xs (flatMap f (chain s first)) m m′ (rw t at q)
 
 -- ---- both chains
 module _ (s : List ℕ) (m m′ : List ℕ) (b : Bool) (f : ℕ) (e : f ≡ firstState s) (q : at b m′ ≡ walk s (flatMap (metAlone 1) (chain s f)) m) where
   pub all-bad : b ≡ false → at false m′ ≡ walk s (met s) m
   unfolding met
-  all-bad t = walk-stop s (flatMap (metAlone 1) (chain s (firstState s))) (flatMap (metArrow s) (chain s (firstArrow s))) m m′ (rw (t, e) at q)
+  all-bad = then-bad s (flatMap (metAlone 1) (chain s (firstState s))) (metArrow s) (firstArrow s) m m′ b (rw e at q)
 
   pub all-on : (g : ℕ) (a : At) → b ≡ true → g ≡ firstArrow s → a ≡ walk s (flatMap (metArrow s) (chain s g)) m′ → a ≡ walk s (met s) m
   unfolding met
-  all-on g a t d r =
-      r ∙ ap (λ (j : ℕ). walk s (flatMap (metArrow s) (chain s j)) m′) d
-      ∙ walk-then s (flatMap (metAlone 1) (chain s (firstState s))) (flatMap (metArrow s) (chain s (firstArrow s))) m m′ (rw (t, e) at q)
+  all-on = then-on s (flatMap (metAlone 1) (chain s (firstState s))) (metArrow s) (firstArrow s) m m′ b (rw e at q)

@@ -1,12 +1,8 @@
-use mathlib.Core.Path.{_≡_, refl, sym, _∙_, ap, ap₂}
-use mathlib.Core.List.{List, map}
-use Prim.Native.Nat.{ℕ, _+_, _-_, _*_, _<_, _≤_}
+use mathlib.Core.Path.{_≡_, ap}
+use Prim.Native.Nat.{_+_, _<_}
 use native.Mathlib.Omega.{arith}
-use lib.ListN.{length, set}
-use denote.Ref.{now}
-use Rattle.laws.specs.Put.{put}
-use Rattle.sheet.specs.Sheet.{chainBy, count, byteOne, firstLine, firstState, firstArrow, statesOf, arrowChain}
-use Rattle.sheet.specs.Chains.{put-end, put-cut, put-turn}
+use Rattle.sheet.specs.Sheet.{count, byteOne, statesOf}
+use Rattle.meaning.proofs.Laws.{Fills, fills-start, fills-cut, fills-end, fills-turn}
 use borrow.Author.Needs.{needs}
 use Rattle.meaning.proofs.flags_into.Statement.{statement}
 use Rattle.meaning.proofs.flags_into.Tie as tie
@@ -19,7 +15,7 @@ use Rattle.reader.proofs.record_of.Reads as record-of-reads
 use Rattle.sheet.proofs.word_at.Reads as word-at-reads
 
 abbrev Inv-loop : tie.InvT-loop
-Inv-loop s out₀ i₀ left₀ k₀ out i left k = (put out k (map (byteOne s) (chainBy s left i)) ≡ put out₀ 0 (statesOf s)) × (k + left ≡ count s + 1) × (i < 65536) × (count s < 65536) × (length out ≡ length out₀)
+Inv-loop s out₀ i₀ left₀ k₀ out i left k = Fills s (byteOne s) (statesOf s) out₀ out i left k × (k + left ≡ count s + 1) × (i < 65536) × (count s < 65536)
 
 abbrev μ-loop : tie.MeasureT-loop
 μ-loop s out₀ i₀ left₀ k₀ out i left k = left
@@ -35,15 +31,13 @@ add-left c = search needs
 
 loop-holds : tie.Need-loop-holds Inv-loop μ-loop
 unfolding statesOf
-loop-holds c =
-    let s = now (c .before .before .before .before .args .s) in
-    (ap₂ (λ (i : ℕ) (m : ℕ). put (now (c .before .before .before .before .args .out)) 0 (map (byteOne s) (chainBy s (m + 1) i))) (c .before .word-at .ensures .0) (c .word-at2 .ensures .0), omega arith, omega arith, omega arith, refl)
+loop-holds c = (fills-start (c .before .word-at .ensures .0) (c .word-at2 .ensures .0), omega arith, omega arith, omega arith)
 
 same-length : tie.Need-same-length Inv-loop μ-loop
-same-length c = c .before .before .loop .inv .4
+same-length c = c .before .before .loop .inv .0 .same
 
 returns : tie.Need-returns Inv-loop μ-loop
-returns c = put-cut (now (c .before .before .before .before .before .before .before .args .s)) (byteOne (now (c .before .before .before .before .before .before .before .args .s))) (c .before .before .loop .left) (c .before .before .loop .i) (c .before .before .loop .k) (c .before .before .loop .out) (c .if1 .taken) ∙ c .before .before .loop .inv .0
+returns c = fills-cut (c .before .before .loop .inv .0) (c .if1 .taken)
 
 record-of-requires : tie.Need-record-of-requires Inv-loop μ-loop
 record-of-requires c κs = search needs
@@ -67,22 +61,13 @@ loop-less : tie.Need-loop-less Inv-loop μ-loop
 loop-less c = search needs
 
 loop-again : tie.Need-loop-again Inv-loop μ-loop
-loop-again c =
-    let s = now (c .before .before .before .before .before .before .before .before .before .before .before .before .before .before .args .s) in (
-      ap₂ (λ (l : List ℕ) (j : ℕ). put l (c .before .before .before .before .before .before .before .before .before .loop .k + 1) (map (byteOne s) (chainBy s (c .before .before .before .before .before .before .before .before .before .loop .left - 1) j))) (c .before .before .before .store-u8 .ensures ∙ ap (set (c .before .before .before .before .before .before .before .before .before .loop .out) (c .before .before .before .before .before .before .before .before .before .loop .k)) (ap (λ (x : Record). x .one) (c .before .before .before .before .before .before .record-of .ensures .0))) (c .next-of .ensures .0)
-          ∙ put-turn s (byteOne s) (c .before .before .before .before .before .before .before .before .before .loop .left) (c .before .before .before .before .before .before .before .before .before .loop .i) (c .before .before .before .before .before .before .before .before .before .loop .k) (c .before .before .before .before .before .before .before .before .before .loop .out) (c .before .before .before .before .before .before .before .if1 .left) (c .before .before .before .before .before .before .before .before .loop-test .taken)
-          ∙ c .before .before .before .before .before .before .before .before .before .loop .inv .0,
-      omega arith,
-      omega arith,
-      omega arith,
-      c .before .before .before .store-u8 .kept .0 ∙ c .before .before .before .before .before .before .before .before .before .loop .inv .4,
-    )
+loop-again c = (fills-turn (c .before .before .before .before .before .before .before .before .before .loop .inv .0) (c .before .before .before .before .before .before .before .if1 .left) (c .before .before .before .before .before .before .before .before .loop-test .taken) (ap (λ (x : Record). x .one) (c .before .before .before .before .before .before .record-of .ensures .0)) (c .before .before .before .store-u8 .ensures) (c .next-of .ensures .0), omega arith, omega arith, omega arith)
 
 same-length-2 : tie.Need-same-length-2 Inv-loop μ-loop
-same-length-2 c = c .before .loop .inv .4
+same-length-2 c = c .before .loop .inv .0 .same
 
 returns-2 : tie.Need-returns-2 Inv-loop μ-loop
-returns-2 c = put-end (now (c .before .before .before .before .before .before .args .s)) (byteOne (now (c .before .before .before .before .before .before .args .s))) (c .before .loop .left) (c .before .loop .i) (c .before .loop .k) (c .before .loop .out) (c .loop-test .left) ∙ c .before .loop .inv .0
+returns-2 c = fills-end (c .before .loop .inv .0) (c .loop-test .left)
 
 pub flags-into-spec : {M : Type 1} → statement M
 flags-into-spec =

@@ -2,7 +2,8 @@ use mathlib.Core.Path.{ap}
 use borrow.Author.Tests.{not-true, not-false}
 use denote.Ref.{now}
 use Rattle.walk.specs.Walk.{at}
-use Rattle.walk.proofs.Laws.{arrow-bad, arrow-on}
+use Rattle.sheet.specs.Sheet.{metAlone, metLine, metArrow, firstLine}
+use Rattle.walk.proofs.Laws.{then-bad, then-on}
 use borrow.Author.Needs.{needs}
 use Rattle.walk.proofs.visit_arrow.Statement.{statement}
 use Rattle.walk.proofs.visit_arrow.Tie as tie
@@ -20,7 +21,11 @@ same-length : tie.Need-same-length
 same-length c = search needs
 
 returns : tie.Need-returns
-returns c = arrow-bad (now (c .before .before .before .before .before .before .before .args .s)) (c .before .before .before .before .before .before .before .args .i) (now (c .before .before .before .before .before .before .before .args .marks)) (c .before .before .before .meet .last .1 .1 .1 .0) (c .before .before .before .meet .result) (not-true _ (c .if1 .taken)) (c .before .before .before .meet .ensures)
+unfolding metArrow
+returns c =
+    let s = now (c .before .before .before .before .before .before .before .args .s) in
+    let i = c .before .before .before .before .before .before .before .args .i in
+    then-bad s (metAlone 2 i) (metLine s) (firstLine s i) (now (c .before .before .before .before .before .before .before .args .marks)) (c .before .before .before .meet .last .1 .1 .1 .0) (c .before .before .before .meet .result) (c .before .before .before .meet .ensures) (not-true _ (c .if1 .taken))
 
 record-of-requires : tie.Need-record-of-requires
 record-of-requires c κs = search needs
@@ -32,7 +37,11 @@ same-length-2 : tie.Need-same-length-2
 same-length-2 c = search needs
 
 returns-2 : tie.Need-returns-2
-returns-2 c = arrow-on (now (c .before .before .before .before .before .before .before .before .before .before .before .before .args .s)) (c .before .before .before .before .before .before .before .before .before .before .before .before .args .i) (now (c .before .before .before .before .before .before .before .before .before .before .before .before .args .marks)) (c .before .before .before .before .before .before .before .before .meet .last .1 .1 .1 .0) (c .before .before .before .before .before .before .before .before .meet .result) (c .before .before .before .before .record-of .result .word8) (at (c .before .before .walk-lines .result) (c .before .before .walk-lines .last .1 .1 .0)) (not-false _ (c .before .before .before .before .before .if1 .left)) (c .before .before .before .before .before .before .before .before .meet .ensures) (ap (λ (x : Record). x .word8) (c .before .before .before .before .record-of .ensures .0)) (c .before .before .walk-lines .ensures)
+unfolding metArrow
+returns-2 c =
+    let s = now (c .before .before .before .before .before .before .before .before .before .before .before .before .args .s) in
+    let i = c .before .before .before .before .before .before .before .before .before .before .before .before .args .i in
+    then-on s (metAlone 2 i) (metLine s) (firstLine s i) (now (c .before .before .before .before .before .before .before .before .before .before .before .before .args .marks)) (c .before .before .before .before .before .before .before .before .meet .last .1 .1 .1 .0) (c .before .before .before .before .before .before .before .before .meet .result) (c .before .before .before .before .before .before .before .before .meet .ensures) (c .before .before .before .before .record-of .result .word8) (at (c .before .before .walk-lines .result) (c .before .before .walk-lines .last .1 .1 .0)) (not-false _ (c .before .before .before .before .before .if1 .left)) (ap (λ (x : Record). x .word8) (c .before .before .before .before .record-of .ensures .0)) (c .before .before .walk-lines .ensures)
 
 pub visit-arrow-spec : {M : Type 1} → statement M
 visit-arrow-spec =
