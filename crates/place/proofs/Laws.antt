@@ -4,6 +4,7 @@ use mathlib.Core.Bool.{Bool, true, false, cond, _&&_}
 use mathlib.Core.List.{List}
 use Prim.Native.Nat.{ℕ, _+_, _*_, _<_}
 use native.Mathlib.Omega.{arith}
+use lib.Dec.{eqb}
 use lib.ListN.{length}
 use lib.Ieee.{Float, binary64, isNan, ofBits, round, size, span, climb, units, odd, sum}
 use lib.Ieee as Ieee
@@ -19,9 +20,10 @@ use Rattle.float.specs.Signs.{is-num}
 use Rattle.float.specs.RootLaws.{hypot-below-26}
 use Rattle.shape.specs.declared.«V».{«V»}
 use Rattle.shape.specs.declared.Rect.{Rect}
-use Rattle.shape.specs.Plane.{vec, outside, boxDist}
+use Rattle.shape.specs.Plane.{vec, overlaps, outside, boxDist}
 use Rattle.trace.specs.Traces.{Trace, foreign, hitsRect}
 use Rattle.trace.specs.Form.{decodeRect, decodeTrace}
+use Rattle.trace.specs.Reach.{four-hold}
 use Rattle.spot.specs.declared.Turn.{Turn}
 use Rattle.spot.specs.declared.Geometry.{Geometry}
 use Rattle.spot.specs.Spots.{spotCount, spot-count}
@@ -57,6 +59,14 @@ near-is b c dx dy t e₁ e₂ e₃ =
     let oy = outside-num (b .y0) (b .y1) (c .y) in
     sym e₃
     ∙ rw (e₁, e₂) (sym (ap (lt (boxDist b c)) radius ∙ hypot-below-26 (outside (b .x0) (b .x1) (c .x)) (outside (b .y0) (b .y1) (c .y)) ox oy))
+
+-- ---- a box
+
+pub over-is : (a b : Rect) (p q u v : ℕ)
+    → p ≡ cond (lt (a .x0) (b .x1)) 1 0 → q ≡ cond (lt (b .x0) (a .x1)) 1 0 → u ≡ cond (lt (a .y0) (b .y1)) 1 0 → v ≡ cond (lt (b .y0) (a .y1)) 1 0
+    → eqb (p + q + (u + v)) 4 ≡ overlaps a b
+unfolding overlaps
+over-is a b p q u v e f g h = rw (e, f, g, h) (four-hold (lt (a .x0) (b .x1)) (lt (b .x0) (a .x1)) (lt (a .y0) (b .y1)) (lt (b .y0) (a .y1)))
 
 -- ---- a trace
 

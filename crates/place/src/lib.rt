@@ -14,7 +14,8 @@ ghost use Rattle.laws.specs.Best.{cut-total};
 ghost use Rattle.laws.specs.Counting.{number, worth};
 ghost use Rattle.laws.specs.Flat.{part};
 ghost use Rattle.laws.specs.Put.{put};
-ghost use Rattle.shape.specs.Plane.{vec};
+ghost use Rattle.float.specs.Ops.{lt};
+ghost use Rattle.shape.specs.Plane.{overlaps, vec};
 ghost use Rattle.free.specs.Centres.{centres};
 ghost use Rattle.trace.specs.Form.{decodeRect, decodeTrace, decodeTraces};
 ghost use Rattle.spot.specs.Spots.{upper, spotCount};
@@ -67,10 +68,29 @@ fn state_add(b: Rect, x: f64, y: f64) -> usize
     0
 }
 
+// 1 where a is below b.
+fn below(a: f64, b: f64) -> usize
+    ensures { λ r. ⌜ (r ≡ cond (lt a b) 1 0) × (r ≤ 1) ⌝ }
+{
+    if a < b {
+        return 1;
+    }
+    0
+}
+
+// `Rect::overlaps` by a sum, since a branch for each side would often be guessed wrong.
+fn over(a: Rect, b: Rect) -> bool
+    ensures { λ r. ⌜ r ≡ overlaps a b ⌝ }
+{
+    let across = below(a.x0, b.x1) + below(b.x0, a.x1);
+    let along = below(a.y0, b.y1) + below(b.y0, a.y1);
+    across + along == 4
+}
+
 fn box_add(apart: Rect, o: Rect) -> usize
     ensures { λ r. ⌜ (r ≡ worth (S.overlapping apart) 6 o) × (r ≤ 6) ⌝ }
 {
-    if o.overlaps(apart) {
+    if over(o, apart) {
         return 6;
     }
     0

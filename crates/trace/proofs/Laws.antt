@@ -21,6 +21,7 @@ use Rattle.shape.specs.declared.Curve.the-variants.{Quad, Cubic}
 use Rattle.shape.specs.Plane.{vec, touches, spanning}
 use Rattle.trace.specs.Traces.{sample, ownerOf, isArrow, foreign, extended, noBounds, boundsOf, traceOf, anySegment, anyPoint, segmentHits, hitsRect, pairCross, segmentCrosses, crosses, pointNear, near}
 use Rattle.trace.specs.Form.{wholeOf, pointsIn, boundsIn, decodePoints, pointIn, pointsOf, decodeTrace, header, samplesIn, sampleAt}
+use Rattle.trace.specs.Reach.{four-hold}
 use Rattle.trace.specs.Forms.{whole-back, samples-at, points-in}
 
 down : (k : ℕ) → suc k - 1 ≡ k
@@ -135,30 +136,11 @@ module _ (l : List Float) (a b : «V») (ab q : Rect) (s : Bool) (i : ab ≡ spa
   unfolding segmentCrosses decodeTrace
   segment-off h = and-off s (touches (spanning a b) (boundsIn l)) _ (f ∙ ap₂ touches i e) h
 
--- four tests, each counted as 1 or 0
-four : (a b c d : Bool) → eqb (cond a 1 0 + cond b 1 0 + (cond c 1 0 + cond d 1 0)) 4 ≡ (a && b && c && d)
-four false false false false = refl
-four false false false true = refl
-four false false true false = refl
-four false false true true = refl
-four false true false false = refl
-four false true false true = refl
-four false true true false = refl
-four false true true true = refl
-four true false false false = refl
-four true false false true = refl
-four true false true false = refl
-four true false true true = refl
-four true true false false = refl
-four true true false true = refl
-four true true true false = refl
-four true true true true = refl
-
 pub reach-is : (l : List Float) (r : Rect) (p q u v : ℕ)
     → p ≡ cond (le (getD l 2 nan) (r .x1)) 1 0 → q ≡ cond (le (r .x0) (getD l 4 nan)) 1 0 → u ≡ cond (le (getD l 3 nan) (r .y1)) 1 0 → v ≡ cond (le (r .y0) (getD l 5 nan)) 1 0
     → eqb (p + q + (u + v)) 4 ≡ touches (boundsIn l) r
 unfolding touches
-reach-is l r p q u v e f g h = rw (e, f, g, h) (four (le (getD l 2 nan) (r .x1)) (le (r .x0) (getD l 4 nan)) (le (getD l 3 nan) (r .y1)) (le (r .y0) (getD l 5 nan)))
+reach-is l r p q u v e f g h = rw (e, f, g, h) (four-hold (le (getD l 2 nan) (r .x1)) (le (r .x0) (getD l 4 nan)) (le (getD l 3 nan) (r .y1)) (le (r .y0) (getD l 5 nan)))
 
 module _ (l m : List Float) (p q : Rect) (s : Bool) (d : p ≡ boundsIn l) (e : q ≡ boundsIn m) (f : s ≡ touches p q) where
   pub crosses-on : (n : ℕ) (x : Bool) → s ≡ true → n ≡ pointsIn (getD l 1 nan) → x ≡ anySegment (segmentCrosses (decodeTrace m)) (pointsOf n l) → x ≡ crosses (decodeTrace l) (decodeTrace m)

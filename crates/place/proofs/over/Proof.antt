@@ -1,0 +1,34 @@
+-- `place::over` meets its contract.
+use Rattle.place.proofs.Laws.{over-is}
+use borrow.Author.Needs.{needs}
+use Rattle.place.proofs.over.Statement.{statement}
+use Rattle.place.proofs.over.Tie as tie
+
+below-requires : tie.Need-below-requires
+below-requires c κs = search needs
+
+below-requires-2 : tie.Need-below-requires-2
+below-requires-2 c κs = search needs
+
+add-across : tie.Need-add-across
+add-across c = search needs
+
+below-requires-3 : tie.Need-below-requires-3
+below-requires-3 c κs = search needs
+
+below-requires-4 : tie.Need-below-requires-4
+below-requires-4 c κs = search needs
+
+add-along : tie.Need-add-along
+add-along c = search needs
+
+add-result : tie.Need-add-result
+add-result c = search needs
+
+returns : tie.Need-returns
+returns c =
+    let a = c .before .before .before .before .args in
+    over-is (a .a) (a .b) (c .before .before .before .below .result) (c .before .before .below2 .result) (c .before .below3 .result) (c .below4 .result) (c .before .before .before .below .ensures .0) (c .before .before .below2 .ensures .0) (c .before .below3 .ensures .0) (c .below4 .ensures .0)
+
+pub over-spec : {M : Type 1} → statement M
+over-spec = tie.close (tie.spec below-requires below-requires-2 add-across below-requires-3 below-requires-4 add-along add-result returns)
