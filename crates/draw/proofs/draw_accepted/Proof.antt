@@ -43,7 +43,7 @@ draw-near-requires c κs =
     (c .before .before .before .state-count .ensures, omega (arith, w .states, c .before .before .before .state-count .ensures), w .arrows, c .before .before .before .before .before .before .before .before .pre .1)
 
 same-length : tie.Need-same-length
-same-length c = search needs
+same-length c = c .before .before .draw-near .kept .1 .1 .1 .1 .0
 
 returns-2 : tie.Need-returns-2
 returns-2 c =

@@ -27,10 +27,10 @@ auto-requires : tie.Need-auto-requires
 auto-requires c κs = search needs
 
 same-length : tie.Need-same-length
-same-length c = search needs
+same-length c = c .before .before .before .before .auto .kept .1 .1 .1 .1 .1 .0
 
 same-length-2 : tie.Need-same-length-2
-same-length-2 c = search needs
+same-length-2 c = c .before .before .before .before .auto .kept .1 .1 .1 .1 .1 .1 .0
 
 returns-3 : tie.Need-returns-3
 unfolding choice

@@ -1,4 +1,5 @@
 -- `layout::fit_layers` meets its contract.
+use mathlib.Core.Path.{_∙_}
 use denote.Ref.{now}
 use Rattle.layout.specs.Layout.{Plan, planBy}
 use Rattle.layout.specs.Laws.{fitted-at}
@@ -13,10 +14,10 @@ fit-at-requires : tie.Need-fit-at-requires
 fit-at-requires c κs = search needs
 
 same-length : tie.Need-same-length
-same-length c = search needs
+same-length c = c .before .before .before .before .fit-at .kept .1 .1 .1 .1 .1 .0 ∙ c .before .before .before .before .before .before .before .before .before .before .before .layers-at .kept .1 .1 .1 .1 .1 .0
 
 same-length-2 : tie.Need-same-length-2
-same-length-2 c = search needs
+same-length-2 c = c .before .before .before .before .fit-at .kept .1 .1 .1 .1 .1 .1 .0 ∙ c .before .before .before .before .before .before .before .before .before .before .before .layers-at .kept .1 .1 .1 .1 .1 .1 .0
 
 returns : tie.Need-returns
 returns c =

@@ -22,10 +22,10 @@ layered-requires : tie.Need-layered-requires
 layered-requires c κs = (omega arith, omega arith, omega (arith, start-below (now (c .before .before .before .before .before .before .before .before .before .before .before .before .args .flags)) (omega arith), c .before .before .before .before .start-index .ensures), omega arith, omega arith)
 
 same-length : tie.Need-same-length
-same-length c = search needs
+same-length c = c .before .before .before .before .layered .kept .1 .1 .1 .1 .1 .0
 
 same-length-2 : tie.Need-same-length-2
-same-length-2 c = search needs
+same-length-2 c = c .before .before .before .before .layered .kept .1 .1 .1 .1 .1 .1 .0
 
 returns : tie.Need-returns
 returns c =

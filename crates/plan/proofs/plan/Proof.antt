@@ -37,10 +37,10 @@ returns-2 c =
     plan-refused mainScreen (a .kind) (now (a .s)) (now (a .xs)) (now (a .ys)) _ (c .before .before .before .before .before .if1 .left) (sym (c .before .c .given .1) ∙ e)
 
 same-length : tie.Need-same-length
-same-length c = search needs
+same-length c = c .before .before .before .before .plan-accepted .kept .1 .1 .0
 
 same-length-2 : tie.Need-same-length-2
-same-length-2 c = search needs
+same-length-2 c = c .before .before .before .before .plan-accepted .kept .1 .1 .1 .0
 
 returns-3 : tie.Need-returns-3
 returns-3 c =

@@ -19,10 +19,10 @@ plan-sized-requires c κs =
     (q .1, c .before .before .before .state-count .ensures, omega (arith, w .states, c .before .before .before .state-count .ensures), c .before .before .arrow-count .ensures, omega (arith, w .arrows, c .before .before .arrow-count .ensures), q .2, q .3)
 
 same-length : tie.Need-same-length
-same-length c = search needs
+same-length c = c .before .before .before .before .plan-sized .kept .1 .1 .1 .1 .0
 
 same-length-2 : tie.Need-same-length-2
-same-length-2 c = search needs
+same-length-2 c = c .before .before .before .before .plan-sized .kept .1 .1 .1 .1 .1 .0
 
 returns : tie.Need-returns
 returns c = search needs
