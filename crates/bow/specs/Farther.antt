@@ -1,24 +1,24 @@
 -- A state whose square of the distance is not less leaves the clearance as it is, so its root need not be taken: `farther`. Subtracting the radius keeps
 -- the order of distances, with its rounding. Assumes nothing.
-use mathlib.Core.Path.{_≡_, refl, sym, ap, ap₂, _∙_, subst}
-use mathlib.Core.Bool.{Bool, true, false, cond, not, _&&_, _||_, true≢false}
-use Prim.Native.Nat.{ℕ, zero, suc, _+_, _-_, _*_, _^_, _≤_, _<_}
-use native.Mathlib.Nat.{mul-le-mul-right, mul-lt-mul-of-pos-right, mul-pos}
+use mathlib.Core.Path.{_≡_, refl, sym, ap, _∙_, subst}
+use mathlib.Core.Bool.{true, false, cond, true≢false}
+use Prim.Native.Nat.{ℕ, _+_, _-_, _*_, _^_, _≤_, _<_}
+use native.Mathlib.Nat.{mul-le-mul-right, mul-lt-mul-of-pos-right}
 use native.Mathlib.Omega.{arith}
-use borrow.Author.Tests.{ltb-true, ltb-false, le-ltb, eqb-true}
-use lib.Dec.{T, eqb, ltb, ltb→lt}
-use lib.IntN.{ℤ, pos}
-use lib.Ieee.{Float, nan, inf, fin, Format, prec, emax, low, up, down, binary64, ofBits, round, units, odd, isNan}
+use borrow.Author.Tests.{ltb-true, ltb-false}
+use lib.Dec.{T, ltb}
+use lib.IntN.{ℤ}
+use lib.Ieee.{Float, nan, inf, fin, up, down, binary64, ofBits, round, isNan}
 use lib.Ieee as Ieee
-use lib.Ieee.Fits.{round-is, down-pos}
+use lib.Ieee.Fits.{down-pos}
 use lib.Ieee.Order.{round-mono}
-use Rattle.laws.specs.Cases.{by-bool, holds as yes-of, fails}
-use Rattle.laws.specs.Between.{self-num, self-inf}
+use Rattle.laws.specs.Cases.{by-bool, holds as yes-of}
 use Rattle.root.specs.Plain.{plain, Plain, squares-plain, bits-plain, root-plain}
 use Rattle.float.specs.Ops.{_⊕_, _⊖_, _⊗_, lt, le, eq, ne, neg}
 use Rattle.float.specs.Constants.{f0, f22, infinity}
 use Rattle.float.specs.Standins.{min, root, rootOf}
 use Rattle.float.specs.Signs.{is-nan}
+use Rattle.float.specs.Sizes.{Form, endless, finite, round-form, ordered, apart, itself}
 use Rattle.shape.specs.declared.«V».{«V»}
 use Rattle.shape.specs.Plane.{sub, dist}
 use Rattle.free.specs.declared.Chord.{Chord}
@@ -27,50 +27,6 @@ use Rattle.bow.specs.declared.Near.{Near}
 use Rattle.bow.specs.Clear.{beside, nearest}
 use mathlib.Core.List.{List}
 use Rattle.float.specs.RootLaws.{root-is, root-rises}
-
--- ---- a rounded size, with either sign
-data Form : Float → Float → Type 0 where
-  endless : Form (inf false) (inf true)
-  finite : {m : ℕ} {e : ℤ} → Form (fin false m e) (fin true m e)
-
-odd-form : (d q k l : ℕ) → Form (odd d false q k l) (odd d true q k l)
-unfolding odd
-odd-form d zero k l = finite
-odd-form d (suc q) k l = finite
-
-units-form : (q k : ℕ) → Form (units binary64 false q k) (units binary64 true q k)
-unfolding units
-units-form q k =
-    by-bool (ltb (q * 2 ^ k) (2 ^ (low binary64 + suc (emax binary64)))) (λ e. rw e (odd-form (suc (prec binary64)) q k (low binary64))) (λ e. rw e endless)
-
-round-form : (a c : ℕ) → Form (round binary64 false a c) (round binary64 true a c)
-round-form a c = rw (round-is binary64 false a c, round-is binary64 true a c) (units-form _ _)
-
-at-most : (a b : ℕ) (x : Bool) → T (ltb a b || (eqb a b && x)) → a ≤ b
-at-most a b x t =
-    by-bool (ltb a b) (λ e. let h : a < b = ltb-true a b e in omega arith)
-    (λ e. by-bool (eqb a b) (λ f. let h : a ≡ b = eqb-true a b f in omega arith) (λ f. absurd (rw (e, f) at t)))
-
--- sizes in order: the positive ones are, the negative ones the other way round
-ordered : {u u′ v v′ : Float} → Form u u′ → Form v v′ → T (le u v) → (lt v u ≡ false) × (lt u′ v′ ≡ false)
-unfolding Ieee.le Ieee.lt Ieee.eq
-ordered endless endless t = (refl, refl)
-ordered endless finite t = absurd t
-ordered finite endless t = (refl, refl)
-ordered (finite {m} {e}) (finite {m = n} {e = d}) t =
-    let h = at-most (m * up e * down d) (n * up d * down e) true t in
-    (le-ltb (n * up d * down e) (m * up e * down d) h, le-ltb (n * up d * down e) (m * up e * down d) h)
-
-apart : {u u′ v v′ : Float} → Form u u′ → Form v v′ → lt u v′ ≡ false
-unfolding Ieee.lt
-apart endless endless = refl
-apart endless finite = refl
-apart finite endless = refl
-apart finite finite = refl
-
-itself : {u u′ : Float} → Form u u′ → (ne u u ≡ false) × (ne u′ u′ ≡ false)
-itself endless = (self-inf false, self-inf true)
-itself (finite {m} {e}) = (self-num false m e, self-num true m e)
 
 -- ---- less 22: x / d and y / g, as fractions
 module _ (x d : ℕ) where

@@ -2,6 +2,7 @@ pub mod Ops
 pub mod Constants
 pub mod Standins
 pub mod Signs
+pub mod Sizes
 pub mod Rounding
 pub mod Laws
 pub mod RootLaws

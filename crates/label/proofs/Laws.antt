@@ -1,7 +1,7 @@
 -- One turn of each loop and where it begins, from what the calls give. Assumes nothing.
 use mathlib.Core.Path.{_≡_, refl, sym, ap, _∙_, subst}
-use mathlib.Core.Bool.{Bool, true, false, cond, not, _&&_, _||_}
-use mathlib.Core.List.{List, [], _∷_, map, flatMap}
+use mathlib.Core.Bool.{Bool, true, false, not, _&&_}
+use mathlib.Core.List.{List, _∷_, map, flatMap}
 use Prim.Native.Nat.{ℕ, suc, _+_, _-_, _≤_, _<_}
 use native.Mathlib.Numerals.{add-one}
 use native.Mathlib.Omega.{arith}
@@ -22,7 +22,6 @@ use Rattle.sheet.specs.Refusals.{any}
 use Rattle.text.specs.Automaton.{feedOf, gatherOf}
 use Rattle.label.specs.declared.Measure.{Measure}
 use Rattle.label.specs.declared.Block.{Block}
-use Rattle.label.specs.declared.Sized.{Sized}
 use Rattle.label.specs.declared.Sized.the-variants.{Size, Refused}
 use Rattle.label.specs.Label.{charWidth, lineWidth, wider, blockHeight, block, cut, total}
 use Rattle.label.specs.Measuring.{measure, measureOf, measureAll, start, measured-formed, measured-width, lengthsFit, linesSize}

@@ -11,7 +11,7 @@ use Rattle.laws.specs.Cases.{by-bool}
 use Rattle.laws.specs.Loops.{over, over-join}
 use Rattle.laws.specs.Refusals.{decide}
 use Rattle.float.specs.Constants.{f0}
-use Rattle.text.specs.Utf8.{wellFormed, codePoints}
+use Rattle.text.specs.Utf8.{wellFormed}
 use Rattle.text.specs.Automaton.{feedOf, gatherOf, feedAll, readBy}
 use Rattle.text.specs.Table.{well-formed-is}
 use Rattle.text.specs.Codes.{read-codes}

@@ -4,7 +4,7 @@ use mathlib.Core.Path.{_≡_, refl, _∙_}
 use mathlib.Core.List.{List, [], _∷_, _++_}
 use mathlib.Core.Bool.{Bool, true, false, _||_}
 use Prim.Native.Nat.{ℕ, zero, suc, _+_, _-_, _≤_, _<_}
-use native.Mathlib.Nat.{sub-zero, not-suc-le-zero}
+use native.Mathlib.Nat.{sub-zero}
 use lib.ListN.{length, getD, take, drop, drop-of-length-le}
 use lib.Seq.{drop-cons, take-nil}
 use native.Mathlib.Numerals.{add-one}
@@ -93,17 +93,19 @@ module _ {A B : Type 0} (g : A → B → A) (d : B) where
   unfolding up
   up-over l a = rw (sub-zero (length l)) (turns-over l a)
 
-  -- A fold over the n elements of l from i on, or as many as there are: one turn, and the two ends.
-  pub over-part-turn : (l : List B) (i n : ℕ) (a : A) → i < length l → 0 < n → over g (g a (getD l i d)) (take (n - 1) (drop (i + 1) l)) ≡ over g a (take n (drop i l))
-  unfolding over
-  over-part-turn l i zero a h k = absurd (not-suc-le-zero k)
-  over-part-turn l i (suc n) a h k = let e : suc n - 1 ≡ n = omega arith in rw (drop-cons l i d h, e, add-one)
+-- A fold over the n elements of l from i on, or as many as there are, that comes to b: after a turn, and at the two ends.
+pub record Folds {A B : Type 0} (g : A → B → A) (l : List B) (b : A) (i n : ℕ) (a : A) : Type 0 where
+  pub rest : over g a (take n (drop i l)) ≡ b
 
-  pub over-part-none : (l : List B) (i n : ℕ) (a : A) → n ≤ 0 → over g a (take n (drop i l)) ≡ a
+module _ {A B : Type 0} {g : A → B → A} {l : List B} {b : A} {i n : ℕ} {a : A} (x : Folds g l b i n a) where
+  pub folds-turn : (d : B) {a′ : A} → i < length l → 0 < n → a′ ≡ g a (getD l i d) → Folds g l b (i + 1) (n - 1) a′
   unfolding over
-  over-part-none l i zero a h = refl
-  over-part-none l i (suc n) a h = absurd (not-suc-le-zero h)
+  folds-turn d h k q = let e : n ≡ suc (n - 1) = omega arith in record { rest = rw (q, add-one) (rw (drop-cons l i d h, e) at (x .rest)) }
 
-  pub over-part-past : (l : List B) (i n : ℕ) (a : A) → length l ≤ i → over g a (take n (drop i l)) ≡ a
+  pub folds-none : n ≤ 0 → a ≡ b
   unfolding over
-  over-part-past l i n a h = rw (drop-of-length-le l h, take-nil n)
+  folds-none h = let e : n ≡ 0 = omega arith in rw e at (x .rest)
+
+  pub folds-past : length l ≤ i → a ≡ b
+  unfolding over
+  folds-past h = rw (drop-of-length-le l h, take-nil n) at (x .rest)

@@ -1,9 +1,9 @@
 -- `<` on floats is irreflexive and transitive, at NaN and the infinities too. Assumes nothing.
-use mathlib.Core.Bool.{Bool, true, false, not, _&&_}
+use mathlib.Core.Bool.{Bool, true, false}
 use Prim.Native.Nat.{ℕ, _+_, _*_, _<_}
 use native.Mathlib.Nat.{mul-lt-mul-of-pos-right, lt-of-mul-lt-mul-right, lt-irrefl, mul-pos}
 use native.Mathlib.Omega.{arith}
-use lib.Dec.{T, ltb, ltb→lt, lt→ltb}
+use lib.Dec.{T, ltb→lt, lt→ltb}
 use lib.Ieee.{Float, nan, inf, fin, up, down, below, lt}
 use lib.Ieee.Fits.{down-pos}
 

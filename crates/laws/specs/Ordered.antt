@@ -1,5 +1,5 @@
 -- What is sorted is in order: no element stands ahead of the one before it. The test needs only never to hold both ways. Assumes nothing.
-use mathlib.Core.Path.{_≡_, refl}
+use mathlib.Core.Path.{_≡_}
 use mathlib.Core.Bool.{Bool, true, false}
 use mathlib.Core.List.{List, [], _∷_}
 use Rattle.laws.specs.Loops.{over}

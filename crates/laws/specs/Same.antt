@@ -1,6 +1,5 @@
 -- What is sorted has the same elements, each as often. Assumes nothing.
-use mathlib.Core.Path.{_≡_, refl}
-use mathlib.Core.Bool.{Bool, true, false}
+use mathlib.Core.Bool.{Bool}
 use mathlib.Core.List.{List, [], _∷_, _++_, append-nil}
 use Rattle.laws.specs.Loops.{over}
 use Rattle.laws.specs.Sort.{insert, sorted}

@@ -1,13 +1,13 @@
 -- A sort is stable: elements that stand before each other neither way keep their order. What does not stand before must be transitive. Assumes nothing.
 use mathlib.Core.Path.{_≡_, refl, sym, ap, subst, _∙_}
-use mathlib.Core.Bool.{Bool, true, false, cond, not, _&&_}
+use mathlib.Core.Bool.{Bool, true, false, not, _&&_}
 use mathlib.Core.List.{List, [], _∷_, _++_, append-assoc, append-nil}
 use lib.Dec.{T}
 use Rattle.laws.specs.Cases.{by-bool}
-use Rattle.laws.specs.Filter.{filter, filter-yes, filter-no, filter-join}
+use Rattle.laws.specs.Filter.{filter, filter-yes, filter-no}
 use Rattle.laws.specs.Loops.{over}
 use Rattle.laws.specs.Sort.{insert, sorted}
-use Rattle.laws.specs.Ordered.{Ordered, none, one, more, insert-ordered}
+use Rattle.laws.specs.Ordered.{Ordered, none, more, insert-ordered}
 
 -- neither stands before the other
 abbrev pub equals : {A : Type 0} → (A → A → Bool) → A → A → Bool

@@ -1,11 +1,11 @@
 -- Writers that store what fits and always advance. A place stops at the largest usize, which no slice reaches, so nothing is required. Assumes nothing.
 use mathlib.Core.Path.{_≡_, refl, sym, ap, _∙_, subst}
 use mathlib.Core.List.{List, [], _∷_, _++_}
-use Prim.Native.Nat.{ℕ, zero, suc, _+_, _-_, _≤_, _<_}
-use native.Mathlib.Nat.{add-assoc, zero-add}
+use Prim.Native.Nat.{ℕ, suc, _+_, _-_, _≤_, _<_}
+use native.Mathlib.Nat.{zero-add}
 use native.Mathlib.Numerals.{add-one}
 use native.Mathlib.Omega.{arith}
-use lib.ListN.{length, take, drop, set, getD, length-append}
+use lib.ListN.{length, take, drop, getD, length-append}
 use lib.Seq.{set-out, take-suc}
 use lib.Dec.{ltb, leb}
 use mathlib.Core.Bool.{Bool, true, false, cond}

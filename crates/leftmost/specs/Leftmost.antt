@@ -1,69 +1,26 @@
 -- On a ring of 2 to 64 states no state lies farther left than the start state, whatever the label's width (`start-leftmost`). Assumes nothing.
 use mathlib.Core.Path.{_≡_, refl, sym, ap, ap₂, _∙_, subst}
-use mathlib.Core.Bool.{Bool, true, false, cond, not, _&&_, _||_}
-use Prim.Native.Nat.{ℕ, zero, suc, _+_, _-_, _*_, _/_, _%_, _^_, _≤_, _<_}
+use mathlib.Core.Bool.{Bool, true, false, not}
+use Prim.Native.Nat.{ℕ, zero, suc, _+_, _-_, _*_, _/_, _%_, _≤_, _<_}
 use native.Mathlib.Nat.{add-zero, add-suc, suc-add, mul-pos, mul-le-mul-left}
 use native.Mathlib.Omega.{arith}
-use borrow.Author.Tests.{ne-eqb, ltb-true, ltb-false, le-ltb, eqb-true}
-use lib.Dec.{T, eqb, eqb→eq, ltb}
-use lib.IntN.{ℤ}
+use borrow.Author.Tests.{ne-eqb, ltb-false}
+use lib.Dec.{T, eqb, eqb→eq}
 use lib.ListN.{getD}
-use lib.Ieee.{Float, nan, inf, fin, prec, emax, low, up, down, binary64, fits, ofBits, toBits, round, units, odd}
+use lib.Ieee.{Float, nan, inf, fin, up, down, binary64, fits, ofBits, toBits, round}
 use lib.Ieee as Ieee
-use lib.Ieee.Fits.{round-is, down-pos, and-l, and-r, add-fits}
+use lib.Ieee.Fits.{down-pos, and-l, and-r, add-fits}
 use lib.Ieee.Bits.{ofBits-toBits}
 use lib.Ieee.Order.{round-mono}
-use Rattle.laws.specs.Cases.{by-bool, by-lt, holds}
+use Rattle.laws.specs.Cases.{by-bool, by-lt}
 use Rattle.laws.specs.Flat.{table}
 use Rattle.float.specs.Constants.{f1, f2, f20, f22, f24, f150, π}
-use Rattle.float.specs.Ops.{_⊕_, _⊗_, _⊘_, neg, lt, le, count}
+use Rattle.float.specs.Ops.{_⊕_, _⊗_, _⊘_, neg, lt, count}
 use Rattle.float.specs.Standins.{negative, clamp, sin, cos}
+use Rattle.float.specs.Sizes.{round-form, ordered, apart, unsigned}
 use Rattle.ring.specs.Ring.{chord, radius, place, angle, cosAt, around, ringed, circularXs}
 use Rattle.ring.specs.Places.{place-below, start-left}
 use Rattle.leftmost.specs.Tests.{allBelow, allFrom, notLeft, oddRing, oddPlaces, evenPlaces, same, upward, sines, odd-ring-0, odd-ring-14, odd-ring-19, odd-ring-23, odd-ring-27, odd-ring-30, odd-places-0, odd-places-20, odd-places-28, even-places-0, even-places-25}
-
--- ---- a rounded size, with either sign
-data Form : Float → Float → Type 0 where
-  endless : Form (inf false) (inf true)
-  finite : {m : ℕ} {e : ℤ} → Form (fin false m e) (fin true m e)
-
-odd-form : (d q k l : ℕ) → Form (odd d false q k l) (odd d true q k l)
-unfolding odd
-odd-form d zero k l = finite
-odd-form d (suc q) k l = finite
-
-units-form : (q k : ℕ) → Form (units binary64 false q k) (units binary64 true q k)
-unfolding units
-units-form q k =
-    by-bool (ltb (q * 2 ^ k) (2 ^ (low binary64 + suc (emax binary64)))) (λ e. rw e (odd-form (suc (prec binary64)) q k (low binary64))) (λ e. rw e endless)
-
-round-form : (a c : ℕ) → Form (round binary64 false a c) (round binary64 true a c)
-round-form a c = rw (round-is binary64 false a c, round-is binary64 true a c) (units-form _ _)
-
-at-most : (a b : ℕ) (x : Bool) → T (ltb a b || (eqb a b && x)) → a ≤ b
-at-most a b x t =
-    by-bool (ltb a b) (λ e. let h : a < b = ltb-true a b e in omega arith)
-    (λ e. by-bool (eqb a b) (λ f. let h : a ≡ b = eqb-true a b f in omega arith) (λ f. absurd (rw (e, f) at t)))
-
--- of sizes in order the negative ones are the other way round
-turned : {u u′ v v′ : Float} → Form u u′ → Form v v′ → T (le u v) → lt u′ v′ ≡ false
-unfolding Ieee.le Ieee.lt Ieee.eq
-turned endless endless t = refl
-turned endless finite t = absurd t
-turned finite endless t = refl
-turned (finite {m} {e}) (finite {m = n} {e = d}) t = le-ltb (n * up d * down e) (m * up e * down d) (at-most (m * up e * down d) (n * up d * down e) true t)
-
--- a positive one is not below a negative one
-apart : {u u′ v v′ : Float} → Form u u′ → Form v v′ → lt u v′ ≡ false
-unfolding Ieee.lt
-apart endless endless = refl
-apart endless finite = refl
-apart finite endless = refl
-apart finite finite = refl
-
-unsigned : {u u′ : Float} → Form u u′ → negative u ≡ false
-unsigned endless = refl
-unsigned finite = refl
 
 -- ---- a factor that is not negative keeps what is not below -1 at or above its product with -1
 
@@ -93,9 +50,9 @@ times-left (fin false m e) (inf false) s h = by-bool (eqb m 0) (λ q. rw q) (λ 
 times-left (fin false m e) (fin false n d) s h = apart (round-form (m * up e * (n * up d)) (down e * down d)) (round-form (m * up e * (1 * 1)) (down e * 1))
 times-left (fin false m e) (fin true n d) s h =
     let k : n * up d ≤ down d = omega (arith, ltb-false (1 * 1 * down d) (n * up d * 1) h) in
-    turned (round-form (m * up e * (n * up d)) (down e * down d)) (round-form (m * up e * (1 * 1)) (down e * 1))
+    ordered (round-form (m * up e * (n * up d)) (down e * down d)) (round-form (m * up e * (1 * 1)) (down e * 1))
     (round-mono binary64 (m * up e * (n * up d)) (down e * down d) (m * up e * (1 * 1)) (down e * 1) (mul-pos (down-pos e) (down-pos d)) (mul-pos (down-pos e) (omega arith))
-    (shrunk (m * up e) (down e) (n * up d) (down d) k))
+    (shrunk (m * up e) (down e) (n * up d) (down d) k)) .1
 
 -- ---- the radius is not negative
 

@@ -1,6 +1,6 @@
 -- An automaton for well-formed UTF-8, with nine numbered states, fed a byte at a time.
 -- 0 between characters; 1, 2, 3 that many bytes to come; 4 after E0, 5 after ED, 6 after F0, 7 after F4; 8 ill-formed.
-use mathlib.Core.Bool.{Bool, true, false, cond}
+use mathlib.Core.Bool.{cond}
 use mathlib.Core.List.{List, [], _∷_}
 use Prim.Native.Nat.{ℕ, _+_, _*_, _%_}
 use lib.Dec.{leb, eqb}

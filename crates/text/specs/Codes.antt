@@ -1,12 +1,12 @@
 -- The automaton's values are the table's code points. Assumes nothing.
-use mathlib.Core.Path.{_≡_, refl, sym, ap, ap₂, _∙_, subst}
-use mathlib.Core.Bool.{Bool, true, false, cond}
+use mathlib.Core.Path.{_≡_, refl, sym, ap, _∙_, subst}
+use mathlib.Core.Bool.{cond}
 use mathlib.Core.List.{List, [], _∷_}
-use mathlib.Core.Option.{Option, none, some}
+use mathlib.Core.Option.{none}
 use Prim.Native.Nat.{ℕ, zero, suc, _+_, _*_, _%_, _<_, _≤_}
 use native.Mathlib.Omega.{arith}
 use lib.Dec.{T, eqb, leb, ltb, ltb→lt}
-use lib.ListN.{getD, List·getD-eq-default}
+use lib.ListN.{getD}
 use borrow.Author.Tests.{le-ltb, ne-eqb}
 use Rattle.laws.specs.Cases.{by-bool, by-lt}
 use Rattle.laws.specs.Loops.{over}

@@ -1,11 +1,11 @@
 -- Encoding, as the Unicode Standard gives UTF-8 (Table 3-6), and that the table's code points undo it. Assumes nothing.
-use mathlib.Core.Path.{_≡_, refl, sym, ap, _∙_}
-use mathlib.Core.Bool.{Bool, true, false, cond, _&&_, _||_}
+use mathlib.Core.Path.{_≡_, refl, ap, _∙_}
+use mathlib.Core.Bool.{true, cond}
 use mathlib.Core.List.{List, [], _∷_, _++_}
-use mathlib.Core.Option.{Option, none, some}
+use mathlib.Core.Option.{some}
 use Prim.Native.Nat.{ℕ, _+_, _*_, _/_, _%_, _<_, _≤_}
 use native.Mathlib.Omega.{arith}
-use lib.Dec.{T, leb, ltb}
+use lib.Dec.{ltb}
 use borrow.Author.Tests.{le-leb, lt-ltb, le-ltb}
 use Rattle.laws.specs.Cases.{by-lt}
 use Rattle.laws.specs.Loops.{over, over-join}

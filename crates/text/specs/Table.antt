@@ -1,12 +1,12 @@
 -- The automaton agrees with the table: one test over every state and byte, and what follows for texts. Assumes nothing.
 use mathlib.Core.Path.{_≡_, refl, sym, ap, ap₂, _∙_, subst}
-use mathlib.Core.Bool.{Bool, true, false, cond, _&&_, Bool·beq}
+use mathlib.Core.Bool.{Bool, true, false, cond, _&&_}
 use mathlib.Core.List.{List, [], _∷_, _++_}
-use mathlib.Core.Option.{Option, none, some}
+use mathlib.Core.Option.{none, some}
 use Prim.Native.Nat.{ℕ, zero, suc, _<_, _≤_}
 use native.Mathlib.Nat.{not-suc-le-zero}
 use native.Mathlib.Omega.{arith}
-use lib.Dec.{T, eqb, leb, ltb, eqb→eq, ltb→lt}
+use lib.Dec.{T, eqb, leb, eqb→eq}
 use borrow.Author.Tests.{eqb-true, eqb-false, lt-leb, ne-eqb}
 use lib.ListN.{getD, List·getD-eq-default}
 use Rattle.laws.specs.Cases.{by-bool, by-lt}
