@@ -95,9 +95,9 @@ pub fn routings(count: usize, seed: u64) {
             }
             Err(_) => refused += 1,
         }
-        runs.out.put(kind::ROUTE, route_case(&d));
+        runs.out.case(kind::ROUTE, route_case(&d));
         runs.made("route");
-        runs.out.put(kind::CLUTTER, clutter_case(&d));
+        runs.out.case(kind::CLUTTER, clutter_case(&d));
         runs.made("clutter");
         if (i + 1) % RUN == 0 || i + 1 == count {
             runs.replay();
@@ -122,7 +122,7 @@ pub fn layouts(count: usize, seed: u64) {
         states += d.graph.nodes.len();
         arrows += d.graph.edges.len();
         for number in 0..3 {
-            runs.out.put(kind::LAYOUT, layout_case(&d.graph, number));
+            runs.out.case(kind::LAYOUT, layout_case(&d.graph, number));
             runs.made("layout");
         }
         if (i + 1) % RUN == 0 || i + 1 == count {

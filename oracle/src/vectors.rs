@@ -16,21 +16,18 @@ mod texts;
 
 use std::collections::BTreeMap;
 
-#[cfg(port = "murshogi")]
 use crate::random::Random;
 
 #[cfg(port = "murshogi")]
 pub use sheets::damage;
 
 /// A text and the lengths of its lines.
-#[cfg(port = "murshogi")]
 pub fn label_lines(rng: &mut Random) -> (Vec<u8>, Vec<usize>) {
     let i = rng.below(28);
     sheets::lines(rng, i)
 }
 
 /// A number to be written.
-#[cfg(port = "murshogi")]
 pub fn number(rng: &mut Random) -> f64 {
     match rng.below(6) {
         0 => float::mixed(rng),
@@ -96,13 +93,11 @@ pub mod kind {
     pub const LAYOUT_CALL: u8 = 61;
     pub const CLUTTER_CALL: u8 = 62;
     pub const LIST_CALL: u8 = 63;
+    pub const CHECK_CALL: u8 = 64;
+    pub const LABEL_CALL: u8 = 65;
+    pub const NUMBER_CALL: u8 = 66;
     /// A kind and its payload with another answer.
     pub const SPOILED: u8 = 255;
-}
-
-/// Whether the program `vectors` replays cases of this kind.
-fn replayed(kind: u8) -> bool {
-    matches!(kind, 0..=46 | kind::ROUTE..=kind::CLUTTER | kind::SPOILED)
 }
 
 /// A case's payload as it is put together.
@@ -176,14 +171,7 @@ impl Stream {
         self.case(kind::SPOILED, Payload::new().byte(kind).bytes(&payload.0));
     }
 
-    /// A case of the fixed sample, where its kind is replayed.
     pub fn case(&mut self, kind: u8, payload: Payload) {
-        if replayed(kind) && (kind != kind::SPOILED || replayed(payload.0[0])) {
-            self.put(kind, payload);
-        }
-    }
-
-    pub fn put(&mut self, kind: u8, payload: Payload) {
         let length = payload.0.len() as u32;
         assert!(length < 1 << 24);
         self.bytes.push(kind);

@@ -78,7 +78,10 @@ fn agrees(kind: u8, p: &[u8]) -> bool {
     if kind == 51 {
         return replay_layout::agrees(p);
     }
-    replay_route::agrees(kind, p)
+    if kind < 60 {
+        return replay_route::agrees(kind, p);
+    }
+    replay_calls::agrees(kind, p)
 }
 
 fn text_agrees(kind: u8, p: &[u8]) -> bool {
@@ -198,11 +201,11 @@ fn name(kind: u8) {
     if kind == 255 {
         return say(b"spoiled             ");
     }
-    if kind > 52 {
+    if kind > 66 {
         return say(b"no such kind        ");
     }
     entry(
-        b"none                root                hypot               midpoint            rem_euclid          sin                 cos                 atan2               min                 max                 round               abs                 clamp               signum              copysign            total_cmp           check               label block         written number      path                arrowhead           polar               dot                 len                 angle               unit_or             left                dist                overlaps            spanning            grown               touches             dist to a box       at                  tangent             start and end       segment_hits_rect   segments_cross      trace               trace hits_rect     traces cross        bend                between             first_free          place_label         label_spots         box_cost            no such kind        no such kind        no such kind        route               layout              clutter             ",
+        b"none                root                hypot               midpoint            rem_euclid          sin                 cos                 atan2               min                 max                 round               abs                 clamp               signum              copysign            total_cmp           check               label block         written number      path                arrowhead           polar               dot                 len                 angle               unit_or             left                dist                overlaps            spanning            grown               touches             dist to a box       at                  tangent             start and end       segment_hits_rect   segments_cross      trace               trace hits_rect     traces cross        bend                between             first_free          place_label         label_spots         box_cost            no such kind        no such kind        no such kind        route               layout              clutter             no such kind        no such kind        no such kind        no such kind        no such kind        no such kind        no such kind        call of route       call of layout      call of clutter     call of list        call of check       call of label_size  call of write_num   ",
         20 * wide(kind),
     )
 }

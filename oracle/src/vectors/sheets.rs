@@ -9,7 +9,7 @@ use crate::random::Random;
 use crate::sheet::{self, Arrow, Line, Sheet, put};
 
 /// Byte strings that are not well-formed UTF-8, or become so by what follows.
-const ILL: [&[u8]; 30] = [
+pub const ILL: [&[u8]; 30] = [
     b"\x80", b"\xbf", b"\xc0\x80", b"\xc1\xbf", b"\xc2", b"\xc2\x7f", b"\xc2\xc0", b"\xdf\x00",
     b"\xe0\x80\x80", b"\xe0\x9f\xbf", b"\xe1\x80", b"\xe1", b"\xe2\x82\x28", b"\xe2\x28\xa1",
     b"\xed\xa0\x80", b"\xed\xbf\xbf", b"\xef\xbf", b"\xf0\x80\x80\x80", b"\xf0\x8f\xbf\xbf",
