@@ -18,10 +18,10 @@ clutter-requires : tie.Need-clutter-requires
 clutter-requires c κs = search needs
 
 same-length : tie.Need-same-length
-same-length c = search needs
+same-length c = c .before .before .before .before .before .before .before .before .before .centred .kept .1 .0
 
 same-length-2 : tie.Need-same-length-2
-same-length-2 c = search needs
+same-length-2 c = c .before .before .before .before .before .centred2 .kept .1 .0
 
 returns : tie.Need-returns
 returns c = c .clutter .ensures ∙ centred-clutter (now (c .before .before .before .before .before .before .before .before .before .before .before .before .before .before .before .before .args .xs)) (now (c .before .before .before .before .before .before .before .before .before .before .before .before .before .before .before .before .args .ys)) (now (c .before .before .before .before .before .before .before .before .before .before .before .before .before .before .before .before .args .across)) (now (c .before .before .before .before .before .before .before .before .before .before .before .before .before .before .before .before .args .down)) _ _ (decodeRecords (c .before .before .before .before .before .before .before .before .before .before .before .before .before .before .before .before .args .count) (now (c .before .before .before .before .before .before .before .before .before .before .before .before .before .before .before .before .args .drawing))) (omega arith) (c .before .before .before .before .before .before .before .before .before .centred .ensures) (c .before .before .before .before .before .centred2 .ensures)

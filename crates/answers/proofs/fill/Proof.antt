@@ -48,7 +48,7 @@ put-paths-requires-2 : tie.Need-put-paths-requires-2
 put-paths-requires-2 c κs = search needs
 
 same-length-2 : tie.Need-same-length-2
-same-length-2 c = search needs
+same-length-2 c = c .before .before .before .before .before .before .copy .kept .1 .0
 
 same-length-3 : tie.Need-same-length-3
 same-length-3 c = search needs

@@ -19,10 +19,10 @@ copy-requires-2 : tie.Need-copy-requires-2
 copy-requires-2 c κs = search needs
 
 same-length : tie.Need-same-length
-same-length c = search needs
+same-length c = c .before .before .before .before .before .before .copy .kept .1 .0
 
 same-length-2 : tie.Need-same-length-2
-same-length-2 c = search needs
+same-length-2 c = c .before .before .copy2 .kept .1 .0
 
 returns-3 : tie.Need-returns-3
 returns-3 c = place-done (now (c .before .before .before .before .before .before .before .before .before .before .before .before .before .before .args .across)) (now (c .before .before .before .before .before .before .before .before .before .before .before .before .before .before .args .down)) (c .before .before .before .before .before .before .before .before .before .before .before .before .before .before .args .width) (c .before .before .before .before .before .before .before .before .before .before .before .before .before .before .args .height) (now (c .before .before .before .before .before .before .before .before .before .before .before .before .before .before .args .xs)) (now (c .before .before .before .before .before .before .before .before .before .before .before .before .before .before .args .ys)) (omega arith) _ _ (c .before .before .before .before .before .before .before .before .before .if1 .left) (c .before .before .before .before .before .before .before .before .if2 .left) (c .before .before .before .before .before .before .copy .ensures) (c .before .before .copy2 .ensures)
