@@ -1,4 +1,5 @@
-//! The Rust over the hardware's square root and the library's functions, without any stand-in.
+//! The Rust over the hardware's square root and the library's functions. `hypot` is the square root of the sum, as document 01 has it: the library's own,
+//! which guards against overflow, is slower.
 
 #[path = "../calls.rs"]
 pub mod calls;
