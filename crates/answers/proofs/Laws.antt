@@ -1,23 +1,26 @@
 -- Each way through the code, as the definitions have it: what the calls give are variables. Assumes nothing.
 use mathlib.Core.Path.{_≡_, sym, ap, _∙_, subst}
 use mathlib.Core.Bool.{Bool, true, false, not, _||_}
-use mathlib.Core.List.{List, [], _++_}
-use Prim.Native.Nat.{ℕ, _+_, _≤_, _<_}
+use mathlib.Core.List.{List, [], _∷_, _++_, flatMap}
+use Prim.Native.Nat.{ℕ, _+_, _*_, _≤_, _<_}
 use native.Mathlib.Nat.{zero-add}
 use native.Mathlib.Numerals.{add-one}
 use native.Mathlib.Omega.{arith}
 use borrow.Author.Tests.{lt-ltb, le-ltb}
-use lib.ListN.{length, drop, set, getD, length-append, drop-of-length-le}
-use lib.Seq.{drop-cons}
+use lib.ListN.{length, take, drop, set, getD, length-append, drop-of-length-le}
+use lib.Seq.{drop-cons, length-take-le}
 use lib.Ieee.{Float, nan}
 use Rattle.laws.specs.Put.{put, put-eq}
 use Rattle.laws.specs.Cases.{by-bool}
 use Rattle.laws.specs.Writers.{Wrote, measured, empty, fitted}
 use Rattle.laws.specs.Refusals.{decide}
-use Rattle.laws.specs.Flat.{table}
+use Rattle.laws.specs.Flat.{table, part, table-more}
+use Rattle.laws.specs.Counting.{table-length}
 use Rattle.shape.specs.declared.«V».{«V»}
 use Rattle.free.specs.Centres.{centres}
 use Rattle.spot.specs.declared.Geometry.{Geometry}
+use Rattle.records.specs.Records.{fields, decodeGeometry, decodeRecords}
+use Rattle.records.specs.Back.{put-record}
 use Rattle.routing.specs.Sheets.{centreAt}
 use Rattle.routing.specs.Frames.{orZeros, centres-table}
 use Rattle.clutter.specs.Clutter.{clutterOf}
@@ -43,6 +46,28 @@ copy-end l v i h = rw (drop-of-length-le v h)
 
 pub copied : (l v : List Float) → length v ≤ length l → put l 0 v ≡ onto v l
 copied l v h = put-eq l 0 v (omega arith) ∙ ap (λ (i : ℕ). v ++ drop i l) (zero-add (length v))
+
+-- ---- records
+
+-- record k of a drawing, after those before it
+pub record-turn : (drawing l out : List Float) (k : ℕ) (g : Geometry) → g ≡ decodeGeometry (part 20 k drawing)
+    → out ≡ put l 0 (flatMap fields (decodeRecords k drawing))
+    → put out (20 * k) (fields g) ≡ put l 0 (flatMap fields (decodeRecords (k + 1) drawing))
+record-turn drawing l out k g e o =
+    let gs = decodeRecords k drawing in
+    let n : length gs ≡ k = table-length (λ j. decodeGeometry (part 20 j drawing)) 0 k in
+    ap (λ (m : List Float). put m (20 * k) (fields g)) o
+    ∙ ap (λ (i : ℕ). put (put l 0 (flatMap fields gs)) (20 * i) (fields g)) (sym n)
+    ∙ put-record l gs g
+    ∙ ap (λ (x : Geometry). put l 0 (flatMap fields (gs ++ (x ∷ [])))) e
+    ∙ ap (λ (hs : List Geometry). put l 0 (flatMap fields hs)) (table-more (λ j. decodeGeometry (part 20 j drawing)) k)
+
+-- records as they are written stand as they do in the drawing
+pub records-onto : (drawing l : List Float) (n : ℕ) → 20 * n ≤ length drawing → A.AsWritten n drawing → 20 * n ≤ length l
+    → put l 0 (flatMap fields (decodeRecords n drawing)) ≡ onto (take (20 * n) drawing) l
+records-onto drawing l n h w i =
+    ap (put l 0) (sym w)
+    ∙ copied l (take (20 * n) drawing) (omega (arith, length-take-le (20 * n) drawing h))
 
 -- ---- fill
 

@@ -1,13 +1,14 @@
 -- Answers that are ready: what still refuses them, what is answered, and what the lent slices then hold.
 use mathlib.Core.Path.{_≡_}
 use mathlib.Core.Bool.{Bool, not, _||_}
-use mathlib.Core.List.{List, [], _∷_, _++_}
-use Prim.Native.Nat.{ℕ}
+use mathlib.Core.List.{List, [], _∷_, _++_, flatMap}
+use Prim.Native.Nat.{ℕ, _*_}
 use lib.Dec.{ltb}
-use lib.ListN.{length, drop}
+use lib.ListN.{length, take, drop}
 use lib.Ieee.{Float}
 use Rattle.laws.specs.Refusals.{Refusal, refusal, decide}
 use Rattle.spot.specs.declared.Geometry.{Geometry}
+use Rattle.records.specs.Records.{fields, decodeRecords}
 use Rattle.lines.specs.Lines.{pathsText, pathsWritable}
 use Rattle.answers.specs.declared.Routed.{Routed}
 use Rattle.answers.specs.declared.Routed.the-variants.{Lengths, Refused}
@@ -27,6 +28,10 @@ abbrev pub onto : {A : Type 0} → List A → List A → List A
 onto answer out = answer ++ drop (length answer) out
 
 -- ---- records and path text: 10, then 7
+
+-- a drawing begins with n records as they are written: "each record is written into its own twenty numbers"
+abbrev pub AsWritten : ℕ → List Float → Type 0
+AsWritten n drawing = take (20 * n) drawing ≡ flatMap fields (decodeRecords n drawing)
 
 abbrev pub fillRefusals : List Float → List Geometry → ℕ → ℕ → List Refusal
 fillRefusals numbers gs room textRoom =

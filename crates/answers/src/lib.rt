@@ -1,10 +1,12 @@
 // Answers that a drawing or a layout has ready: put whole into what is lent, or refused by 10 or 7 with nothing touched.
 use number::Written;
 ghost use mathlib.Core.Path.{_≡_};
+ghost use mathlib.Core.List.{flatMap};
 ghost use Prim.Native.Nat.{_*_, _≤_};
 ghost use lib.ListN.{length, take};
 ghost use Rattle.laws.specs.Flat.{table};
-ghost use Rattle.records.specs.Records.{decodeRecords};
+ghost use Rattle.laws.specs.Put.{put};
+ghost use Rattle.records.specs.Records.{fields, decodeRecords};
 ghost use Rattle.records.specs.Back.{Small};
 ghost use Rattle.routing.specs.Sheets.{centreAt};
 ghost use Rattle.clutter.specs.Clutter.{clutterOf};
@@ -26,19 +28,20 @@ pub enum LaidOut {
 
 // ---- records and path text
 
-// The numbers of `from`, at the front of `to`.
-fn copy(from: &[f64], to: &mut [f64])
-    requires { ⌜ length (now from) ≤ length (now to) ⌝ }
-    ensures { λ _. ⌜ now (to .exit) ≡ F.onto (now (from .entry)) (now (to .entry)) ⌝ }
+// The first `count` records of a drawing, each into its own twenty numbers of `records`.
+fn write_records(drawing: &[f64], count: usize, records: &mut [f64])
+    requires { ⌜ (20 * count ≤ length (now drawing)) × (20 * count ≤ length (now records)) ⌝ }
+    ensures { λ _. ⌜ now (records .exit) ≡ put (now (records .entry)) 0 (flatMap fields (decodeRecords count (now (drawing .entry)))) ⌝ }
 {
-    for k in 0..from.len() {
-        to[k] = from[k];
+    for k in 0..count {
+        let g = records::geometry_at(drawing, k);
+        records::write_at(records, k, g);
     }
 }
 
 // The first `count` records of a drawing and their paths, where every number may be written and there is room for both.
 pub fn fill(drawing: &[f64], count: usize, records: &mut [f64], text: &mut [u8]) -> Routed
-    requires { ⌜ 20 * count ≤ length (now drawing) ⌝ }
+    requires { ⌜ (20 * count ≤ length (now drawing)) × F.AsWritten count (now drawing) ⌝ }
     ensures { λ r. ⌜ (r ≡ F.filledAs (take (20 * count) (now (drawing .entry))) (decodeRecords count (now (drawing .entry))) (length (now (records .entry))) (length (now (text .entry)))) × (now (records .exit) ≡ F.recordsLeft (take (20 * count) (now (drawing .entry))) (decodeRecords count (now (drawing .entry))) (now (records .entry)) (length (now (text .entry)))) × (now (text .exit) ≡ F.textLeft (take (20 * count) (now (drawing .entry))) (decodeRecords count (now (drawing .entry))) (length (now (records .entry))) (now (text .entry))) ⌝ }
 {
     if !lines::paths_writable(drawing, count) {
@@ -52,7 +55,7 @@ pub fn fill(drawing: &[f64], count: usize, records: &mut [f64], text: &mut [u8])
     if text.len() < need {
         return Routed::Refused(7);
     }
-    copy(&drawing[..n], records);
+    write_records(drawing, count, records);
     let done = lines::put_paths(text, 0, drawing, count);
     Routed::Lengths(n, done)
 }
@@ -88,6 +91,16 @@ pub fn clutter_at(xs: &[f64], ys: &[f64], n: usize, drawing: &[f64], count: usiz
 }
 
 // ---- centres
+
+// The numbers of `from`, at the front of `to`.
+fn copy(from: &[f64], to: &mut [f64])
+    requires { ⌜ length (now from) ≤ length (now to) ⌝ }
+    ensures { λ _. ⌜ now (to .exit) ≡ F.onto (now (from .entry)) (now (to .entry)) ⌝ }
+{
+    for k in 0..from.len() {
+        to[k] = from[k];
+    }
+}
 
 // The centres, where there is room for both coordinates.
 pub fn place(

@@ -1,7 +1,8 @@
 -- Routing and counting clutter, from what drawing a sheet gives. Assumes nothing.
 use mathlib.Core.Path.{_≡_, sym, ap, _∙_}
 use mathlib.Core.List.{List}
-use Prim.Native.Nat.{ℕ, _*_}
+use Prim.Native.Nat.{ℕ, _*_, _≤_}
+use native.Mathlib.Omega.{arith}
 use lib.ListN.{length, take}
 use lib.Ieee.{Float}
 use Rattle.laws.specs.Flat.{table}
@@ -15,11 +16,18 @@ use Rattle.draw.specs.Drawn.{drawRefusals, drawOf}
 use Rattle.draw.specs.declared.Drawing.the-variants as P
 use Rattle.diagram.specs.Calls.{number, values, mainScreen, drawnOf, numbersOf, onto, routedAs, countedAs, route, recordsAfter, textAfter, clutter}
 use Rattle.diagram.specs.Decided.{First, first-decides, clear-decides, first-joined, clear-joined}
-use Rattle.answers.specs.Answers.{fillRefusals, Filled}
+use Rattle.answers.specs.Answers.{AsWritten, fillRefusals, Filled}
+use Rattle.answers.specs.Written.{fewer-written}
 use Rattle.answers.specs.declared.Routed.{Routed}
 use Rattle.answers.specs.declared.Routed.the-variants as D
 use Rattle.diagram.specs.declared.Counted.the-variants as K
 use Rattle.diagram.proofs.Held.{Held, stopped}
+
+-- a drawing begins with its records as they are written, and so with its first m
+pub ready : {s : List ℕ} {xs ys : List Float} {count : ℕ} {slice : List Float} → Held s xs ys count slice → (m : ℕ) → m ≤ count → (20 * m ≤ length slice) × AsWritten m slice
+ready {count} {slice} h m i =
+    let room = h .room in
+    (omega arith, fewer-written m count slice i (h .numbers ∙ ap numbersOf (sym (h .decoded))))
 
 module _ (s : List ℕ) (xs ys : List Float) where
   abbrev drawing : List Refusal
