@@ -6,7 +6,7 @@ use Rattle.lines.proofs.listing_writable.Statement.{statement}
 use Rattle.lines.proofs.listing_writable.Tie as tie
 
 pair-ok-requires : tie.Need-pair-ok-requires
-pair-ok-requires c κs = search needs
+pair-ok-requires c κs = tt
 
 returns : tie.Need-returns
 unfolding listWritable

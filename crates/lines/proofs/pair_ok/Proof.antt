@@ -1,15 +1,14 @@
 -- `lines::pair_ok` meets its contract.
 use mathlib.Core.Path.{sym, _∙_}
 use Rattle.lines.proofs.Laws.{and-yes, and-no}
-use borrow.Author.Needs.{needs}
 use Rattle.lines.proofs.pair_ok.Statement.{statement}
 use Rattle.lines.proofs.pair_ok.Tie as tie
 
 writable-requires : tie.Need-writable-requires
-writable-requires c κs = search needs
+writable-requires c κs = tt
 
 writable-requires-2 : tie.Need-writable-requires-2
-writable-requires-2 c κs = search needs
+writable-requires-2 c κs = tt
 
 returns : tie.Need-returns
 returns c = and-yes (sym (c .before .before .writable .ensures) ∙ c .before .if1 .taken) (c .writable2 .ensures)

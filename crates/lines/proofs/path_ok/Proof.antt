@@ -1,11 +1,10 @@
 -- `lines::path_ok` meets its contract.
 use Rattle.lines.specs.Lines.{pathOk}
-use borrow.Author.Needs.{needs}
 use Rattle.lines.proofs.path_ok.Statement.{statement}
 use Rattle.lines.proofs.path_ok.Tie as tie
 
 curve-writable-requires : tie.Need-curve-writable-requires
-curve-writable-requires c κs = search needs
+curve-writable-requires c κs = tt
 
 returns : tie.Need-returns
 unfolding pathOk

@@ -1,5 +1,5 @@
 -- `lines::put_anchor` meets its contract.
-use mathlib.Core.Path.{sym, ap}
+use mathlib.Core.Path.{sym, ap, refl}
 use Rattle.laws.specs.Writers.{wrote-as}
 use Rattle.lines.specs.Lines.{anchorText}
 use borrow.Author.Needs.{needs}
@@ -10,45 +10,45 @@ enum-told : tie.Need-enum-told
 enum-told c = search needs
 
 slice-aggregate-put-bytes : tie.Need-slice-aggregate-put-bytes
-slice-aggregate-put-bytes c = search needs
+slice-aggregate-put-bytes c = refl
 
 put-bytes-requires : tie.Need-put-bytes-requires
-put-bytes-requires c κs = search needs
+put-bytes-requires c κs = tt
 
 enum-told-2 : tie.Need-enum-told-2
 enum-told-2 c = search needs
 
 slice-aggregate-put-bytes-2 : tie.Need-slice-aggregate-put-bytes-2
-slice-aggregate-put-bytes-2 c = search needs
+slice-aggregate-put-bytes-2 c = refl
 
 put-bytes-requires-2 : tie.Need-put-bytes-requires-2
-put-bytes-requires-2 c κs = search needs
+put-bytes-requires-2 c κs = tt
 
 enum-told-3 : tie.Need-enum-told-3
 enum-told-3 c = search needs
 
 slice-aggregate-put-bytes-3 : tie.Need-slice-aggregate-put-bytes-3
-slice-aggregate-put-bytes-3 c = search needs
+slice-aggregate-put-bytes-3 c = refl
 
 put-bytes-requires-3 : tie.Need-put-bytes-requires-3
-put-bytes-requires-3 c κs = search needs
+put-bytes-requires-3 c κs = tt
 
 same-length : tie.Need-same-length
-same-length c = search needs
+same-length c = c .before .before .put-bytes .kept .0
 
 returns : tie.Need-returns
 unfolding anchorText
 returns c = wrote-as (sym (ap anchorText (c .before .before .before .before .before .enum-told .given .1))) (c .before .before .put-bytes .ensures)
 
 same-length-2 : tie.Need-same-length-2
-same-length-2 c = search needs
+same-length-2 c = c .before .before .put-bytes2 .kept .0
 
 returns-2 : tie.Need-returns-2
 unfolding anchorText
 returns-2 c = wrote-as (sym (ap anchorText (c .before .before .before .before .before .enum-told2 .given .1))) (c .before .before .put-bytes2 .ensures)
 
 same-length-3 : tie.Need-same-length-3
-same-length-3 c = search needs
+same-length-3 c = c .before .before .put-bytes3 .kept .0
 
 returns-3 : tie.Need-returns-3
 unfolding anchorText

@@ -1,18 +1,18 @@
 -- `lines::put_field` meets its contract.
+use mathlib.Core.Path.{_∙_}
 use Rattle.laws.specs.Writers.{wrote-more}
 use Rattle.lines.specs.Lines.{field}
-use borrow.Author.Needs.{needs}
 use Rattle.lines.proofs.put_field.Statement.{statement}
 use Rattle.lines.proofs.put_field.Tie as tie
 
 put-byte-requires : tie.Need-put-byte-requires
-put-byte-requires c κs = search needs
+put-byte-requires c κs = tt
 
 put-num-requires : tie.Need-put-num-requires
-put-num-requires c κs = search needs
+put-num-requires c κs = tt
 
 same-length : tie.Need-same-length
-same-length c = search needs
+same-length c = c .before .before .put-num .kept .0 ∙ c .before .before .before .before .before .before .put-byte .kept .0
 
 returns : tie.Need-returns
 unfolding field

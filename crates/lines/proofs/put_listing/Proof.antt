@@ -1,4 +1,5 @@
 -- `lines::put_listing` meets its contract.
+use mathlib.Core.Path.{_∙_}
 use Rattle.laws.specs.Writers.{wrote-more}
 use Rattle.lines.specs.Lines.{listText}
 use borrow.Author.Needs.{needs}
@@ -6,7 +7,7 @@ use Rattle.lines.proofs.put_listing.Statement.{statement}
 use Rattle.lines.proofs.put_listing.Tie as tie
 
 put-size-line-requires : tie.Need-put-size-line-requires
-put-size-line-requires c κs = search needs
+put-size-line-requires c κs = tt
 
 put-states-requires : tie.Need-put-states-requires
 put-states-requires c κs = search needs
@@ -18,7 +19,7 @@ put-starts-requires : tie.Need-put-starts-requires
 put-starts-requires c κs = search needs
 
 same-length : tie.Need-same-length
-same-length c = search needs
+same-length c = c .before .before .put-starts .kept .0 ∙ c .before .before .before .before .before .before .put-records .kept .0 ∙ c .before .before .before .before .before .before .before .before .before .before .put-states .kept .0 ∙ c .before .before .before .before .before .before .before .before .before .before .before .before .before .before .put-size-line .kept .0
 
 returns : tie.Need-returns
 unfolding listText

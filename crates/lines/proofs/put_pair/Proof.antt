@@ -1,18 +1,18 @@
 -- `lines::put_pair` meets its contract.
+use mathlib.Core.Path.{_∙_}
 use Rattle.laws.specs.Writers.{wrote-more}
 use Rattle.lines.specs.Lines.{pair}
-use borrow.Author.Needs.{needs}
 use Rattle.lines.proofs.put_pair.Statement.{statement}
 use Rattle.lines.proofs.put_pair.Tie as tie
 
 put-field-requires : tie.Need-put-field-requires
-put-field-requires c κs = search needs
+put-field-requires c κs = tt
 
 put-field-requires-2 : tie.Need-put-field-requires-2
-put-field-requires-2 c κs = search needs
+put-field-requires-2 c κs = tt
 
 same-length : tie.Need-same-length
-same-length c = search needs
+same-length c = c .before .before .put-field2 .kept .0 ∙ c .before .before .before .before .before .before .put-field .kept .0
 
 returns : tie.Need-returns
 unfolding pair

@@ -1,18 +1,18 @@
 -- `lines::put_path_line` meets its contract.
+use mathlib.Core.Path.{_∙_}
 use Rattle.laws.specs.Writers.{wrote-more}
 use Rattle.lines.specs.Lines.{pathLine}
-use borrow.Author.Needs.{needs}
 use Rattle.lines.proofs.put_path_line.Statement.{statement}
 use Rattle.lines.proofs.put_path_line.Tie as tie
 
 put-path-requires : tie.Need-put-path-requires
-put-path-requires c κs = search needs
+put-path-requires c κs = tt
 
 put-byte-requires : tie.Need-put-byte-requires
-put-byte-requires c κs = search needs
+put-byte-requires c κs = tt
 
 same-length : tie.Need-same-length
-same-length c = search needs
+same-length c = c .before .before .put-byte .kept .0 ∙ c .before .before .before .before .before .before .put-path .kept .0
 
 returns : tie.Need-returns
 unfolding pathLine

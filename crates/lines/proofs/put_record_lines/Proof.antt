@@ -1,24 +1,24 @@
 -- `lines::put_record_lines` meets its contract.
+use mathlib.Core.Path.{_∙_}
 use Rattle.laws.specs.Writers.{wrote-more}
 use Rattle.lines.specs.Lines.{recordLines}
-use borrow.Author.Needs.{needs}
 use Rattle.lines.proofs.put_record_lines.Statement.{statement}
 use Rattle.lines.proofs.put_record_lines.Tie as tie
 
 put-edge-line-requires : tie.Need-put-edge-line-requires
-put-edge-line-requires c κs = search needs
+put-edge-line-requires c κs = tt
 
 put-tip-line-requires : tie.Need-put-tip-line-requires
-put-tip-line-requires c κs = search needs
+put-tip-line-requires c κs = tt
 
 put-head-line-requires : tie.Need-put-head-line-requires
-put-head-line-requires c κs = search needs
+put-head-line-requires c κs = tt
 
 put-label-line-requires : tie.Need-put-label-line-requires
-put-label-line-requires c κs = search needs
+put-label-line-requires c κs = tt
 
 same-length : tie.Need-same-length
-same-length c = search needs
+same-length c = c .before .before .put-label-line .kept .0 ∙ c .before .before .before .before .before .before .put-head-line .kept .0 ∙ c .before .before .before .before .before .before .before .before .before .before .put-tip-line .kept .0 ∙ c .before .before .before .before .before .before .before .before .before .before .before .before .before .before .put-edge-line .kept .0
 
 returns : tie.Need-returns
 unfolding recordLines

@@ -6,18 +6,17 @@ use native.Mathlib.Omega.{arith}
 use denote.Ref.{now}
 use Rattle.laws.specs.Writers.{wrote-as, wrote-none}
 use Rattle.lines.specs.Lines.{startText, startLine, stateAt}
-use borrow.Author.Needs.{needs}
 use Rattle.lines.proofs.put_start.Statement.{statement}
 use Rattle.lines.proofs.put_start.Tie as tie
 
 is-start-requires : tie.Need-is-start-requires
-is-start-requires c κs = search needs
+is-start-requires c κs = tt
 
 put-start-line-requires : tie.Need-put-start-line-requires
-put-start-line-requires c κs = search needs
+put-start-line-requires c κs = tt
 
 same-length : tie.Need-same-length
-same-length c = search needs
+same-length c = c .before .before .put-start-line .kept .0
 
 returns : tie.Need-returns
 unfolding startText

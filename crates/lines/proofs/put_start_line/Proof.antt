@@ -1,32 +1,31 @@
 -- `lines::put_start_line` meets its contract.
-use mathlib.Core.Path.{ap}
+use mathlib.Core.Path.{ap, refl, _∙_}
 use mathlib.Core.List.{_∷_}
 use Rattle.float.specs.Constants.{f0}
 use Rattle.shape.specs.declared.«V».{«V»}
 use Rattle.svg.specs.Paths.{headText}
 use Rattle.laws.specs.Writers.{wrote-as, wrote-more}
 use Rattle.lines.specs.Lines.{startLine}
-use borrow.Author.Needs.{needs}
 use Rattle.lines.proofs.put_start_line.Statement.{statement}
 use Rattle.lines.proofs.put_start_line.Tie as tie
 
 slice-aggregate-put-titled : tie.Need-slice-aggregate-put-titled
-slice-aggregate-put-titled c = search needs
+slice-aggregate-put-titled c = refl
 
 put-titled-requires : tie.Need-put-titled-requires
-put-titled-requires c κs = search needs
+put-titled-requires c κs = tt
 
 start-tip-requires : tie.Need-start-tip-requires
-start-tip-requires c κs = search needs
+start-tip-requires c κs = tt
 
 put-head-requires : tie.Need-put-head-requires
-put-head-requires c κs = search needs
+put-head-requires c κs = tt
 
 put-byte-requires : tie.Need-put-byte-requires
-put-byte-requires c κs = search needs
+put-byte-requires c κs = tt
 
 same-length : tie.Need-same-length
-same-length c = search needs
+same-length c = c .before .before .put-byte .kept .0 ∙ c .before .before .before .before .before .before .put-head .kept .0 ∙ c .before .before .before .before .before .before .before .before .before .before .before .put-titled .kept .0
 
 returns : tie.Need-returns
 unfolding startLine

@@ -1,21 +1,21 @@
 -- `lines::put_titled` meets its contract.
+use mathlib.Core.Path.{_∙_}
 use Rattle.laws.specs.Writers.{wrote-more}
 use Rattle.lines.specs.Lines.{titled}
-use borrow.Author.Needs.{needs}
 use Rattle.lines.proofs.put_titled.Statement.{statement}
 use Rattle.lines.proofs.put_titled.Tie as tie
 
 put-bytes-requires : tie.Need-put-bytes-requires
-put-bytes-requires c κs = search needs
+put-bytes-requires c κs = tt
 
 put-byte-requires : tie.Need-put-byte-requires
-put-byte-requires c κs = search needs
+put-byte-requires c κs = tt
 
 put-number-requires : tie.Need-put-number-requires
-put-number-requires c κs = search needs
+put-number-requires c κs = tt
 
 same-length : tie.Need-same-length
-same-length c = search needs
+same-length c = c .before .before .put-number .kept .0 ∙ c .before .before .before .before .before .before .put-byte .kept .0 ∙ c .before .before .before .before .before .before .before .before .before .before .put-bytes .kept .0
 
 returns : tie.Need-returns
 unfolding titled

@@ -5,18 +5,17 @@ use Rattle.float.specs.Constants.{f0}
 use Rattle.shape.specs.declared.«V».{«V»}
 use Rattle.shape.specs.Plane.{vec}
 use Rattle.lines.specs.Lines.{startOk, headOk, startTip}
-use borrow.Author.Needs.{needs}
 use Rattle.lines.proofs.start_ok.Statement.{statement}
 use Rattle.lines.proofs.start_ok.Tie as tie
 
 is-start-requires : tie.Need-is-start-requires
-is-start-requires c κs = search needs
+is-start-requires c κs = tt
 
 start-tip-requires : tie.Need-start-tip-requires
-start-tip-requires c κs = search needs
+start-tip-requires c κs = tt
 
 head-writable-requires : tie.Need-head-writable-requires
-head-writable-requires c κs = search needs
+head-writable-requires c κs = tt
 
 returns : tie.Need-returns
 unfolding startOk

@@ -1,26 +1,25 @@
 -- `lines::tip_ok` meets its contract.
 use Rattle.lines.specs.Lines.{tipOk}
 use Rattle.lines.proofs.Laws.{passed, stopped}
-use borrow.Author.Needs.{needs}
 use Rattle.lines.proofs.tip_ok.Statement.{statement}
 use Rattle.lines.proofs.tip_ok.Tie as tie
 
 pair-ok-requires : tie.Need-pair-ok-requires
-pair-ok-requires c κs = search needs
+pair-ok-requires c κs = tt
 
 returns : tie.Need-returns
 unfolding tipOk
 returns c = stopped _ (c .before .pair-ok .ensures) (c .if1 .taken)
 
 writable-requires : tie.Need-writable-requires
-writable-requires c κs = search needs
+writable-requires c κs = tt
 
 returns-2 : tie.Need-returns-2
 unfolding tipOk
 returns-2 c = passed (c .before .before .before .pair-ok .ensures) (c .before .before .if1 .left) (stopped _ (c .before .writable .ensures) (c .if2 .taken))
 
 head-writable-requires : tie.Need-head-writable-requires
-head-writable-requires c κs = search needs
+head-writable-requires c κs = tt
 
 returns-3 : tie.Need-returns-3
 unfolding tipOk
