@@ -2,7 +2,7 @@
 use mathlib.Core.Path.{refl, sym, ap, _∙_}
 use Prim.Native.Nat.{_<_}
 use native.Mathlib.Omega.{arith}
-use lib.ListN.{length, getD, set}
+use lib.ListN.{length, getD, set, length-set}
 use denote.Ref.{now}
 use Rattle.routing.specs.Passes.{frameBy}
 use Rattle.lay.specs.Lay.{Slices, slices}
@@ -16,7 +16,7 @@ mul-a : tie.Need-mul-a
 mul-a c = search needs
 
 shared-slice-read-a : tie.Need-shared-slice-read-a
-shared-slice-read-a c = search needs
+shared-slice-read-a c = c .before .before .before .before .before .before .before .before .before .before .before .pre .1 .0
 
 mul-b : tie.Need-mul-b
 mul-b c = search needs
@@ -37,19 +37,19 @@ lay-crossing-requires c κs =
     ((g .0 .0, g .0 .2, g .0 .3, p, q), g .1 .1)
 
 same-length : tie.Need-same-length
-same-length c = search needs
+same-length c = c .before .before .before .before .before .before .before .before .before .before .lay-crossing .kept .1 .1 .1 .1 .1 .1 .1 .0
 
 same-length-2 : tie.Need-same-length-2
-same-length-2 c = search needs
+same-length-2 c = c .before .before .before .before .before .before .before .before .before .before .lay-crossing .kept .1 .1 .1 .1 .1 .1 .1 .1 .0
 
 same-length-3 : tie.Need-same-length-3
-same-length-3 c = search needs
+same-length-3 c = c .before .before .before .before .before .before .before .before .before .before .lay-crossing .kept .1 .1 .1 .1 .1 .1 .1 .1 .1 .0
 
 same-length-4 : tie.Need-same-length-4
-same-length-4 c = search needs
+same-length-4 c = c .before .before .before .before .before .before .before .before .before .before .lay-crossing .kept .1 .1 .1 .1 .1 .1 .1 .1 .1 .1 .0
 
 same-length-5 : tie.Need-same-length-5
-same-length-5 c = search needs
+same-length-5 c = c .before .before .before .before .before .before .before .before .before .before .lay-crossing .kept .1 .1 .1 .1 .1 .1 .1 .1 .1 .1 .1 .0
 
 returns : tie.Need-returns
 returns c =
@@ -63,28 +63,28 @@ mul-kinds : tie.Need-mul-kinds
 mul-kinds c = search needs
 
 slice-write-kinds : tie.Need-slice-write-kinds
-slice-write-kinds c = search needs
+slice-write-kinds c = c .before .before .before .before .before .before .before .before .before .before .before .before .before .before .before .pre .1 .1 .1
 
 mul-leaves : tie.Need-mul-leaves
 mul-leaves c = search needs
 
 slice-write-leaves : tie.Need-slice-write-leaves
-slice-write-leaves c = search needs
+slice-write-leaves c = c .before .before .before .before .before .before .before .before .before .before .before .before .before .before .before .pre .1 .1 .2
 
 mul-reaches : tie.Need-mul-reaches
 mul-reaches c = search needs
 
 slice-write-reaches : tie.Need-slice-write-reaches
-slice-write-reaches c = search needs
+slice-write-reaches c = c .before .before .before .before .before .before .before .before .before .before .before .before .before .before .before .pre .1 .1 .3
 
 same-length-6 : tie.Need-same-length-6
-same-length-6 c = search needs
+same-length-6 c = length-set (now (c .before .before .before .before .before .before .before .before .before .before .before .before .before .before .before .args .kinds)) (c .before .before .before .before .before .before .before .before .before .before .before .before .before .before .before .args .i) (c .other-kind .result)
 
 same-length-7 : tie.Need-same-length-7
-same-length-7 c = search needs
+same-length-7 c = length-set (now (c .before .before .before .before .before .before .before .before .before .before .before .before .before .before .before .args .leaves)) (c .before .before .before .before .before .before .before .before .before .before .before .before .before .before .before .args .i) _
 
 same-length-8 : tie.Need-same-length-8
-same-length-8 c = search needs
+same-length-8 c = length-set (now (c .before .before .before .before .before .before .before .before .before .before .before .before .before .before .before .args .reaches)) (c .before .before .before .before .before .before .before .before .before .before .before .before .before .before .before .args .i) _
 
 returns-2 : tie.Need-returns-2
 returns-2 c =

@@ -3,7 +3,7 @@ use mathlib.Core.Path.{ap, _∙_}
 use mathlib.Core.List.{[], _∷_, _++_}
 use Prim.Native.Nat.{ℕ}
 use native.Mathlib.Numerals.{add-one}
-use lib.ListN.{set}
+use lib.ListN.{set, length-set}
 use denote.Ref.{now}
 use Rattle.rim.specs.Rims.{leaveAngle, reachAngle}
 use Rattle.trace.specs.Traces.{traceOf, ownerOf}
@@ -19,10 +19,10 @@ mul-kinds : tie.Need-mul-kinds
 mul-kinds c = search needs
 
 slice-write-kinds : tie.Need-slice-write-kinds
-slice-write-kinds c = search needs
+slice-write-kinds c = c .before .before .before .before .before .before .before .before .pre .1 .1
 
 centre-requires : tie.Need-centre-requires
-centre-requires c κs = search needs
+centre-requires c κs = let p = c .before .before .before .before .before .before .before .before .pre in (p .0 .0, p .0 .1)
 
 leave-angle-requires : tie.Need-leave-angle-requires
 leave-angle-requires c κs = search needs
@@ -31,10 +31,10 @@ mul-leaves : tie.Need-mul-leaves
 mul-leaves c = search needs
 
 slice-write-leaves : tie.Need-slice-write-leaves
-slice-write-leaves c = search needs
+slice-write-leaves c = c .before .before .before .before .before .before .before .before .before .before .pre .1 .2
 
 centre-requires-2 : tie.Need-centre-requires-2
-centre-requires-2 c κs = search needs
+centre-requires-2 c κs = let p = c .before .before .before .before .before .before .before .before .before .before .pre in (p .0 .0, p .0 .2)
 
 reach-angle-requires : tie.Need-reach-angle-requires
 reach-angle-requires c κs = search needs
@@ -43,10 +43,10 @@ mul-reaches : tie.Need-mul-reaches
 mul-reaches c = search needs
 
 slice-write-reaches : tie.Need-slice-write-reaches
-slice-write-reaches c = search needs
+slice-write-reaches c = c .before .before .before .before .before .before .before .before .before .before .before .before .pre .1 .3
 
 put-routed-requires : tie.Need-put-routed-requires
-put-routed-requires c κs = search needs
+put-routed-requires c κs = c .before .before .before .before .before .before .before .before .before .before .before .before .before .pre .1 .4
 
 add-push-trace : tie.Need-add-push-trace
 add-push-trace c = search needs
@@ -55,19 +55,19 @@ push-trace-requires : tie.Need-push-trace-requires
 push-trace-requires c κs = search needs
 
 same-length : tie.Need-same-length
-same-length c = search needs
+same-length c = length-set (now (c .before .before .before .before .before .before .before .before .before .before .before .before .before .before .before .before .before .before .before .before .args .kinds)) (c .before .before .before .before .before .before .before .before .before .before .before .before .before .before .before .before .before .before .before .before .args .i) (c .before .before .before .before .before .before .before .before .before .before .before .before .kind-of .result)
 
 same-length-2 : tie.Need-same-length-2
-same-length-2 c = search needs
+same-length-2 c = length-set (now (c .before .before .before .before .before .before .before .before .before .before .before .before .before .before .before .before .before .before .before .before .args .leaves)) (c .before .before .before .before .before .before .before .before .before .before .before .before .before .before .before .before .before .before .before .before .args .i) (c .before .before .before .before .before .before .before .before .before .before .leave-angle .result)
 
 same-length-3 : tie.Need-same-length-3
-same-length-3 c = search needs
+same-length-3 c = length-set (now (c .before .before .before .before .before .before .before .before .before .before .before .before .before .before .before .before .before .before .before .before .args .reaches)) (c .before .before .before .before .before .before .before .before .before .before .before .before .before .before .before .before .before .before .before .before .args .i) (c .before .before .before .before .before .before .before .before .reach-angle .result)
 
 same-length-4 : tie.Need-same-length-4
-same-length-4 c = search needs
+same-length-4 c = c .before .before .before .before .before .before .put-routed .kept .0
 
 same-length-5 : tie.Need-same-length-5
-same-length-5 c = search needs
+same-length-5 c = c .before .before .push-trace .kept .0
 
 returns : tie.Need-returns
 returns c =

@@ -18,7 +18,7 @@ push-trace-requires : tie.Need-push-trace-requires
 push-trace-requires c κs = search needs
 
 same-length : tie.Need-same-length
-same-length c = search needs
+same-length c = c .before .before .push-trace .kept .0
 
 returns : tie.Need-returns
 returns c =
