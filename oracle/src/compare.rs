@@ -5,34 +5,13 @@ use std::collections::BTreeMap;
 
 use crate::calls::{self, Turns};
 use crate::generate::{Size, centres, drawing, sheet, shuffled};
+use crate::port::{
+    murshogi_check, murshogi_clutter, murshogi_label_size, murshogi_layout, murshogi_list, murshogi_route,
+    murshogi_write_num,
+};
 use crate::random::Random;
 use crate::sheet::label_block;
 use crate::vectors::damage;
-
-unsafe extern "C" {
-    fn murshogi_check(sheet: *const u8, sheet_len: usize) -> u8;
-    fn murshogi_label_size(
-        text: *const u8, text_len: usize, lengths: *const usize, lines: usize, size: *mut f64,
-    ) -> u8;
-    fn murshogi_layout(
-        sheet: *const u8, sheet_len: usize, kind: u8, x: *mut f64, x_len: usize, y: *mut f64,
-        y_len: usize, size: *mut f64, states: *mut usize,
-    ) -> u8;
-    fn murshogi_route(
-        sheet: *const u8, sheet_len: usize, x: *const f64, x_len: usize, y: *const f64,
-        y_len: usize, records: *mut f64, records_len: usize, text: *mut u8, text_len: usize,
-        lengths: *mut usize,
-    ) -> u8;
-    fn murshogi_clutter(
-        sheet: *const u8, sheet_len: usize, x: *const f64, x_len: usize, y: *const f64,
-        y_len: usize, count: *mut usize,
-    ) -> u8;
-    fn murshogi_write_num(v: f64, out: *mut u8, out_len: usize, length: *mut usize) -> u8;
-    fn murshogi_list(
-        sheet: *const u8, sheet_len: usize, kind: u8, out: *mut u8, out_len: usize,
-        length: *mut usize,
-    ) -> u8;
-}
 
 /// What a lent f64, byte or number holds before a call: a NaN with a payload, whose every bit must stay.
 const BEFORE: f64 = f64::from_bits(0x7ff8_dead_beef_0001);

@@ -10,6 +10,8 @@ mod differ;
 mod generate;
 mod graph;
 mod layout;
+#[cfg(port = "murshogi")]
+mod port;
 mod random;
 #[cfg(all(port = "murshogi", not(test)))]
 mod rivals;

@@ -114,7 +114,7 @@ fn draw_at(
     )
 }
 
-// ---- the space that a drawing needs: setting it to 0 takes longer than drawing a small sheet
+// ---- the space that a drawing needs: setting it to 0 is a large part of drawing a small sheet
 
 // In space for 32 states and 32 arrows.
 fn draw_little(

@@ -6,26 +6,13 @@ use std::time::Duration;
 
 use crate::calls as hardware;
 use crate::generate::{Size, sheet, shuffled};
+use crate::port::{murshogi_check, murshogi_layout, murshogi_list, murshogi_route};
 use crate::random::Random;
 use crate::rivals::library::calls as library;
 use crate::rivals::whole::calls as whole;
 
 unsafe extern "C" {
     fn clock_gettime(clock: i32, time: *mut [i64; 2]) -> i32;
-    fn murshogi_check(sheet: *const u8, length: usize) -> u8;
-    fn murshogi_layout(
-        sheet: *const u8, sheet_len: usize, kind: u8, x: *mut f64, x_len: usize, y: *mut f64,
-        y_len: usize, size: *mut f64, states: *mut usize,
-    ) -> u8;
-    fn murshogi_route(
-        sheet: *const u8, sheet_len: usize, x: *const f64, x_len: usize, y: *const f64,
-        y_len: usize, records: *mut f64, records_len: usize, text: *mut u8, text_len: usize,
-        lengths: *mut usize,
-    ) -> u8;
-    fn murshogi_list(
-        sheet: *const u8, sheet_len: usize, kind: u8, out: *mut u8, out_len: usize,
-        length: *mut usize,
-    ) -> u8;
 }
 
 #[derive(Clone, Copy)]
