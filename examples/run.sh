@@ -1,22 +1,52 @@
 #!/bin/sh
-# Builds libmurshogi.a and the programs here, makes every sheet anew from its description, lists it from C and from
-# Rust, and compares both with the listing beside it. From anywhere: examples/run.sh
+# Builds libmurshogi.a, the program `listing` and the programs here, makes every sheet anew from its description, lists
+# it from C, from Rust and by `listing`, and compares all three with the listing beside it; then the same of a sheet of
+# 65,536 bytes, and of one byte more. From anywhere: examples/run.sh
 set -eu
 cd "$(dirname "$0")/.."
 rt staticlib murshogi > /dev/null
+rt check listing > /dev/null
 bin=target/examples
 mkdir -p $bin
 rustc --edition 2024 -O examples/sheet.rs -o $bin/sheet
 cc -O2 -std=c99 -Wall -Wextra -Iinclude examples/list.c target/staticlib/libmurshogi.a -lm -o $bin/list-c
 rustc --edition 2024 -O examples/list.rs -L target/staticlib -l static=murshogi -l m -o $bin/list-rs
+
+# compare SHEET LISTING: what each of the three prints of a sheet is the listing.
+compare() {
+    $bin/list-c "$1" > $bin/c || true
+    $bin/list-rs "$1" > $bin/rs || true
+    examples/list.sh "$1" > $bin/program
+    for output in c rs program; do cmp $bin/$output "$2"; done
+}
+
 for description in examples/*.txt; do
     name=$(basename "$description" .txt)
     $bin/sheet < "$description" | cmp - "examples/$name.sheet"
     echo "== $name"
-    $bin/list-c "examples/$name.sheet" > $bin/c || true
-    $bin/list-rs "examples/$name.sheet" > $bin/rs || true
+    compare "examples/$name.sheet" "examples/$name.listing"
     cat $bin/c
-    cmp $bin/c "examples/$name.listing"
-    cmp $bin/rs "examples/$name.listing"
 done
+
+# 64 states, 256 arrows and lines, 4,095 records: an accepted sheet of 65,536 bytes, which is listed (list-c ends with 0).
+awk 'BEGIN {
+    for (i = 0; i < 64; i++) print (i == 0 ? "state start" : "state")
+    left = 4095 - 64 - 256
+    for (i = 0; i < 256; i++) {
+        print "arrow", i % 64, (7 * i + 1) % 64
+        for (k = 0; k < 8 && left > 0; k++) {
+            print (left > 1 ? "line a" : "line ")
+            left -= left > 1 ? 2 : 1
+        }
+    }
+}' | $bin/sheet > $bin/full.sheet
+test "$(wc -c < $bin/full.sheet)" -eq 65536
+$bin/list-c $bin/full.sheet > $bin/full.listing
+echo "== 65,536 bytes"
+compare $bin/full.sheet $bin/full.listing
+echo "== 65,537 bytes"
+printf '\000' | cat $bin/full.sheet - > $bin/longer.sheet
+echo "refused 1" > $bin/longer.listing
+compare $bin/longer.sheet $bin/longer.listing
+cat $bin/c
 echo "all as listed"

@@ -75,7 +75,7 @@ pub fn check() {
         crate::sheet::put(&mut states, 16 * k + 2, (k + 1) % 4096);
     }
     let rng = &mut Random::new(11);
-    let full = crate::generate::sheet(rng, crate::generate::Size { states: 64, arrows: 256, lines: 8, characters: 12 });
+    let full = crate::generate::from_first(rng, crate::generate::Size { states: 64, arrows: 256, lines: 8, characters: 12 });
     let full = crate::generate::shuffled(rng, &full);
     println!("microseconds a call: 4,095 states in one chain, a sheet of {} records", full.len() / 16 - 1);
     let row = |name: &str, f: &dyn Fn(&[u8]) -> u8| {

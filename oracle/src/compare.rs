@@ -4,14 +4,14 @@
 use std::collections::BTreeMap;
 
 use crate::calls::{self, Turns};
-use crate::generate::{Size, centres, drawing, sheet, shuffled};
+use crate::generate::{SORTS, centres, drawing, shuffled, sort_of_starts};
 use crate::port::{
     murshogi_check, murshogi_clutter, murshogi_label_size, murshogi_layout, murshogi_list, murshogi_route,
     murshogi_write_num,
 };
 use crate::random::Random;
 use crate::sheet::label_block;
-use crate::vectors::damage;
+use crate::vectors::{damage, largest, unsound};
 
 /// What a lent f64, byte or number holds before a call: a NaN with a payload, whose every bit must stay.
 const BEFORE: f64 = f64::from_bits(0x7ff8_dead_beef_0001);
@@ -37,7 +37,10 @@ fn holds_bytes(lent: &[u8], wanted: &[u8]) -> bool {
 
 #[derive(Default)]
 struct Runs {
-    counts: BTreeMap<(&'static str, u8), usize>,
+    /// How many calls had each answer: 0, or the refusal's number.
+    counts: BTreeMap<&'static str, [usize; 12]>,
+    /// The sorts of starts of the sheets of answered calls.
+    starts: BTreeMap<&'static str, [usize; SORTS.len()]>,
     differ: usize,
     turns: Turns,
     left_out: usize,
@@ -46,7 +49,11 @@ struct Runs {
 impl Runs {
     /// Counts an answer; where the two differ, keeps the sheet and the centres in files.
     fn note(&mut self, call: &'static str, answer: u8, ok: bool, sheet: &[u8], xs: &[f64], ys: &[f64]) {
-        *self.counts.entry((call, answer)).or_default() += 1;
+        self.counts.entry(call).or_default()[usize::from(answer)] += 1;
+        let read = if answer == 0 { crate::sheet::read(sheet).ok() } else { None };
+        if let Some(s) = read {
+            self.starts.entry(call).or_default()[sort_of_starts(&s.graph())] += 1;
+        }
         if ok {
             return;
         }
@@ -67,22 +74,37 @@ impl Runs {
 
     /// Prints the counts; ends the program where something differs.
     fn end(&self) {
-        for ((call, answer), count) in &self.counts {
-            println!("{call:<12} answer {answer:>2}: {count}");
-        }
+        let heads: Vec<String> = (1..12).map(|n| format!("by {n}")).collect();
+        table("calls", ["answered"].into_iter().chain(heads.iter().map(String::as_str)), &self.counts);
+        table("answered, by starts", SORTS, &self.starts);
         let Turns { taken: [loops, arcs, straight], later } = self.turns;
         let all = loops + arcs + straight;
-        println!(
-            "routed: {all} arrows ({loops} loops, {arcs} arcs, {straight} straight), {} left out; \
-             {later} turns took a place other than the first",
-            self.left_out
-        );
-        let all: usize = self.counts.values().sum();
+        if all > 0 {
+            println!(
+                "routed: {all} arrows ({loops} loops, {arcs} arcs, {straight} straight), {} left out; \
+                 {later} turns took a place other than the first",
+                self.left_out
+            );
+        }
+        let all: usize = self.counts.values().flatten().sum();
         println!("{all} calls, {} differ", self.differ);
         if self.differ > 0 {
             std::process::exit(1);
         }
     }
+}
+
+/// Prints a table of counts, a row for each call.
+fn table<'a, const N: usize>(
+    title: &str, heads: impl IntoIterator<Item = &'a str>, rows: &BTreeMap<&'static str, [usize; N]>,
+) {
+    let line = |name: &str, cells: Vec<String>| println!("| {name} | {} |", cells.join(" | "));
+    line(title, heads.into_iter().map(str::to_string).collect());
+    println!("|{}", "---|".repeat(N + 1));
+    for (call, counts) in rows {
+        line(call, counts.iter().map(usize::to_string).collect());
+    }
+    println!();
 }
 
 /// The room for an answer of n: plenty, just enough, one too few, or none.
@@ -124,23 +146,17 @@ pub fn layouts(count: usize, seed: u64) {
     runs.end();
 }
 
-/// A sheet with one state, arrow or line more than there may be.
-fn too_large(rng: &mut Random) -> Vec<u8> {
-    let mut list = sheet(rng, Size { states: 3, arrows: 4, lines: 2, characters: 8 });
-    match rng.below(3) {
-        0 => list.states.resize(65, 0),
-        1 => {
-            let first = list.arrows[0].clone();
-            list.arrows.resize(257, first);
-        }
-        _ => {
-            let one = vec![b"a".to_vec()];
-            list.arrows[0].lines.resize(9, one);
-        }
+/// An accepted sheet of 65,536 bytes, or that and one byte more.
+fn full(rng: &mut Random) -> Vec<u8> {
+    let full = largest(rng);
+    let mut sheet = shuffled(rng, &full);
+    if rng.once_in(2) {
+        sheet.push(0);
     }
-    shuffled(rng, &list)
+    sheet
 }
 
+/// All seven calls on each sheet.
 pub fn run(turns: usize, seed: u64) {
     let rng = &mut Random::new(seed);
     let mut runs = Runs::default();
@@ -156,7 +172,11 @@ pub fn run(turns: usize, seed: u64) {
             sheet.truncate(n);
         }
         if rng.once_in(25) {
-            sheet = too_large(rng);
+            let list = unsound(rng);
+            sheet = shuffled(rng, &list);
+        }
+        if rng.once_in(250) {
+            sheet = full(rng);
         }
         checked(&mut runs, &sheet);
         let kind = if rng.once_in(12) { rng.pick(&[3, 4, 255]) } else { rng.below(3) as u8 };

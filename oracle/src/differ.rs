@@ -7,6 +7,7 @@ use std::io::Write;
 use std::process::{Command, Stdio};
 
 use crate::calls::{Turns, bowed, turns};
+use crate::generate::{SORTS, sort_of_starts};
 use crate::random::Random;
 use crate::route::geometry;
 use crate::vectors::graphs::{Drawing, clutter_case, layout_case, route_case, size};
@@ -48,6 +49,8 @@ fn replayed(stream: Vec<u8>) -> BTreeMap<String, (usize, usize)> {
 struct Runs {
     made: BTreeMap<&'static str, usize>,
     found: BTreeMap<String, (usize, usize)>,
+    /// How many graphs had each sort of starts.
+    starts: [usize; SORTS.len()],
     out: Stream,
 }
 
@@ -65,6 +68,8 @@ impl Runs {
 
     /// Prints the counts; ends the program where a case differs or was not replayed.
     fn end(&self) {
+        let starts: Vec<String> = SORTS.iter().zip(self.starts).map(|(sort, n)| format!("{sort} {n}")).collect();
+        println!("graphs by starts: {}", starts.join(", "));
         let mut bad = false;
         for (name, made) in &self.made {
             let (cases, differ) = self.found.get(*name).copied().unwrap_or_default();
@@ -85,6 +90,7 @@ pub fn routings(count: usize, seed: u64) {
     for i in 0..count {
         let size = size(rng);
         let d = Drawing::new(rng, size);
+        runs.starts[sort_of_starts(&d.graph)] += 1;
         match bowed(|| geometry(&d.graph, &d.xs, &d.ys)) {
             Ok(list) => {
                 let t = turns(&d.graph, &d.xs, &d.ys);
@@ -119,6 +125,7 @@ pub fn layouts(count: usize, seed: u64) {
     for i in 0..count {
         let size = size(rng);
         let d = Drawing::new(rng, size);
+        runs.starts[sort_of_starts(&d.graph)] += 1;
         states += d.graph.nodes.len();
         arrows += d.graph.edges.len();
         for number in 0..3 {

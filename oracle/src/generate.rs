@@ -1,5 +1,6 @@
 //! Sheets and centres made at random, the same at every run.
 
+use crate::graph::Graph;
 use crate::layout::{LayoutKind, layout};
 use crate::random::Random;
 use crate::sheet::{Arrow, Line, Sheet};
@@ -60,8 +61,47 @@ pub struct Size {
     pub characters: usize,
 }
 
-/// A sheet of that size. Some arrows are loops, some have an end that is no state.
+/// A sheet of that size, with starts of every sort.
 pub fn sheet(rng: &mut Random, size: Size) -> Sheet {
+    let mut list = from_first(rng, size);
+    starts(rng, &mut list.states);
+    list
+}
+
+/// Makes some of the states starts, and no other: none of them, the first, any one, or several.
+pub fn starts(rng: &mut Random, states: &mut [u8]) {
+    let one = rng.below(states.len().max(1));
+    let way = rng.below(6);
+    for (i, s) in states.iter_mut().enumerate() {
+        let start = match way {
+            0 => false,
+            1 => i == 0,
+            2 | 3 => i == one,
+            4 => i == one || rng.once_in(4),
+            _ => i > 0 && (i == one || rng.once_in(4)),
+        };
+        *s = (*s & !1) | u8::from(start);
+    }
+}
+
+/// The sorts of starts that a graph may have.
+pub const SORTS: [&str; 6] = ["no states", "no start", "state 0", "a later one", "0 and others", "later ones"];
+
+/// The place in `SORTS` of a graph's starts.
+pub fn sort_of_starts(graph: &Graph) -> usize {
+    let starts: Vec<usize> = (0..graph.nodes.len()).filter(|&i| graph.nodes[i].is_start).collect();
+    match starts.as_slice() {
+        _ if graph.nodes.is_empty() => 0,
+        [] => 1,
+        [0] => 2,
+        [_] => 3,
+        [0, ..] => 4,
+        _ => 5,
+    }
+}
+
+/// A sheet of that size whose first state is a start. Some arrows are loops, some have an end that is no state.
+pub fn from_first(rng: &mut Random, size: Size) -> Sheet {
     let states: Vec<u8> = (0..size.states)
         .map(|i| u8::from(i == 0 || rng.once_in(12)) | (u8::from(rng.once_in(4)) << 1))
         .collect();

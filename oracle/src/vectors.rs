@@ -19,7 +19,9 @@ use std::collections::BTreeMap;
 use crate::random::Random;
 
 #[cfg(port = "murshogi")]
-pub use sheets::damage;
+pub use calls::unsound;
+#[cfg(port = "murshogi")]
+pub use sheets::{damage, largest};
 
 /// A text and the lengths of its lines.
 pub fn label_lines(rng: &mut Random) -> (Vec<u8>, Vec<usize>) {

@@ -5,7 +5,7 @@ use std::io::Write;
 use std::time::Duration;
 
 use crate::calls as hardware;
-use crate::generate::{Size, sheet, shuffled};
+use crate::generate::{Size, from_first, shuffled};
 use crate::port::{murshogi_check, murshogi_layout, murshogi_list, murshogi_route};
 use crate::random::Random;
 use crate::rivals::library::calls as library;
@@ -58,7 +58,7 @@ pub fn cases() -> Vec<Case> {
     ]
     .into_iter()
     .map(|(name, states, arrows, lines)| {
-        let s = sheet(rng, Size { states, arrows, lines, characters: 12 });
+        let s = from_first(rng, Size { states, arrows, lines, characters: 12 });
         let sheet = shuffled(rng, &s);
         let l = hardware::layout(&sheet, 0, 64, 64).unwrap();
         let (records, text) = (vec![0.0; 5120], vec![0; 65_536]);

@@ -4,12 +4,12 @@
 
 use std::collections::BTreeMap;
 
-use super::sheets::{ILL, damage};
+use super::sheets::{self, ILL, damage};
 use super::{Payload, Stream, kind, label_lines, number};
 use crate::calls;
-use crate::generate::{Size, centres, drawing, full_pieces, sheet, shuffled};
+use crate::generate::{SORTS, Size, centres, drawing, full_pieces, sheet, shuffled, sort_of_starts, starts};
 use crate::random::Random;
-use crate::sheet::{Arrow, Sheet, label_block};
+use crate::sheet::{Arrow, Sheet, label_block, read};
 
 /// No case is longer than the program's room for one.
 const LONGEST: usize = 70_000;
@@ -53,6 +53,8 @@ impl Call {
 #[derive(Default)]
 struct Cases {
     answers: BTreeMap<(u8, u8), usize>,
+    /// The sorts of starts of the listings that are not refused.
+    starts: [usize; SORTS.len()],
 }
 
 impl Cases {
@@ -61,6 +63,9 @@ impl Cases {
         let p = call.case(call.answer, &call.written);
         if p.0.len() > LONGEST - 1 {
             return;
+        }
+        if call.kind == kind::LIST_CALL && call.answer == 0 {
+            self.starts[sort_of_starts(&read(&call.sheet).unwrap().graph())] += 1;
         }
         let count = self.answers.entry((call.kind, call.answer)).or_default();
         *count += 1;
@@ -87,6 +92,8 @@ impl Cases {
         for refusal in [0, 1, 2, 3, 4, 5, 6, 7, 11] {
             assert!(self.answers.contains_key(&(kind::LIST_CALL, refusal)), "no listing {refusal}");
         }
+        assert!(self.starts.iter().all(|&n| n > 0), "starts: {:?}", self.starts);
+        println!("listings, by starts: {:?}", SORTS.iter().zip(self.starts).collect::<Vec<_>>());
         for kind in kind::ROUTE_CALL..=kind::NUMBER_CALL {
             println!("call {kind}: {}", self.count(kind));
         }
@@ -122,7 +129,7 @@ fn small(rng: &mut Random) -> Sheet {
 }
 
 /// One state, arrow, line or byte of a line more than there may be, or a line that is not well-formed.
-fn unsound(rng: &mut Random) -> Sheet {
+pub fn unsound(rng: &mut Random) -> Sheet {
     let mut list = sheet(rng, Size { states: 3, arrows: 4, lines: 2, characters: 8 });
     let first = &mut list.arrows[0];
     match rng.below(6) {
@@ -155,7 +162,8 @@ fn drawn(rng: &mut Random, drawing: &Sheet) -> Drawn {
 /// A two-way pair with a third state beside one end: no near bow is free.
 fn crowded(rng: &mut Random) -> Drawn {
     let arrow = |from, to| Arrow { from, to, lines: vec![] };
-    let list = Sheet { states: vec![1, 0, 0], arrows: vec![arrow(0, 1), arrow(1, 0)] };
+    let mut list = Sheet { states: vec![0; 3], arrows: vec![arrow(0, 1), arrow(1, 0)] };
+    starts(rng, &mut list.states);
     let near = rng.pick(&[1e-5, 1e-7, 1e-9, 1e-12]);
     Drawn {
         sheet: shuffled(rng, &list),
@@ -166,7 +174,8 @@ fn crowded(rng: &mut Random) -> Drawn {
 
 /// A centre beside the limit.
 fn far(rng: &mut Random) -> Drawn {
-    let drawing = Sheet { states: vec![1, 2], arrows: vec![] };
+    let mut drawing = Sheet { states: vec![0, 2], arrows: vec![] };
+    starts(rng, &mut drawing.states);
     let v = rng.pick(&[1_048_576.0, 1_048_576.000_000_000_2, -1_048_576.0, -1e7]);
     let (xs, ys) = if rng.once_in(2) { (vec![0.0, v], vec![]) } else { (vec![], vec![v]) };
     Drawn { sheet: shuffled(rng, &drawing), xs, ys }
@@ -180,6 +189,16 @@ fn largest(rng: &mut Random) -> Drawn {
     let xs = (0..64).map(|i| along(i % 8)).collect();
     let ys = (0..64).map(|i| along(i / 8)).collect();
     Drawn { sheet: shuffled(rng, &drawing), xs, ys }
+}
+
+/// An accepted sheet of 65,536 bytes and one byte more: its length alone is refused.
+fn too_long(rng: &mut Random) -> Drawn {
+    let full = sheets::largest(rng);
+    let mut sheet = shuffled(rng, &full);
+    assert!(sheet.len() == 65_536 && calls::check(&sheet).is_ok());
+    sheet.push(0);
+    assert_eq!(calls::check(&sheet), Err(1));
+    Drawn { sheet, xs: vec![], ys: vec![] }
 }
 
 /// A drawing for a call at a given turn: some crowded, some far, now and then one of any size.
@@ -198,17 +217,20 @@ fn turn(rng: &mut Random, i: usize) -> Drawn {
     }
 }
 
-/// Listings until 300 are not refused, and 490 calls of all kinds, mixed.
+/// Listings until 300 are not refused, one of a sheet that is too long, 490 calls of all kinds, mixed, and
+/// what is missing of the refusals 1 to 6 by each call that takes a sheet.
 pub fn cases(out: &mut Stream) {
     let rng = &mut Random::new(707);
     let c = &mut Cases::default();
     while c.answered(kind::LIST_CALL) < 300 {
         let drawing = if rng.once_in(40) { drawing(rng) } else { small(rng) };
         let d = drawn(rng, &drawing);
-        list(out, c, rng, &d);
+        let by = layout_kind(rng);
+        list(out, c, rng, &d, by);
     }
-    let too_long = Drawn { sheet: vec![0; 65_552], xs: vec![], ys: vec![] };
-    list(out, c, rng, &too_long);
+    let by = rng.below(3) as u8;
+    let d = too_long(rng);
+    list(out, c, rng, &d, by);
     for kind in kind::ROUTE_CALL..=kind::LIST_CALL {
         let d = largest(rng);
         call(out, c, rng, kind, &d);
@@ -222,6 +244,17 @@ pub fn cases(out: &mut Stream) {
         };
         call(out, c, rng, kind, &d);
     }
+    for kind in kind::ROUTE_CALL..=kind::CHECK_CALL {
+        for refusal in 1..=6 {
+            while !c.answers.contains_key(&(kind, refusal)) {
+                let drawing = small(rng);
+                let d = drawn(rng, &drawing);
+                if calls::check(&d.sheet) == Err(refusal) {
+                    call(out, c, rng, kind, &d);
+                }
+            }
+        }
+    }
     c.end();
 }
 
@@ -230,7 +263,10 @@ fn call(out: &mut Stream, c: &mut Cases, rng: &mut Random, kind: u8, d: &Drawn) 
         kind::ROUTE_CALL => route(out, c, rng, d),
         kind::LAYOUT_CALL => layout(out, c, rng, d),
         kind::CLUTTER_CALL => clutter(out, c, rng, d),
-        kind::LIST_CALL => list(out, c, rng, d),
+        kind::LIST_CALL => {
+            let by = layout_kind(rng);
+            list(out, c, rng, d, by);
+        }
         kind::CHECK_CALL => check(out, c, rng, d),
         kind::LABEL_CALL => label(out, c, rng),
         _ => written(out, c, rng),
@@ -311,8 +347,7 @@ fn clutter(out: &mut Stream, c: &mut Cases, rng: &mut Random, d: &Drawn) {
 }
 
 /// Given: the room that is lent. Written: the text.
-fn list(out: &mut Stream, c: &mut Cases, rng: &mut Random, d: &Drawn) {
-    let by = layout_kind(rng);
+fn list(out: &mut Stream, c: &mut Cases, rng: &mut Random, d: &Drawn, by: u8) {
     let n = calls::list(&d.sheet, by, usize::MAX).map_or(20, |t| t.len());
     let n = room(rng, n);
     let answer = calls::list(&d.sheet, by, n);

@@ -7,7 +7,7 @@
 
 use super::{Payload, Stream, kind};
 use crate::calls::{bowed, record};
-use crate::generate::{Size, centres, sheet};
+use crate::generate::{SORTS, Size, centres, sheet, sort_of_starts};
 use crate::graph::Graph;
 use crate::layout::{LayoutKind, layout};
 use crate::random::Random;
@@ -128,6 +128,7 @@ fn add(out: &mut Stream, rng: &mut Random, kind: u8, p: Payload, last: usize) {
 
 pub fn cases(out: &mut Stream) {
     let rng = &mut Random::new(808);
+    let mut starts = [0; SORTS.len()];
     for i in 0..480 {
         let size = match i {
             // The largest, and nothing at all.
@@ -138,6 +139,7 @@ pub fn cases(out: &mut Stream) {
             _ => size(rng),
         };
         let d = Drawing::new(rng, size);
+        starts[sort_of_starts(&d.graph)] += 1;
         let drawn = geometry(&d.graph, &d.xs, &d.ys).len();
         add(out, rng, kind::ROUTE, route_case(&d), if drawn > 0 { 8 } else { 0 });
         if i % 3 == 0 {
@@ -149,4 +151,5 @@ pub fn cases(out: &mut Stream) {
             }
         }
     }
+    println!("graphs, by starts: {:?}", SORTS.iter().zip(starts).collect::<Vec<_>>());
 }

@@ -4,7 +4,7 @@ use std::collections::BTreeMap;
 
 use super::{Payload, Stream, kind};
 use crate::calls::check;
-use crate::generate::{Size, full_pieces, ordered, pieces, sheet, shuffled, text};
+use crate::generate::{Size, full_pieces, ordered, pieces, sheet, shuffled, starts, text};
 use crate::random::Random;
 use crate::sheet::{self, Arrow, Line, Sheet, put};
 
@@ -354,7 +354,7 @@ pub fn largest(rng: &mut Random) -> Sheet {
         }
     }
     let mut states = vec![0; 64];
-    states[0] = 1;
+    starts(rng, &mut states);
     Sheet { states, arrows }
 }
 
