@@ -17,7 +17,7 @@ use Rattle.laws.specs.Refusals.{decide}
 use Rattle.laws.specs.Flat.{table, part, table-more}
 use Rattle.laws.specs.Counting.{table-length}
 use Rattle.shape.specs.declared.«V».{«V»}
-use Rattle.free.specs.Centres.{centres}
+use Rattle.shape.specs.Centres.{centres}
 use Rattle.spot.specs.declared.Geometry.{Geometry}
 use Rattle.records.specs.Records.{fields, decodeGeometry, decodeRecords}
 use Rattle.records.specs.Back.{put-record}

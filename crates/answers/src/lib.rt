@@ -10,7 +10,7 @@ ghost use Rattle.records.specs.Records.{fields, decodeRecords};
 ghost use Rattle.records.specs.Back.{Small};
 ghost use Rattle.routing.specs.Sheets.{centreAt};
 ghost use Rattle.clutter.specs.Clutter.{clutterOf};
-ghost use Rattle.free.specs.Centres.{centres};
+ghost use Rattle.shape.specs.Centres.{centres};
 ghost use Rattle.lines.specs.Lines.{listText, listWritable};
 ghost use Rattle.answers.specs.Answers as F;
 

@@ -7,15 +7,13 @@ use lib.ListN.{length, getD}
 use lib.Ieee.{Float}
 use Rattle.laws.specs.Loops.{anyUp}
 use Rattle.float.specs.Ops.{_⊕_, _⊗_, lt, neg}
-use Rattle.float.specs.Constants.{f0, f1, f24, f28, f48, f64, f160, f0-3, f1-5, f1e-9, f1e9}
+use Rattle.float.specs.Constants.{f0, f1, f24, f28, f48, f64, f160, f0-3, f1-5, f1e-9}
 use Rattle.float.specs.Standins.{abs, max, clamp, copysign}
 use Rattle.shape.specs.declared.«V».{«V»}
 use Rattle.free.specs.declared.Chord.{Chord}
 use Rattle.free.specs.declared.Span.{Span}
 use Rattle.free.specs.Blocked.{blocked}
 use Rattle.free.specs.Free.{holds, firstFree}
-use Rattle.bow.specs.declared.Bent.{Bent}
-use Rattle.bow.specs.declared.Bent.the-variants.{Offset, Beyond}
 use Rattle.bow.specs.Clear.{clearance, verified}
 
 -- ---- the cap, for single arrows only
@@ -33,6 +31,7 @@ capped most h = cond (lt most (abs h)) (copysign most h) h
 abbrev pub base : Chord → Float
 base c = clamp (f0-3 ⊗ c .len) f28 f64
 
+-- the first free bow, upwards
 abbrev pub pairUp : Chord → List Span → Float
 pairUp c l = firstFree f1 l (base c)
 
@@ -40,9 +39,9 @@ pairUp c l = firstFree f1 l (base c)
 abbrev pub pairBows : Float → List Float
 pairBows h = h ∷ (h ⊕ f24) ∷ (h ⊕ f48) ∷ []
 
--- each arrow bends to its left, past what is blocked; "a two-way pair whose first free bow exceeds 10^9" has none
-unfoldable pub pairBow : Chord → List «V» → List Span → Bent
-pairBow c ps l = cond (lt f1e9 (pairUp c l)) Beyond (Offset (verified (clearance c ps) (pairBows (pairUp c l))))
+-- each arrow bends to its left, past what is blocked
+unfoldable pub pairBow : Chord → List «V» → List Span → Float
+pairBow c ps l = verified (clearance c ps) (pairBows (pairUp c l))
 
 -- ---- a single arrow
 
@@ -69,10 +68,10 @@ singleBow c ps l = verified (clearance c ps) (singleBows c l)
 -- ---- all arrows
 
 -- an arrow is straight where it has no reverse arrow and 0 is not blocked: `straight-exactly` of `Exactly`
-abbrev pub bendPast : Chord → List «V» → List Span → Bool → Bent
-bendPast c ps l bothWays = cond bothWays (pairBow c ps l) (cond (holds l f0) (Offset (singleBow c ps l)) (Offset f0))
+abbrev pub bendPast : Chord → List «V» → List Span → Bool → Float
+bendPast c ps l bothWays = cond bothWays (pairBow c ps l) (cond (holds l f0) (singleBow c ps l) f0)
 
-unfoldable pub bend : Chord → List «V» → Bool → Bent
+unfoldable pub bend : Chord → List «V» → Bool → Float
 bend c ps bothWays = bendPast c ps (blocked c ps) bothWays
 
 abbrev pub joins : ℕ → ℕ → ℕ → ℕ → Bool

@@ -11,14 +11,10 @@ use Rattle.shape.specs.declared.Curve.{Curve}
 use Rattle.shape.specs.declared.Curve.the-variants.{Line, Quad}
 use Rattle.shape.specs.Plane.{add, sub, mul, neg, angle, unitOr}
 use Rattle.free.specs.declared.Chord.{Chord}
-use Rattle.free.specs.Centres.{chord}
+use Rattle.free.specs.Chords.{chord}
 use Rattle.bow.specs.declared.Shape.{Shape}
 use Rattle.bow.specs.declared.Shape.the-variants.{Line as LineShape, Arc}
 use Rattle.bow.specs.declared.Routed.{Routed}
-use Rattle.bow.specs.declared.Bent.{Bent}
-use Rattle.bow.specs.declared.Bent.the-variants.{Offset, Beyond}
-use Rattle.bow.specs.declared.Joined.{Joined}
-use Rattle.bow.specs.declared.Joined.the-variants.{Arrow, Beyond as None}
 use Rattle.bow.specs.Clear.{control}
 use Rattle.bow.specs.Bend.{bend}
 
@@ -40,9 +36,5 @@ bowed c h = arcBy c (control c h) h
 unfoldable pub drawn : Chord → Float → Routed
 drawn c h = cond (eq h f0) (straight c) (bowed c h)
 
-abbrev pub joined : Chord → Bent → Joined
-joined c (Offset h) = Arrow (drawn c h)
-joined c Beyond = None
-
-unfoldable pub between : List «V» → ℕ → ℕ → Bool → Joined
-between ps from to bothWays = joined (chord ps from to) (bend (chord ps from to) ps bothWays)
+unfoldable pub between : List «V» → ℕ → ℕ → Bool → Routed
+between ps from to bothWays = let c = chord ps from to in drawn c (bend c ps bothWays)

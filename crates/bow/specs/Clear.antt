@@ -1,12 +1,11 @@
 -- The clearance of an arc from the states that are not its ends, and which of some bows is taken by it. The search for a free bow looks at each
 -- state only straight across the chord, so arcs are checked again at 15 points.
-use mathlib.Core.Bool.{Bool, cond}
+use mathlib.Core.Bool.{Bool, false, cond, not, _||_}
 use mathlib.Core.List.{List, [], _∷_}
 use Prim.Native.Nat.{ℕ}
-use lib.ListN.{getD}
 use lib.Ieee.{Float, nan}
 use Rattle.laws.specs.Loops.{up, over}
-use Rattle.float.specs.Ops.{_⊖_, _⊗_, _⊘_, lt, le, neg, count}
+use Rattle.float.specs.Ops.{_⊖_, _⊗_, _⊘_, lt, le, count}
 use Rattle.float.specs.Constants.{f2, f10, f16, f22, f0-5, infinity}
 use Rattle.float.specs.Standins.{min}
 use Rattle.shape.specs.declared.«V».{«V»}
@@ -15,8 +14,7 @@ use Rattle.shape.specs.declared.Curve.the-variants.{Quad}
 use Rattle.shape.specs.Plane.{add, div, mul, left, dist}
 use Rattle.shape.specs.Curves.{at}
 use Rattle.free.specs.declared.Chord.{Chord}
-use Rattle.free.specs.Centres.{isEnd, others}
-use Rattle.bow.specs.declared.Best.{Best}
+use Rattle.free.specs.Chords.{isEnd, others}
 
 -- the control point of the arc with bow h: h to the left of the chord's middle
 abbrev pub control : Chord → Float → «V»
@@ -47,16 +45,24 @@ beside c k o p m = cond (isEnd c k) m (nearer p m o)
 
 -- ---- the choice
 
-abbrev pub best : Float → Float → Best
-best m h = record { clearance = m; bow = h }
+-- the arc keeps half the clearance 10
+abbrev pub keepsHalf : (Float → Float) → Float → Bool
+keepsHalf keeps h = le (f10 ⊗ f0-5) (keeps h)
 
-unfoldable pub better : Best → Float → Float → Best
-better b m h = cond (lt (b .clearance) m) (best m h) b
+-- one of these bows keeps more than h does
+unfoldable pub outdone : (Float → Float) → List Float → Float → Bool
+outdone keeps [] h = false
+outdone keeps (g ∷ gs) h = lt (keeps h) (keeps g) || outdone keeps gs h
 
--- the first bow that keeps half the clearance 10, else the first of those that keep most
-unfoldable pub choose : (Float → Float) → Best → List Float → Float
-choose keeps b [] = b .bow
-choose keeps b (h ∷ hs) = let rest = choose keeps (better b (keeps h) h) hs in cond (le (f10 ⊗ f0-5) (keeps h)) h rest
+-- the first of these bows that passes the test, or else this one
+unfoldable pub firstThat : (Float → Bool) → List Float → Float → Float
+firstThat test [] other = other
+firstThat test (h ∷ hs) other = let rest = firstThat test hs other in cond (test h) h rest
 
+-- the first of those that keep most: none of the bows keeps more
+abbrev pub keepsMost : (Float → Float) → List Float → Float
+keepsMost keeps hs = firstThat (λ h. not (outdone keeps hs h)) hs nan
+
+-- the first bow that keeps half the clearance, else the first of those that keep most
 unfoldable pub verified : (Float → Float) → List Float → Float
-verified keeps hs = choose keeps (best (neg infinity) (getD hs 0 nan)) hs
+verified keeps hs = let most = keepsMost keeps hs in firstThat (keepsHalf keeps) hs most

@@ -22,7 +22,7 @@ use Rattle.float.specs.Sizes.{Form, endless, finite, round-form, ordered, apart
 use Rattle.shape.specs.declared.«V».{«V»}
 use Rattle.shape.specs.Plane.{sub, dist}
 use Rattle.free.specs.declared.Chord.{Chord}
-use Rattle.free.specs.Centres.{isEnd}
+use Rattle.free.specs.Chords.{isEnd}
 use Rattle.bow.specs.declared.Near.{Near}
 use Rattle.bow.specs.Clear.{beside, nearest}
 use mathlib.Core.List.{List}

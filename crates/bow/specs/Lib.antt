@@ -1,7 +1,9 @@
 pub mod Clear
+pub mod Choice
 pub mod Turns
 pub mod Bend
 pub mod Between
+pub mod Numbers
 pub mod Exactly
 pub mod Leads
 pub mod Farther

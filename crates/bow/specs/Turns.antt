@@ -13,10 +13,12 @@ use Rattle.float.specs.Ops.{_⊗_, le}
 use Rattle.float.specs.Constants.{f10, f0-5}
 use Rattle.shape.specs.declared.«V».{«V»}
 use Rattle.free.specs.declared.Chord.{Chord}
-use Rattle.free.specs.Centres.{centre, isEnd, othersFrom}
+use Rattle.shape.specs.Centres.{centre}
+use Rattle.free.specs.Chords.{isEnd, othersFrom}
 use Rattle.free.specs.Turns.{others-skip, others-take, others-end}
 use Rattle.bow.specs.declared.Best.{Best}
-use Rattle.bow.specs.Clear.{beside, nearer, better, choose}
+use Rattle.bow.specs.Clear.{beside, nearer}
+use Rattle.bow.specs.Choice.{better, choose}
 
 -- a fold over the other states: state k's turn, and the end
 module _ (c : Chord) (ps : List «V») (p : «V») (k : ℕ) (m : Float) where

@@ -5,9 +5,11 @@ use shape::V;
 ghost use mathlib.Core.Path.{_≡_};
 ghost use Prim.Native.Nat.{ℕ, _<_, _≤_};
 ghost use lib.ListN.{length};
-ghost use Rattle.free.specs.Centres as C;
+ghost use Rattle.shape.specs.Centres.{centres};
+ghost use Rattle.free.specs.Chords as C;
 ghost use Rattle.free.specs.Free as F;
 ghost use Rattle.bow.specs.Clear as L;
+ghost use Rattle.bow.specs.Choice as K;
 ghost use Rattle.bow.specs.Farther as Q;
 ghost use Rattle.bow.specs.Bend as B;
 ghost use Rattle.bow.specs.Between as W;
@@ -24,17 +26,6 @@ pub struct Routed {
     pub curve: Curve,
     pub tip_angle: f64,
     pub shape: Shape,
-}
-
-// The offset of the control point to the left of the chord, 0 for a straight arrow; or a two-way pair whose first free bow exceeds 10^9.
-pub enum Bent {
-    Offset(f64),
-    Beyond,
-}
-
-pub enum Joined {
-    Arrow(Routed),
-    Beyond,
 }
 
 // The control point of the arc with bow h.
@@ -86,11 +77,11 @@ fn beside(c: Chord, k: usize, o: V, p: V, r: Near) -> Near
 fn nearest(xs: &[f64], ys: &[f64], c: Chord, p: V, start: Near) -> Near
     requires { ⌜ length (now ys) ≡ length (now xs) ⌝ }
     requires { ⌜ Q.Good start ⌝ }
-    ensures { λ r. ⌜ Q.Nearest (C.others c (C.centres (now (xs .entry)) (now (ys .entry)))) p start r ⌝ }
+    ensures { λ r. ⌜ Q.Nearest (C.others c (centres (now (xs .entry)) (now (ys .entry)))) p start r ⌝ }
 {
     let mut r = start;
     for k in 0..xs.len() {
-        r = beside(c, k, free::centre(xs, ys, k), p, r);
+        r = beside(c, k, shape::centre(xs, ys, k), p, r);
     }
     r
 }
@@ -98,7 +89,7 @@ fn nearest(xs: &[f64], ys: &[f64], c: Chord, p: V, start: Near) -> Near
 // The clearance that the arc with bow h keeps from the other states.
 fn clearance(xs: &[f64], ys: &[f64], c: Chord, h: f64) -> f64
     requires { ⌜ length (now ys) ≡ length (now xs) ⌝ }
-    ensures { λ r. ⌜ r ≡ L.clearance c (C.centres (now (xs .entry)) (now (ys .entry))) h ⌝ }
+    ensures { λ r. ⌜ r ≡ L.clearance c (centres (now (xs .entry)) (now (ys .entry))) h ⌝ }
 {
     let a = c.a;
     let b = c.b;
@@ -123,7 +114,7 @@ pub struct Best {
 }
 
 fn better(b: Best, clearance: f64, bow: f64) -> Best
-    ensures { λ r. ⌜ r ≡ L.better b clearance bow ⌝ }
+    ensures { λ r. ⌜ r ≡ K.better b clearance bow ⌝ }
 {
     if clearance > b.clearance {
         return Best { clearance, bow };
@@ -135,7 +126,7 @@ fn better(b: Best, clearance: f64, bow: f64) -> Best
 fn verified(xs: &[f64], ys: &[f64], c: Chord, bows: &[f64]) -> f64
     requires { ⌜ length (now ys) ≡ length (now xs) ⌝ }
     requires { ⌜ 0 < length (now bows) ⌝ }
-    ensures { λ r. ⌜ r ≡ L.verified (L.clearance c (C.centres (now (xs .entry)) (now (ys .entry)))) (now (bows .entry)) ⌝ }
+    ensures { λ r. ⌜ r ≡ L.verified (L.clearance c (centres (now (xs .entry)) (now (ys .entry)))) (now (bows .entry)) ⌝ }
 {
     let mut b = Best {
         clearance: -f64::from_bits(0x7ff0_0000_0000_0000),
@@ -152,19 +143,24 @@ fn verified(xs: &[f64], ys: &[f64], c: Chord, bows: &[f64]) -> f64
     b.bow
 }
 
-// A two-way pair: upwards, and not capped.
-fn pair_bow(xs: &[f64], ys: &[f64], c: Chord, lo: &[f64], hi: &[f64]) -> Bent
-    requires { ⌜ length (now ys) ≡ length (now xs) ⌝ }
+// The first free bow of a two-way pair: upwards from 0.3 of the distance, from 28 to 64.
+pub fn pair_up(c: Chord, lo: &[f64], hi: &[f64]) -> f64
     requires { ⌜ length (now hi) ≡ length (now lo) ⌝ }
-    ensures { λ r. ⌜ r ≡ B.pairBow c (C.centres (now (xs .entry)) (now (ys .entry))) (F.spans (now (lo .entry)) (now (hi .entry))) ⌝ }
+    ensures { λ r. ⌜ r ≡ B.pairUp c (F.spans (now (lo .entry)) (now (hi .entry))) ⌝ }
 {
     let base = float::clamp(0.3 * c.len, 28.0, 64.0);
-    let up = free::first_free(lo, hi, base, 1.0);
-    if up > 1e9 {
-        return Bent::Beyond;
-    }
+    free::first_free(lo, hi, base, 1.0)
+}
+
+// A two-way pair: upwards, and not capped.
+fn pair_bow(xs: &[f64], ys: &[f64], c: Chord, lo: &[f64], hi: &[f64]) -> f64
+    requires { ⌜ length (now ys) ≡ length (now xs) ⌝ }
+    requires { ⌜ length (now hi) ≡ length (now lo) ⌝ }
+    ensures { λ r. ⌜ r ≡ B.pairBow c (centres (now (xs .entry)) (now (ys .entry))) (F.spans (now (lo .entry)) (now (hi .entry))) ⌝ }
+{
+    let up = pair_up(c, lo, hi);
     let bows = [up, up + 24.0, up + 48.0];
-    Bent::Offset(verified(xs, ys, c, &bows))
+    verified(xs, ys, c, &bows)
 }
 
 fn capped(cap: f64, h: f64) -> f64
@@ -180,7 +176,7 @@ fn capped(cap: f64, h: f64) -> f64
 fn single_bow(xs: &[f64], ys: &[f64], c: Chord, lo: &[f64], hi: &[f64]) -> f64
     requires { ⌜ length (now ys) ≡ length (now xs) ⌝ }
     requires { ⌜ length (now hi) ≡ length (now lo) ⌝ }
-    ensures { λ r. ⌜ r ≡ B.singleBow c (C.centres (now (xs .entry)) (now (ys .entry))) (F.spans (now (lo .entry)) (now (hi .entry))) ⌝ }
+    ensures { λ r. ⌜ r ≡ B.singleBow c (centres (now (xs .entry)) (now (ys .entry))) (F.spans (now (lo .entry)) (now (hi .entry))) ⌝ }
 {
     let cap = float::max(1.5 * c.len, 160.0);
     let up = free::first_free(lo, hi, 24.0, 1.0);
@@ -196,25 +192,25 @@ fn single_bow(xs: &[f64], ys: &[f64], c: Chord, lo: &[f64], hi: &[f64]) -> f64
 }
 
 // The bow past these intervals.
-fn bend_past(xs: &[f64], ys: &[f64], c: Chord, lo: &[f64], hi: &[f64], both_ways: bool) -> Bent
+fn bend_past(xs: &[f64], ys: &[f64], c: Chord, lo: &[f64], hi: &[f64], both_ways: bool) -> f64
     requires { ⌜ length (now ys) ≡ length (now xs) ⌝ }
     requires { ⌜ length (now hi) ≡ length (now lo) ⌝ }
-    ensures { λ r. ⌜ r ≡ B.bendPast c (C.centres (now (xs .entry)) (now (ys .entry))) (F.spans (now (lo .entry)) (now (hi .entry))) «both_ways» ⌝ }
+    ensures { λ r. ⌜ r ≡ B.bendPast c (centres (now (xs .entry)) (now (ys .entry))) (F.spans (now (lo .entry)) (now (hi .entry))) «both_ways» ⌝ }
 {
     if both_ways {
         return pair_bow(xs, ys, c, lo, hi);
     }
     if free::holds(lo, hi, 0.0) {
-        return Bent::Offset(single_bow(xs, ys, c, lo, hi));
+        return single_bow(xs, ys, c, lo, hi);
     }
-    Bent::Offset(0.0)
+    0.0
 }
 
 // The signed offset of the control point, to the left of the direction of travel, or 0 for a straight arrow.
-pub fn bend(xs: &[f64], ys: &[f64], c: Chord, both_ways: bool) -> Bent
+pub fn bend(xs: &[f64], ys: &[f64], c: Chord, both_ways: bool) -> f64
     requires { ⌜ length (now ys) ≡ length (now xs) ⌝ }
     requires { ⌜ length (now xs) ≤ 64 ⌝ }
-    ensures { λ r. ⌜ r ≡ B.bend c (C.centres (now (xs .entry)) (now (ys .entry))) «both_ways» ⌝ }
+    ensures { λ r. ⌜ r ≡ B.bend c (centres (now (xs .entry)) (now (ys .entry))) «both_ways» ⌝ }
 {
     let mut lo = [0.0f64; 64];
     let mut hi = [0.0f64; 64];
@@ -257,19 +253,16 @@ fn drawn(c: Chord, h: f64) -> Routed
 }
 
 // The arrow between two different states.
-pub fn between(xs: &[f64], ys: &[f64], from: usize, to: usize, both_ways: bool) -> Joined
+pub fn between(xs: &[f64], ys: &[f64], from: usize, to: usize, both_ways: bool) -> Routed
     requires { ⌜ length (now ys) ≡ length (now xs) ⌝ }
     requires { ⌜ length (now xs) ≤ 64 ⌝ }
     requires { ⌜ from < length (now xs) ⌝ }
     requires { ⌜ to < length (now xs) ⌝ }
-    ensures { λ r. ⌜ r ≡ W.between (C.centres (now (xs .entry)) (now (ys .entry))) from to «both_ways» ⌝ }
+    ensures { λ r. ⌜ r ≡ W.between (centres (now (xs .entry)) (now (ys .entry))) from to «both_ways» ⌝ }
 {
     let c = free::chord_of(xs, ys, from, to);
-    let b = bend(xs, ys, c, both_ways);
-    match b {
-        Bent::Offset(h) => Joined::Arrow(drawn(c, h)),
-        Bent::Beyond => Joined::Beyond,
-    }
+    let h = bend(xs, ys, c, both_ways);
+    drawn(c, h)
 }
 
 fn joins(source: usize, target: usize, a: usize, b: usize) -> bool

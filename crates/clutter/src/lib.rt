@@ -9,7 +9,7 @@ ghost use Rattle.laws.specs.Counting.{number, worth};
 ghost use Rattle.laws.specs.Flat.{part};
 ghost use Rattle.sheet.specs.Refusals.{any};
 ghost use Rattle.shape.specs.Plane.{vec};
-ghost use Rattle.free.specs.Centres.{centres};
+ghost use Rattle.shape.specs.Centres.{centres};
 ghost use Rattle.trace.specs.Traces.{crosses};
 ghost use Rattle.trace.specs.Form.{decodeTrace, decodeTraces};
 ghost use Rattle.records.specs.Records.{decodeGeometry, decodeRecords};

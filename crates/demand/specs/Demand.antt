@@ -16,7 +16,7 @@ use Rattle.svg.specs.Paths.{curveText}
 use Rattle.spot.specs.declared.Geometry.{Geometry}
 use Rattle.records.specs.Records.{fields}
 use Rattle.place.specs.Scene.{Scene}
-use Rattle.routing.specs.Routing.{Frame, Size, Item, Step, numbered, isKept, kept, edgeOf, order, stepOf, listedBy, cost, drawnStep, sceneAt}
+use Rattle.routing.specs.Routing.{Frame, Size, Item, Step, numbered, isKept, kept, edgeOf, order, stepOf, listedBy, cost, drawnStep, taken, sceneAt}
 use Rattle.routing.specs.Numbers.{numberedAt}
 use Rattle.routing.specs.Slots.{isTurn, itemFor}
 use Rattle.routing.specs.Demand.{noItem}
@@ -108,6 +108,10 @@ scene c t = sceneAt (frame c) (sizes c) t
 abbrev pub costAt : Call → ℕ → ℕ → ℕ
 costAt c t j = cost (frame c) (scene c t) (stepAt c t) j
 
+-- "The first that no other undercuts is taken": the place or direction that the run takes at turn t
+abbrev pub takenAt : Call → ℕ → ℕ
+takenAt c t = getD (taken (frame c) (sizes c)) t 0
+
 -- how many are listed
 abbrev pub listedAt : Call → ℕ → ℕ
 listedAt c t = listedBy (frame c) (stepAt c t .item)
@@ -137,6 +141,8 @@ pub record Held (c : Call) (a : Answered c) (t : ℕ) : Type 0 where
   pub inside : 20 * turnNumber c t + 20 ≤ a .numbers
   pub place : ℕ
   pub least : FirstLeast (costAt c t) (listedAt c t) place
+  -- it is the one that the plain run takes
+  pub taken : place ≡ takenAt c t
   -- its twenty numbers and its path text are those of what is drawn at that place: so its label point, anchor and box are that place's,
   -- and for a loop its curve, tip and tip angle are that direction's
   pub numbers : recordAt c (turnNumber c t) ≡ fields (drawnAt c t place)
@@ -161,11 +167,10 @@ pub record Cheapest (c : Call) (a : Answered c) : Type 0 where
 
 -- ---- two sheets
 
--- "the same states" and "the same arrow ends", at the same centres
+-- "the same states" and "the same arrow ends", at the same centres: those of the states, whatever else is lent. "Centres are the same .. bit for bit"
 pub record Same (c d : Call) : Type 0 where
   pub ends : SameFrame (graph c) (graph d)
-  pub xs : c .xs ≡ d .xs
-  pub ys : c .ys ≡ d .ys
+  pub centres : frame c .centres ≡ frame d .centres
 
 -- "Label lines agree where an arrow has as many in both, with the same bytes in order": those of turn t's arrow
 abbrev pub Agree : Call → Call → ℕ → Type 0

@@ -17,7 +17,8 @@ use Rattle.shape.specs.declared.Curve.{Curve}
 use Rattle.shape.specs.declared.Curve.the-variants.{Line, Quad, Cubic}
 use Rattle.svg.specs.Paths.{Command, curvePath, pointText, pointsText, commandText, moreText, pathText, curveText}
 use Rattle.spot.specs.declared.Geometry.{Geometry}
-use Rattle.lines.specs.Lines.{pathLine, pathsText}
+use Rattle.lines.specs.Each.{texts-map}
+use Rattle.lines.specs.Lines.{pathLine, pathsOf, pathsText}
 use Rattle.demand.specs.Demand.{line, later, lineAt}
 
 -- ---- a line ends at the first newline
@@ -36,7 +37,7 @@ unfolding line
 line-first [] m h = refl
 line-first (b ∷ l) m h = rw (ne-eqb b 10 (λ e. absurd (omega (arith, h .0)))) (ap (λ (r : List ℕ). b ∷ r) (line-first l m (h .1)))
 
-line-later : (l m : List ℕ) → Above l → later (l ++ 10 ∷ m) ≡ m
+pub line-later : (l m : List ℕ) → Above l → later (l ++ 10 ∷ m) ≡ m
 unfolding later
 line-later [] m h = refl
 line-later (b ∷ l) m h = rw (ne-eqb b 10 (λ e. absurd (omega (arith, h .0)))) (line-later l m (h .1))
@@ -102,14 +103,14 @@ unfolding pathText
 path-above [] h = tt
 path-above (c ∷ cs) h = join (commandText c) (moreText cs) (h .0, points-above (c .points)) (more-above cs (h .1))
 
-letters : (k : Curve) → Letters (curvePath k)
-letters (Line a b) = (omega arith, (omega arith, tt))
-letters (Quad a c b) = (omega arith, (omega arith, tt))
-letters (Cubic a c d b) = (omega arith, (omega arith, tt))
+pub curve-letters : (k : Curve) → Letters (curvePath k)
+curve-letters (Line a b) = (omega arith, (omega arith, tt))
+curve-letters (Quad a c b) = (omega arith, (omega arith, tt))
+curve-letters (Cubic a c d b) = (omega arith, (omega arith, tt))
 
 pub curve-above : (k : Curve) → Above (curveText k)
 unfolding curveText
-curve-above k = path-above (curvePath k) (letters k)
+curve-above k = path-above (curvePath k) (curve-letters k)
 
 -- ---- texts of so many lines each, one after another
 
@@ -151,14 +152,19 @@ module _ {A : Type 0} (f : A → List ℕ) (w : ℕ) (each : (x : A) → Skips w
 
 -- ---- line k of the paths of some records, with anything behind them, is the path of record k
 
-path-skips : (g : Geometry) → Skips 1 (pathLine g)
-unfolding pathLine
+abbrev pathOf : Geometry → List ℕ
+pathOf g = pathLine (curvePath (g .curve))
+
+path-skips : (g : Geometry) → Skips 1 (pathOf g)
+unfolding pathLine curveText
 path-skips g = skips-line (curveText (g .curve)) (curve-above (g .curve))
 
-path-first : (g : Geometry) (m : List ℕ) → line (pathLine g ++ m) ≡ curveText (g .curve)
-unfolding pathLine
+path-first : (g : Geometry) (m : List ℕ) → line (pathOf g ++ m) ≡ curveText (g .curve)
+unfolding pathLine curveText
 path-first g m = ap line (append-assoc (curveText (g .curve)) (10 ∷ []) m) ∙ line-first (curveText (g .curve)) m (curve-above (g .curve))
 
 pub line-path : (gs : List Geometry) (tail : List ℕ) (k : ℕ) (d : Geometry) → k < length gs → lineAt k (pathsText gs ++ tail) ≡ curveText (getD gs k d .curve)
-unfolding pathsText
-line-path gs tail k d h = ap (λ (n : ℕ). lineAt n (flatMap pathLine gs ++ tail)) (sym (one-mul k)) ∙ first-of pathLine 1 path-skips (λ g. curveText (g .curve)) path-first gs tail k d h
+unfolding pathsText pathsOf
+line-path gs tail k d h =
+    ap₂ (λ (n : ℕ) (t : List ℕ). lineAt n (t ++ tail)) (sym (one-mul k)) (texts-map pathLine (λ (g : Geometry). curvePath (g .curve)) gs)
+    ∙ first-of pathOf 1 path-skips (λ g. curveText (g .curve)) path-first gs tail k d h

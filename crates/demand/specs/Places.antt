@@ -12,7 +12,7 @@ use Rattle.laws.specs.Cases.{by-bool, by-lt}
 use Rattle.laws.specs.Filter.{filter, filter-yes, filter-no}
 use Rattle.laws.specs.Flat.{part}
 use Rattle.spot.specs.declared.Geometry.{Geometry}
-use Rattle.routing.specs.Routing.{Frame, Ends, Size, Item, Numbered, numberedFrom, numbered, isKept, isLoop, kept, beyond, edgeOf, order, drawing, drawnFor, records}
+use Rattle.routing.specs.Routing.{Frame, Ends, Size, Item, Numbered, numberedFrom, numbered, isKept, isLoop, kept, edgeOf, order, drawing, drawnFor, records}
 use Rattle.routing.specs.Lists.{At, filter-some, filter-only}
 use Rattle.routing.specs.Numbers.{numberedBy, noEnds, numberedAt}
 use Rattle.routing.specs.Slots.{isEdge, isTurn, itemFor, own-turn, own-none, drawn-once, records-edges, records-length}
@@ -98,30 +98,30 @@ module _ (f : Frame) (e : ℕ) (h : e < length (f .arrows)) (c : isKept f (numbe
 pub item-edge : (f : Frame) (a : Numbered) → edgeOf (itemFor f a) ≡ a .edge
 item-edge f a = by-bool (isLoop a) (λ t. rw t) (λ t. rw t)
 
-module _ (f : Frame) (none-beyond : beyond f ≡ false) where
+module _ (f : Frame) where
   -- the arrow of a turn is one of the arrows, and kept
   pub turn-number : (t : ℕ) → t < length (order f) → edgeAt f t < length (f .arrows)
   turn-number t h =
       by-lt (edgeAt f t) (length (f .arrows)) (λ l. l)
-      (λ l. absurd (omega (arith, filter-some (isTurn (edgeAt f t)) (order f) t noItem h (eq-eqb (edgeAt f t) (edgeAt f t) refl), ap length (own-none f (edgeAt f t) none-beyond l))))
+      (λ l. absurd (omega (arith, filter-some (isTurn (edgeAt f t)) (order f) t noItem h (eq-eqb (edgeAt f t) (edgeAt f t) refl), ap length (own-none f (edgeAt f t) l))))
 
   pub turn-kept : (t : ℕ) → t < length (order f) → isKept f (numberedAt f (edgeAt f t)) ≡ true
   turn-kept t h =
       by-bool (isKept f (numberedAt f (edgeAt f t))) (λ c. c)
       (λ c.
-      let none : filter (isTurn (edgeAt f t)) (order f) ≡ [] = rw c at (own-turn f (edgeAt f t) none-beyond (turn-number t h)) in
+      let none : filter (isTurn (edgeAt f t)) (order f) ≡ [] = rw c at (own-turn f (edgeAt f t) (turn-number t h)) in
       absurd (omega (arith, filter-some (isTurn (edgeAt f t)) (order f) t noItem h (eq-eqb (edgeAt f t) (edgeAt f t) refl), ap length none)))
 
   module _ (sizes : List Size) (e : ℕ) (h : e < length (f .arrows)) (c : isKept f (numberedAt f e) ≡ true) where
     pub record-inside : recordNumber f e < length (records f sizes)
-    record-inside = omega (arith, number-inside f e h c, records-length f sizes none-beyond)
+    record-inside = omega (arith, number-inside f e h c, records-length f sizes)
 
     -- the record of that number is the arrow's
     record-edge : (d : Geometry) → getD (records f sizes) (recordNumber f e) d .edge ≡ e
     record-edge d =
         let k = recordNumber f e in
         sym (List·getD-map (λ g. g .edge) (records f sizes) k d)
-        ∙ ap (λ (l : List ℕ). getD l k (d .edge)) (records-edges f sizes none-beyond)
+        ∙ ap (λ (l : List ℕ). getD l k (d .edge)) (records-edges f sizes)
         ∙ default (map (λ a. a .edge) (kept f)) k (d .edge) 0 (omega (arith, number-inside f e h c, length-map (kept f) (λ a. a .edge)))
         ∙ List·getD-map (λ a. a .edge) (kept f) k noArrow
         ∙ ap (λ (a : Numbered). a .edge) (kept-at f e h c)
@@ -134,7 +134,7 @@ module _ (f : Frame) (none-beyond : beyond f ≡ false) where
     -- and its only one
     pub record-only : (d : Geometry) → recordFor f sizes e ≡ getD (records f sizes) (recordNumber f e) d ∷ []
     record-only d =
-        let once : map (λ g. g .edge) (drawnFor (drawing f sizes) (numberedAt f e)) ≡ e ∷ [] = drawn-once f sizes e none-beyond h ∙ ap (λ (b : Bool). cond b (e ∷ []) []) c in
+        let once : map (λ g. g .edge) (drawnFor (drawing f sizes) (numberedAt f e)) ≡ e ∷ [] = drawn-once f sizes e h ∙ ap (λ (b : Bool). cond b (e ∷ []) []) c in
         let drawn : recordFor f sizes e ≡ filter (isEdge e) (drawing f sizes) = record-drawn f sizes e h ∙ ap (λ (b : Bool). cond b (filter (isEdge e) (drawing f sizes)) []) c in
         filter-only (isEdge e) (records f sizes) (recordNumber f e) d
         (omega (arith, ap length drawn, ap length once, length-map (filter (isEdge e) (drawing f sizes)) (λ g. g .edge)))
@@ -148,7 +148,7 @@ module _ (f : Frame) (none-beyond : beyond f ≡ false) where
       let e : ℕ = r .place in
       let i : e < length (f .arrows) = omega (arith, r .inside, from-length 0 (f .arrows)) in
       let c : isKept f (numberedAt f e) ≡ true = sym (ap (isKept f) (numbered-at f e i)) ∙ r .passes in
-      let at : At (order f) noItem (itemFor f (numberedAt f e)) = kept-turn f none-beyond e i c in
+      let at : At (order f) noItem (itemFor f (numberedAt f e)) = kept-turn f e i c in
       record {
         turn = at .place;
         inside = at .inside;

@@ -4,28 +4,30 @@ use mathlib.Core.Bool.{true, false}
 use mathlib.Core.List.{List, [], _∷_, map}
 use Prim.Native.Nat.{ℕ, _*_, _≤_, _<_}
 use native.Mathlib.Omega.{arith}
-use lib.ListN.{length, getD, take, drop, length-map}
+use lib.ListN.{length, getD, take, drop, length-map, List·getD-map}
 use lib.Ieee.{Float, nan}
-use Rattle.laws.specs.Refusals.{Refusal}
+use Rattle.laws.specs.Best.{FirstLeast, first-least-unique}
+use Rattle.laws.specs.Refusals.{Refusal, Clear, clear-decides}
 use Rattle.laws.specs.Flat.{part}
 use Rattle.float.specs.Ops.{count}
+use Rattle.shape.specs.declared.«V».{«V»}
 use Rattle.shape.specs.declared.Curve.{Curve}
 use Rattle.svg.specs.Paths.{curveText}
 use Rattle.spot.specs.declared.Geometry.{Geometry}
 use Rattle.records.specs.Records.{fields, cornersOf}
 use Rattle.records.specs.Flats.{length-flat}
 use Rattle.lines.specs.Lines.{pathsText}
-use Rattle.routing.specs.Routing.{Frame, beyond, isKept, kept, edgeOf, order, records}
+use Rattle.routing.specs.Routing.{Frame, Step, isKept, kept, edgeOf, order, stepOf, listedBy, cost}
 use Rattle.routing.specs.Lists.{At}
 use Rattle.routing.specs.Numbers.{numberedAt}
 use Rattle.routing.specs.Slots.{itemFor, own-turn, drawn-edge, records-length}
 use Rattle.routing.specs.Demand.{noItem, edgeAt, recordFor, records-cheapest, Stroke, strokeOf}
 use Rattle.routing.specs.Demand as Routing
-use Rattle.routing.specs.Sheets.{frameOf, recordsOf, recordOf, linesAt, endsOf, same-frame}
+use Rattle.routing.specs.Sheets.{frameOf, recordsOf, recordOf, linesAt, arrowAt, endsOf, same-frame}
 use Rattle.routing.specs.Sheets as Sheets
 use Rattle.diagram.specs.Calls.{route, recordsAfter, textAfter, routeRefusals, numbersOf, onto}
-use Rattle.diagram.specs.Decided.{Clear, clear-decides, answered-clear}
-use Rattle.demand.specs.Demand.{Call, Answered, recordAt, pathAt, lineAt, curveAt, tipAt, graph, frame, sizes, turns, stepAt, turnArrow, recordNumber, numberOf, turnNumber, drawnAt, Held, Cheapest, Same, Agree, Alike, Prefix, Between, Curves, Demand3}
+use Rattle.diagram.specs.Decided.{answered-clear}
+use Rattle.demand.specs.Demand.{Call, Answered, recordAt, pathAt, lineAt, curveAt, tipAt, graph, frame, sizes, turns, stepAt, turnArrow, scene, costAt, takenAt, listedAt, recordNumber, numberOf, turnNumber, drawnAt, Held, Cheapest, Same, Agree, Alike, Prefix, Between, Curves, Demand3}
 use Rattle.demand.specs.Newlines.{line-path}
 use Rattle.demand.specs.Places.{part-flat, number-inside, turn-number, turn-kept, record-inside, record-only, number-turn, item-edge}
 
@@ -48,13 +50,10 @@ module _ (c : Call) (a : Answered c) where
   unfolding route
   stands = answered-clear rs (length (numbersOf (drawn c)), length (pathsText (drawn c))) (a .numbers, a .bytes) (sym (a .answer))
 
-  none-beyond : beyond (frame c) ≡ false
-  none-beyond = stands .0 .none 7 (omega arith)
-
   numbers-are : a .numbers ≡ 20 * length (kept (frame c))
   numbers-are =
       ap (λ (p : ℕ × ℕ). p .0) (stands .1) ∙ length-flat fields 20 (λ g. refl) (drawn c)
-      ∙ ap (λ (n : ℕ). 20 * n) (records-length (frame c) (sizes c) none-beyond)
+      ∙ ap (λ (n : ℕ). 20 * n) (records-length (frame c) (sizes c))
 
   -- the numbers and the path of record k
   record-is : (k : ℕ) (d : Geometry) → k < length (drawn c) → recordAt c k ≡ fields (getD (drawn c) k d)
@@ -75,26 +74,32 @@ module _ (c : Call) (a : Answered c) where
     its = getD (drawn c) (numberOf c e) (none c)
 
     arrow-record : recordAt c (numberOf c e) ≡ fields its
-    arrow-record = record-is (numberOf c e) (none c) (record-inside (frame c) none-beyond (sizes c) e h k)
+    arrow-record = record-is (numberOf c e) (none c) (record-inside (frame c) (sizes c) e h k)
 
     arrow-path : pathAt c (numberOf c e) ≡ curveText (its .curve)
-    arrow-path = path-is (numberOf c e) (none c) (record-inside (frame c) none-beyond (sizes c) e h k)
+    arrow-path = path-is (numberOf c e) (none c) (record-inside (frame c) (sizes c) e h k)
 
     arrow-only : recordFor (frame c) (sizes c) e ≡ its ∷ []
-    arrow-only = record-only (frame c) none-beyond (sizes c) e h k (none c)
+    arrow-only = record-only (frame c) (sizes c) e h k (none c)
 
   -- ---- (1)
 
   module _ (t : ℕ) (h : t < length (turns c)) where
     within : turnArrow c t < length (frame c .arrows)
-    within = turn-number (frame c) none-beyond t h
+    within = turn-number (frame c) t h
 
     stays : isKept (frame c) (numberedAt (frame c) (turnArrow c t)) ≡ true
-    stays = turn-kept (frame c) none-beyond t h
+    stays = turn-kept (frame c) t h
+
+    taken-least : FirstLeast (costAt c t) (listedAt c t) (takenAt c t)
+    taken-least =
+        subst (λ (s : Step). FirstLeast (cost (frame c) (scene c t) s) (listedBy (frame c) (s .item)) (takenAt c t))
+        (List·getD-map (stepOf (sizes c)) (turns c) t noItem)
+        (Routing.cheapest (frame c) (sizes c) (stepOf (sizes c) noItem) t (omega (arith, length-map (turns c) (stepOf (sizes c)))))
 
     held : Held c a t
     held =
-        let r : Routing.Cheapest (frame c) (sizes c) t = records-cheapest (frame c) none-beyond (sizes c) t h in
+        let r : Routing.Cheapest (frame c) (sizes c) t = records-cheapest (frame c) (sizes c) t h in
         let e : ℕ = turnArrow c t in
         let g : its e within stays ≡ drawnAt c t (r .place) = ap (λ (l : List Geometry). getD l 0 (none c)) (sym (arrow-only e within stays) ∙ r .held) in
         let n : recordAt c (turnNumber c t) ≡ fields (drawnAt c t (r .place)) = arrow-record e within stays ∙ ap fields g in
@@ -102,6 +107,7 @@ module _ (c : Call) (a : Answered c) where
           inside = omega (arith, number-inside (frame c) e within stays, numbers-are);
           place = r .place;
           least = r .least;
+          taken = first-least-unique (costAt c t) (listedAt c t) (r .place) (takenAt c t) (r .least) taken-least;
           numbers = n;
           path = arrow-path e within stays ∙ ap (λ (x : Geometry). curveText (x .curve)) g;
           arrow = ap (λ (l : List Float). getD l 0 nan) n ∙ ap count (drawn-edge (frame c) (stepAt c t .item) (stepAt c t .size) (r .place));
@@ -113,9 +119,9 @@ module _ (c : Call) (a : Answered c) where
 
   cheapest : Cheapest c a
   cheapest = record {
-    one = λ e h. own-turn (frame c) e none-beyond (omega (arith, arrows-many));
+    one = λ e h. own-turn (frame c) e (omega (arith, arrows-many));
     many = numbers-are;
-    each = λ k h. number-turn (frame c) none-beyond k h;
+    each = λ k h. number-turn (frame c) k h;
     held = held;
   }
 
@@ -126,15 +132,28 @@ abbrev corners : Curve → List Float
 corners k = let p = cornersOf k in p .n ∷ p .a .x ∷ p .a .y ∷ p .b .x ∷ p .b .y ∷ p .c .x ∷ p .c .y ∷ p .d .x ∷ p .d .y ∷ []
 
 module _ (c d : Call) (a : Answered c) (b : Answered d) (s : Same c d) where
+  -- d's sheet at c's centres
+  abbrev there : Frame
+  there = frameOf (graph d) (c .xs) (c .ys)
+
+  frame-there : frame c ≡ there
+  frame-there = same-frame (graph c) (graph d) (c .xs) (c .ys) (s .ends)
+
   frames : frame c ≡ frame d
-  frames = same-frame (graph c) (graph d) (c .xs) (c .ys) (s .ends) ∙ ap₂ (frameOf (graph d)) (s .xs) (s .ys)
+  unfolding frameOf
+  frames =
+      ap (λ (f : Frame). record { flags = f .flags; centres = frame c .centres; arrows = f .arrows }) frame-there
+      ∙ ap (λ (l : List «V»). record { flags = there .flags; centres = l; arrows = there .arrows }) (s .centres)
+
+  others : there ≡ frame d
+  others = sym frame-there ∙ frames
 
   -- what holds of d's sheet at c's centres
   over-sheets : Sheets.Demand3 (graph c) (c .xs) (c .ys)
-  over-sheets = Sheets.demand3 (graph c) (c .xs) (c .ys) (none-beyond c a)
+  over-sheets = Sheets.demand3 (graph c) (c .xs) (c .ys)
 
   records-d : (e : ℕ) → recordOf (graph d) (c .xs) (c .ys) e ≡ recordFor (frame d) (sizes d) e
-  records-d e = ap₂ (λ (xs ys : List Float). recordOf (graph d) xs ys e) (s .xs) (s .ys)
+  records-d e = ap (λ (f : Frame). recordFor f (sizes d) e) others
 
   -- ---- (2)
 
@@ -154,7 +173,7 @@ module _ (c d : Call) (a : Answered c) (b : Answered d) (s : Same c d) where
         let e : ℕ = turnArrow c t in
         let e′ : ℕ = turnArrow d t in
         let back : (j : ℕ) → linesAt (graph d) (d .xs) (d .ys) noItem j ≡ linesAt (graph d) (c .xs) (c .ys) noItem j =
-        λ j. sym (ap₂ (λ (xs ys : List Float). linesAt (graph d) xs ys noItem j) (s .xs) (s .ys)) in
+        λ j. sym (ap (λ (f : Frame). arrowAt (graph d) (edgeAt f j) .lines) others) in
         let both : recordFor (frame c) (sizes c) e ≡ recordFor (frame d) (sizes d) e =
         over-sheets .prefix (graph d) (s .ends) t h (λ j k. l j k ∙ back j) ∙ records-d e in
         ap (λ (m : List Geometry). getD m 0 (none c))

@@ -1,15 +1,17 @@
 -- A sheet's drawing, as it stands in a slice after it was drawn: nothing refused it, and its records are read back. Assumes nothing.
 use mathlib.Core.Path.{_≡_, refl, ap, _∙_}
-use mathlib.Core.List.{List}
+use mathlib.Core.List.{List, []}
 use Prim.Native.Nat.{ℕ, _*_, _≤_}
 use native.Mathlib.Omega.{arith}
 use lib.ListN.{length, take, length-map}
 use lib.Ieee.{Float}
 use Rattle.laws.specs.Flat.{part-new}
 use Rattle.laws.specs.Put.{put, length-put}
-use Rattle.laws.specs.Refusals.{Refusal, decide, decide-map}
+use Rattle.laws.specs.Refusals.{Refusal, decide, decide-map, Clear, First, clear-none, clear-from, clear-decides}
 use Rattle.sheet.specs.Sheet.{meaning}
-use Rattle.sheet.specs.Accepted.{Shown, accepted-exactly, shown}
+use Rattle.sheet.specs.Refusals.{refusals}
+use Rattle.sheet.specs.Order.{accepted-exactly}
+use Rattle.sheet.specs.Accepted.{Shown, shown}
 use Rattle.records.specs.Records.{decodeRecords}
 use Rattle.records.specs.Back.{Small, length-records}
 use Rattle.routing.specs.Sheets.{endsOf, frameOf, sizesOf}
@@ -18,7 +20,7 @@ use Rattle.draw.specs.Drawn.{drawRefusals, drawOf, drawAfter}
 use Rattle.draw.specs.declared.Drawing.{Drawing}
 use Rattle.draw.specs.declared.Drawing.the-variants as P
 use Rattle.diagram.specs.Calls.{Outcome, values, number, mainScreen, drawnOf, numbersOf}
-use Rattle.diagram.specs.Decided.{Clear, First, refused-first, answered-clear, clear-decides}
+use Rattle.diagram.specs.Decided.{refused-first, answered-clear}
 
 -- ---- what the answer says of the refusals
 
@@ -47,14 +49,7 @@ pub record Held (s : List ℕ) (xs ys : List Float) (count : ℕ) (slice : List 
 
 module _ (s : List ℕ) (xs ys : List Float) where
   accepted : Clear (drawRefusals mainScreen s xs ys) → Shown (meaning s)
-  accepted c = shown s (accepted-exactly mainScreen s .1 (record {
-    sized = c .none 0 (omega arith);
-    versioned = c .none 1 (omega arith);
-    bytes = c .none 2 (omega arith);
-    chains = c .none 3 (omega arith);
-    limits = c .none 4 (omega arith);
-    formed = c .none 5 (omega arith);
-  }))
+  accepted c = shown s (accepted-exactly mainScreen s .1 (clear-from (refusals mainScreen s) [] (drawRefusals mainScreen s xs ys) clear-none c refl))
 
   held-at : (before : List Float) → 5120 ≤ length before → Clear (drawRefusals mainScreen s xs ys) → Held s xs ys (length (drawnOf s xs ys)) (put before 0 (numbersOf (drawnOf s xs ys)))
   unfolding frameOf
@@ -63,7 +58,7 @@ module _ (s : List ℕ) (xs ys : List Float) where
       let gs = drawnOf s xs ys in
       let g : Shown (meaning s) = accepted c in
       let a : length (f .arrows) ≤ 256 = omega (arith, g .arrows, length-map (meaning s .arrows) endsOf) in
-      let b : length gs ≤ length (f .arrows) = records-most f (sizesOf (meaning s)) (c .none 7 (omega arith)) in
+      let b : length gs ≤ length (f .arrows) = records-most f (sizesOf (meaning s)) in
       let n = length-put before 0 (numbersOf gs) in
       record {
         clear = c;

@@ -1,26 +1,29 @@
 -- Laying out and listing, from what planning and drawing a sheet give. Assumes nothing.
-use mathlib.Core.Path.{_≡_, sym, ap, _∙_}
+use mathlib.Core.Path.{_≡_, refl, sym, ap, _∙_}
 use mathlib.Core.Bool.{Bool, not, _&&_, _||_}
 use mathlib.Core.List.{List, [], _∷_}
-use Prim.Native.Nat.{ℕ, suc, _≤_}
+use Prim.Native.Nat.{ℕ, _≤_}
 use native.Mathlib.Omega.{arith}
+use borrow.Author.Tests.{ltb-false}
 use lib.Dec.{ltb}
 use lib.ListN.{length, take}
 use lib.Ieee.{Float}
 use Rattle.laws.specs.Cases.{by-bool}
 use Rattle.laws.specs.Flat.{part-new}
-use Rattle.laws.specs.Refusals.{Refusal, refusal, decide, decide-map}
-use Rattle.sheet.specs.Sheet.{meaning}
+use Rattle.laws.specs.Refusals.{Refusal, refusal, decide, decide-map, Clear, First, Verdict, stops, goes, verdict, clear-none, clear-from, first-decides, clear-decides, first-joined, clear-joined}
+use Rattle.sheet.specs.Sheet.{meaning, flagsOf}
 use Rattle.sheet.specs.Refusals.{refusals}
-use Rattle.sheet.specs.Accepted.{Shown, accepted-exactly, shown}
-use Rattle.free.specs.Centres.{centres}
+use Rattle.sheet.specs.Order.{accepted-exactly}
+use Rattle.sheet.specs.Accepted.{Shown, shown}
+use Rattle.shape.specs.Centres.{centres}
 use Rattle.records.specs.Records.{decodeRecords}
-use Rattle.routing.specs.Routing.{beyond}
+use Rattle.beyond.specs.Beyond.{beyond}
 use Rattle.routing.specs.Sheets.{frameOf}
 use Rattle.lines.specs.Lines.{listText, listWritable}
 use Rattle.draw.specs.Drawn.{farCentre, drawRefusals, drawOf}
 use Rattle.draw.specs.declared.Drawing.the-variants as P
-use Rattle.layout.specs.Layout.{planOf, layoutBeyond}
+use Rattle.layout.specs.Layout.{planOf, lastKind}
+use Rattle.plan.specs.Measured.{layoutBeyond}
 use Rattle.layout.specs.Alike.{layout-whole}
 use Rattle.plan.specs.Planned.{planRefusals, planned}
 use Rattle.plan.specs.Planned as Planned
@@ -29,7 +32,7 @@ use Rattle.plan.specs.declared.Planned.the-variants as Q
 use Rattle.number.specs.declared.Written.{Written}
 use Rattle.number.specs.declared.Written.the-variants as N
 use Rattle.diagram.specs.Calls.{Outcome, number, values, mainScreen, drawnOf, onto, writtenAs, laidOutAs, layoutFor, layout, xsAfter, ysAfter, listing, listingWritable, listRefusals, list, listAfter}
-use Rattle.diagram.specs.Decided.{Clear, First, Verdict, stops, goes, verdict, refused-first, answered-clear, first-decides, clear-decides, first-joined, clear-joined}
+use Rattle.diagram.specs.Decided.{refused-first, answered-clear}
 use Rattle.answers.specs.Answers.{placeRefusals, textRefusals, writtenOf, Placed, Wrote-out}
 use Rattle.diagram.specs.Listed.{listedAt, listedAfter}
 use Rattle.answers.specs.declared.LaidOut.{LaidOut}
@@ -66,14 +69,7 @@ module _ (s : List ℕ) (kind : ℕ) where
   plan-clear n w h e = answered-clear planning _ (n, w, h) (ap plannedAs e ∙ decide-map plannedAs planning Q.Refused (Q.Size (length (meaning s .states)) (layoutFor s kind .width) (layoutFor s kind .height)))
 
   shown-by : Clear planning → Shown (meaning s)
-  shown-by c = shown s (accepted-exactly mainScreen s .1 (record {
-    sized = c .none 1 (omega arith);
-    versioned = c .none 2 (omega arith);
-    bytes = c .none 3 (omega arith);
-    chains = c .none 4 (omega arith);
-    limits = c .none 5 (omega arith);
-    formed = c .none 6 (omega arith);
-  }))
+  shown-by c = shown s (accepted-exactly mainScreen s .1 (clear-from (refusals mainScreen s) [] planning clear-none c refl))
 
   -- an accepted sheet has at most 64 states
   pub few-states : (n : ℕ) (w h : Float) → Q.Size n w h ≡ planned mainScreen kind s → n ≤ 64
@@ -89,7 +85,7 @@ module _ (s : List ℕ) (kind : ℕ) where
       let c : Clear planning = p .0 in
       let q : Shown (meaning s) = shown-by c in
       let m : n ≡ length (meaning s .states) = ap (λ (t : ℕ × Float × Float). t .0) (p .1) in
-      let k = layout-whole kind (planOf (meaning s)) in
+      let k = layout-whole kind (meaning s) (ltb-false lastKind kind (c .none 11)) in
       let x : take n a ≡ layoutFor s kind .xs = ap (take n) (f ∙ clear-decides (λ m. a₀) _ planning c) ∙ part-new n 0 a₀ (layoutFor s kind .xs) (k .0 ∙ sym m) (omega (arith, q .states)) in
       let y : take n d ≡ layoutFor s kind .ys = ap (take n) (g ∙ clear-decides (λ m. d₀) _ planning c) ∙ part-new n 0 d₀ (layoutFor s kind .ys) (k .1 ∙ sym m) (omega (arith, q .states)) in
       record {
@@ -140,7 +136,7 @@ module _ (s : List ℕ) (kind : ℕ) where
   -- ---- listing
 
   abbrev head : List Refusal
-  head = refusal 11 (ltb 2 kind) ∷ refusals mainScreen s
+  head = refusal 11 (ltb lastKind kind) ∷ refusals mainScreen s
 
   abbrev last : List Refusal
   last = refusal 9 (layoutBeyond kind (planOf (meaning s))) ∷ []
@@ -176,7 +172,7 @@ module _ (s : List ℕ) (kind : ℕ) where
     met-by (stops m f) = first-joined refuse answer head (tail room) m f ∙ sym (first-joined refuse _ head last m f)
     met-by (goes c) =
         clear-joined refuse answer head (tail room) c
-        ∙ tails (record { none = λ k h. c .none (suc k) (omega arith) })
+        ∙ tails (clear-from (refusals mainScreen s) [] head clear-none c refl)
         ∙ sym (clear-joined refuse _ head last c)
 
     pub list-met : decide (listRefusals s kind room) refuse answer ≡ decide planning refuse (decide drawing refuse (decide (writing room) refuse answer))
@@ -224,8 +220,8 @@ module _ (s : List ℕ) (w h : Float) (xs ys : List Float) (out : List ℕ) wher
       let f : First drawn n = stopped drawn (length (drawnOf s xs ys)) n e in
       (sym (first-decides N.Refused _ drawn n f), sym (first-decides (λ m. out) _ drawn n f))
 
-  pub at-drawn : (count : ℕ) (slice : List Float) → Held s xs ys count slice → (flags : List ℕ) → flags ≡ meaning s .states → (r : Written) (b : List ℕ)
+  pub at-drawn : (count : ℕ) (slice : List Float) → Held s xs ys count slice → (flags : List ℕ) → flags ≡ flagsOf (meaning s) → (r : Written) (b : List ℕ)
       → Wrote-out (listWritable w h (centres xs ys) flags (decodeRecords count slice)) (listText w h (centres xs ys) flags (decodeRecords count slice)) out r b → ListsAt r b
   at-drawn count slice d flags e r b f =
-      let g : Wrote-out (listWritable w h (centres xs ys) (meaning s .states) (drawnOf s xs ys)) (listText w h (centres xs ys) (meaning s .states) (drawnOf s xs ys)) out r b = rw (e, d .decoded) at f in
+      let g : Wrote-out (listWritable w h (centres xs ys) (flagsOf (meaning s)) (drawnOf s xs ys)) (listText w h (centres xs ys) (flagsOf (meaning s)) (drawnOf s xs ys)) out r b = rw (e, d .decoded) at f in
       (g .0 ∙ sym (clear-decides N.Refused _ drawn (d .clear)), g .1 ∙ sym (clear-decides (λ m. out) _ drawn (d .clear)))

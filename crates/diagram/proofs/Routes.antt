@@ -6,7 +6,7 @@ use native.Mathlib.Omega.{arith}
 use lib.ListN.{length, take}
 use lib.Ieee.{Float}
 use Rattle.laws.specs.Flat.{table}
-use Rattle.laws.specs.Refusals.{Refusal, decide-map}
+use Rattle.laws.specs.Refusals.{Refusal, decide-map, First, first-decides, clear-decides, first-joined, clear-joined}
 use Rattle.sheet.specs.Sheet.{meaning}
 use Rattle.records.specs.Records.{decodeRecords}
 use Rattle.routing.specs.Sheets.{centreAt, frameOf}
@@ -15,7 +15,6 @@ use Rattle.lines.specs.Lines.{pathsText}
 use Rattle.draw.specs.Drawn.{drawRefusals, drawOf}
 use Rattle.draw.specs.declared.Drawing.the-variants as P
 use Rattle.diagram.specs.Calls.{number, values, mainScreen, drawnOf, numbersOf, onto, routedAs, countedAs, route, recordsAfter, textAfter, clutter}
-use Rattle.diagram.specs.Decided.{First, first-decides, clear-decides, first-joined, clear-joined}
 use Rattle.answers.specs.Answers.{AsWritten, fillRefusals, Filled}
 use Rattle.answers.specs.Written.{fewer-written}
 use Rattle.answers.specs.declared.Routed.{Routed}

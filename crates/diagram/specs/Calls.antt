@@ -6,10 +6,8 @@ use lib.Dec.{ltb}
 use lib.ListN.{length}
 use lib.Ieee.{Float}
 use Rattle.laws.specs.Refusals.{Refusal, refusal, decide}
-use Rattle.sheet.specs.Refusals as R
 use Rattle.sheet.specs.Refusals.{refusals}
-use Rattle.sheet.specs.Sheet.{meaning}
-use Rattle.sheet.specs.declared.Limits.{Limits}
+use Rattle.sheet.specs.Sheet.{meaning, flagsOf}
 use Rattle.sheet.specs.declared.Checked.{Checked}
 use Rattle.sheet.specs.declared.Checked.the-variants as C
 use Rattle.label.specs.Label.{labelRefusals, cut, blockWidth, blockHeight}
@@ -22,11 +20,12 @@ use Rattle.spot.specs.declared.Geometry.{Geometry}
 use Rattle.records.specs.Records.{fields}
 use Rattle.routing.specs.Sheets.{frameOf, recordsOf}
 use Rattle.clutter.specs.Clutter.{clutterOf}
-use Rattle.free.specs.Centres.{centres}
-use Rattle.routing.specs.Routing.{beyond}
+use Rattle.shape.specs.Centres.{centres}
+use Rattle.beyond.specs.Beyond.{beyond}
 use Rattle.lines.specs.Lines.{pathsText, pathsWritable, listText, listWritable}
 use Rattle.draw.specs.Drawn.{farCentre, drawRefusals}
-use Rattle.layout.specs.Layout.{Layout, planOf, layoutOf, layoutBeyond}
+use Rattle.layout.specs.Layout.{Layout, planOf, lastKind, layoutOf}
+use Rattle.plan.specs.Measured.{layoutBeyond}
 use Rattle.plan.specs.Planned.{planRefusals}
 use Rattle.answers.specs.declared.Routed.{Routed}
 use Rattle.answers.specs.declared.Routed.the-variants as D
@@ -34,6 +33,7 @@ use Rattle.diagram.specs.declared.Counted.{Counted}
 use Rattle.diagram.specs.declared.Counted.the-variants as K
 use Rattle.answers.specs.declared.LaidOut.{LaidOut}
 use Rattle.answers.specs.declared.LaidOut.the-variants as Z
+pub use Rattle.sheet.specs.Refusals.{mainScreen}
 pub use Rattle.answers.specs.Answers.{short, onto}
 
 -- What a call returns: the values, or the number of the refusal.
@@ -69,10 +69,6 @@ laidOutAs (Z.Size n w h) = values (n, w, h)
 laidOutAs (Z.Refused n) = number n
 
 -- ---- check, size a label block, write a number
-
--- "64 states, 256 arrows, 8 lines an arrow, 96 bytes a line"
-abbrev pub mainScreen : Limits
-mainScreen = R.mainScreen
 
 -- "check a sheet (answer: accepted)"
 unfoldable pub check : List ℕ → Outcome (Unit {0})
@@ -157,19 +153,19 @@ ysAfter s kind xRoom ys = decide (layoutRefusals s kind xRoom (length ys)) (λ (
 abbrev pub listing : List ℕ → ℕ → List ℕ
 listing s kind =
     let l = layoutFor s kind in
-    listText (l .width) (l .height) (centres (l .xs) (l .ys)) (meaning s .states) (drawnOf s (l .xs) (l .ys))
+    listText (l .width) (l .height) (centres (l .xs) (l .ys)) (flagsOf (meaning s)) (drawnOf s (l .xs) (l .ys))
 
 abbrev pub listingWritable : List ℕ → ℕ → Bool
 listingWritable s kind =
     let l = layoutFor s kind in
-    listWritable (l .width) (l .height) (centres (l .xs) (l .ys)) (meaning s .states) (drawnOf s (l .xs) (l .ys))
+    listWritable (l .width) (l .height) (centres (l .xs) (l .ys)) (flagsOf (meaning s)) (drawnOf s (l .xs) (l .ys))
 
 -- 11 and 1 to 6; 8 for a centre of the layout, if there is a layout; 9 for a drawing that the layout measures, or for the one at its centres; 10 and 7
 abbrev pub listRefusals : List ℕ → ℕ → ℕ → List Refusal
 listRefusals s kind room =
     let g = meaning s in
     let l = layoutFor s kind in
-    refusal 11 (ltb 2 kind)
+    refusal 11 (ltb lastKind kind)
     ∷ refusals mainScreen s
     ++ (refusal 8 (not (layoutBeyond kind (planOf g)) && farCentre (length (g .states)) (l .xs) (l .ys))
     ∷ refusal 9 (layoutBeyond kind (planOf g) || beyond (frameOf g (l .xs) (l .ys)))

@@ -3,8 +3,8 @@ use mathlib.Core.List.{List}
 use Prim.Native.Nat.{ℕ}
 use lib.Ieee.{Float}
 use Rattle.laws.specs.Refusals.{decide}
-use Rattle.sheet.specs.Sheet.{meaning}
-use Rattle.free.specs.Centres.{centres}
+use Rattle.sheet.specs.Sheet.{meaning, flagsOf}
+use Rattle.shape.specs.Centres.{centres}
 use Rattle.lines.specs.Lines.{listText, listWritable}
 use Rattle.draw.specs.Drawn.{drawRefusals}
 use Rattle.answers.specs.Answers.{writtenOf, outLeft}
@@ -15,9 +15,9 @@ use Rattle.number.specs.declared.Written.the-variants as N
 abbrev pub listedAt : List ℕ → Float → Float → List Float → List Float → ℕ → Written
 listedAt s w h xs ys room =
     let gs = drawnOf s xs ys in
-    decide (drawRefusals mainScreen s xs ys) N.Refused (writtenOf (listWritable w h (centres xs ys) (meaning s .states) gs) (listText w h (centres xs ys) (meaning s .states) gs) room)
+    decide (drawRefusals mainScreen s xs ys) N.Refused (writtenOf (listWritable w h (centres xs ys) (flagsOf (meaning s)) gs) (listText w h (centres xs ys) (flagsOf (meaning s)) gs) room)
 
 abbrev pub listedAfter : List ℕ → Float → Float → List Float → List Float → List ℕ → List ℕ
 listedAfter s w h xs ys out =
     let gs = drawnOf s xs ys in
-    decide (drawRefusals mainScreen s xs ys) (λ (n : ℕ). out) (outLeft (listWritable w h (centres xs ys) (meaning s .states) gs) (listText w h (centres xs ys) (meaning s .states) gs) out)
+    decide (drawRefusals mainScreen s xs ys) (λ (n : ℕ). out) (outLeft (listWritable w h (centres xs ys) (flagsOf (meaning s)) gs) (listText w h (centres xs ys) (flagsOf (meaning s)) gs) out)

@@ -1,12 +1,14 @@
 -- What each call refuses and in which order, when a number is given, and that a refused call leaves every lent slice as it was. Assumes nothing.
 use mathlib.Core.Path.{_≡_, refl}
-use mathlib.Core.List.{List, [], _∷_, map}
+use mathlib.Core.List.{List, [], _∷_}
 use Prim.Native.Nat.{ℕ}
 use lib.ListN.{length}
 use lib.Ieee.{Float}
-use Rattle.laws.specs.Refusals.{Refusal, decide}
+use Rattle.laws.specs.Filter.{filter}
+use Rattle.laws.specs.Refusals.{Refusal, decide, refusalOrder, numbersIn, orderBut, Clear, First}
 use Rattle.sheet.specs.Sheet.{meaning}
 use Rattle.sheet.specs.Refusals.{refusals}
+use Rattle.sheet.specs.Order.{sheet-order}
 use Rattle.label.specs.Label.{labelRefusals, cut, blockWidth, blockHeight}
 use Rattle.number.specs.Number.{numText}
 use Rattle.routing.specs.Sheets.{frameOf}
@@ -14,33 +16,34 @@ use Rattle.clutter.specs.Clutter.{clutterOf}
 use Rattle.lines.specs.Lines.{pathsText}
 use Rattle.draw.specs.Drawn.{drawRefusals}
 use Rattle.diagram.specs.Calls.{Outcome, values, number, mainScreen, check, labelSize, numRefusals, writeNum, writeNumAfter, drawnOf, numbersOf, routeRefusals, route, recordsAfter, textAfter, clutter, layoutFor, layoutRefusals, layout, xsAfter, ysAfter, listing, listRefusals, list, listAfter}
-use Rattle.diagram.specs.Decided.{Clear, First, given-exactly, answered-exactly, refused-keeps}
+use Rattle.diagram.specs.Decided.{given-exactly, answered-exactly, refused-keeps}
 
 -- ---- "Order: 11, 1, 2, 4, 3, 5, 6, 8, 9, 10, 7": of these a call has those that it can meet, each with its cause
 
-abbrev pub numbersIn : List Refusal → List ℕ
-numbersIn rs = map (λ r. r .number) rs
-
-pub check-order : (s : List ℕ) → numbersIn (refusals mainScreen s) ≡ 1 ∷ 2 ∷ 4 ∷ 3 ∷ 5 ∷ 6 ∷ []
-check-order s = refl
+pub check-order : (s : List ℕ) → numbersIn (refusals mainScreen s) ≡ orderBut (11 ∷ 8 ∷ 9 ∷ 10 ∷ 7 ∷ [])
+check-order s = sheet-order mainScreen s
 
 -- 5 has three causes
 pub label-order : (text lengths : List ℕ) → numbersIn (labelRefusals mainScreen text lengths) ≡ 5 ∷ 5 ∷ 5 ∷ 6 ∷ []
 label-order text lengths = refl
 
-pub num-order : (v : Float) (out : List ℕ) → numbersIn (numRefusals v out) ≡ 10 ∷ 7 ∷ []
+pub num-order : (v : Float) (out : List ℕ) → numbersIn (numRefusals v out) ≡ orderBut (11 ∷ 1 ∷ 2 ∷ 4 ∷ 3 ∷ 5 ∷ 6 ∷ 8 ∷ 9 ∷ [])
+unfolding filter
 num-order v out = refl
 
-pub route-order : (s : List ℕ) (xs ys : List Float) (a b : ℕ) → numbersIn (routeRefusals s xs ys a b) ≡ 1 ∷ 2 ∷ 4 ∷ 3 ∷ 5 ∷ 6 ∷ 8 ∷ 9 ∷ 10 ∷ 7 ∷ []
+pub route-order : (s : List ℕ) (xs ys : List Float) (a b : ℕ) → numbersIn (routeRefusals s xs ys a b) ≡ orderBut (11 ∷ [])
+unfolding filter
 route-order s xs ys a b = refl
 
-pub clutter-order : (s : List ℕ) (xs ys : List Float) → numbersIn (drawRefusals mainScreen s xs ys) ≡ 1 ∷ 2 ∷ 4 ∷ 3 ∷ 5 ∷ 6 ∷ 8 ∷ 9 ∷ []
+pub clutter-order : (s : List ℕ) (xs ys : List Float) → numbersIn (drawRefusals mainScreen s xs ys) ≡ orderBut (11 ∷ 10 ∷ 7 ∷ [])
+unfolding filter
 clutter-order s xs ys = refl
 
-pub layout-order : (s : List ℕ) (kind a b : ℕ) → numbersIn (layoutRefusals s kind a b) ≡ 11 ∷ 1 ∷ 2 ∷ 4 ∷ 3 ∷ 5 ∷ 6 ∷ 9 ∷ 7 ∷ []
+pub layout-order : (s : List ℕ) (kind a b : ℕ) → numbersIn (layoutRefusals s kind a b) ≡ orderBut (8 ∷ 10 ∷ [])
+unfolding filter
 layout-order s kind a b = refl
 
-pub list-order : (s : List ℕ) (kind a : ℕ) → numbersIn (listRefusals s kind a) ≡ 11 ∷ 1 ∷ 2 ∷ 4 ∷ 3 ∷ 5 ∷ 6 ∷ 8 ∷ 9 ∷ 10 ∷ 7 ∷ []
+pub list-order : (s : List ℕ) (kind a : ℕ) → numbersIn (listRefusals s kind a) ≡ refusalOrder
 list-order s kind a = refl
 
 -- ---- each number is given under its cause only and whenever no earlier cause holds, the values exactly where no cause holds

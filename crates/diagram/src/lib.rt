@@ -16,30 +16,18 @@ pub enum Counted {
     Refused(u8),
 }
 
-// Document 01's capacities.
-fn main_screen() -> sheet::Limits
-    ensures { λ r. ⌜ r ≡ S.mainScreen ⌝ }
-{
-    sheet::Limits {
-        states: 64,
-        arrows: 256,
-        lines: 8,
-        bytes: 96,
-    }
-}
-
 // Checks a sheet: accepted, or the number of the refusal.
 pub fn check(sheet: &[u8]) -> sheet::Checked
     ensures { λ r. ⌜ S.checkedAs r ≡ S.check (now (sheet .entry)) ⌝ }
 {
-    walk::check_within(sheet, main_screen())
+    walk::check_within(sheet, sheet::main_screen())
 }
 
 // The width and height of a label block: its text, and the length of each line.
 pub fn label_size(text: &[u8], lengths: &[usize]) -> label::Sized
     ensures { λ r. ⌜ S.sizedAs r ≡ S.labelSize (now (text .entry)) (now (lengths .entry)) ⌝ }
 {
-    label::label_size(text, lengths, main_screen())
+    label::label_size(text, lengths, sheet::main_screen())
 }
 
 // Writes a number into `out`: the bytes written, or the number of the refusal.

@@ -14,8 +14,8 @@ use Rattle.sheet.specs.Sheet.{Graph, meaning}
 use Rattle.sheet.specs.Refusals.{any, refusals}
 use Rattle.sheet.specs.declared.Limits.{Limits}
 use Rattle.records.specs.Records.{fields}
-use Rattle.routing.specs.Routing.{beyond}
 use Rattle.routing.specs.Sheets.{frameOf, recordsOf}
+use Rattle.beyond.specs.Beyond.{beyond}
 use Rattle.draw.specs.declared.Drawing.{Drawing}
 use Rattle.draw.specs.declared.Drawing.the-variants.{Records, Refused}
 

@@ -3,7 +3,7 @@ use mathlib.Core.Path.{_≡_}
 use mathlib.Core.List.{List}
 use Prim.Native.Nat.{ℕ}
 use lib.Ieee.{Float}
-use Rattle.sheet.specs.Sheet.{Graph}
+use Rattle.sheet.specs.Sheet.{Graph, flagsOf}
 use Rattle.meaning.specs.Read.{sources, targets}
 use Rattle.graph.specs.Sizes.{widths, heights}
 use Rattle.routing.specs.Passes.{sizesBy}
@@ -11,7 +11,7 @@ use Rattle.routing.specs.Sheets.{frameOf, sizesOf}
 use Rattle.routing.specs.Frames.{sizes-sheet}
 use Rattle.route.specs.Geometry.{frameAt, frame-graph}
 
-pub frame-read : (g : Graph) (xs ys : List Float) (flags from to : List ℕ) → flags ≡ g .states → from ≡ sources g → to ≡ targets g
+pub frame-read : (g : Graph) (xs ys : List Float) (flags from to : List ℕ) → flags ≡ flagsOf g → from ≡ sources g → to ≡ targets g
     → frameAt flags xs ys from to ≡ frameOf g xs ys
 frame-read g xs ys flags from to e f h = rw (e, f, h) (frame-graph g xs ys)
 

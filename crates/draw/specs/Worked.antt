@@ -6,15 +6,15 @@ use lib.Ieee.{Float, nan, inf, binary64, ofBits, neg, lt, round}
 use Rattle.laws.specs.Loops.{anyFor, anyUp, over}
 use Rattle.laws.specs.Refusals.{decide}
 use Rattle.laws.specs.Filter.{filter}
-use Rattle.laws.specs.Counting.{number}
 use Rattle.laws.specs.Flat.{table}
 use Rattle.laws.specs.Zip.{zip}
 use Rattle.float.specs.Constants.{f0, f2e20}
 use Rattle.sheet.specs.Sheet.{chainBy, met, metArrow, metLine, statesOf, arrowsOf}
 use Rattle.sheet.specs.Refusals.{any, repeats, isSet, wrongRecord, wrongBytes, indices, wrongChains, overLimits, illFormed, mainScreen}
 use Rattle.sheet.specs.Examples.{header, state}
-use Rattle.routing.specs.Routing.{numberedFrom, kept, beyond, records}
+use Rattle.routing.specs.Routing.{numberedFrom, kept, records}
 use Rattle.routing.specs.Sheets.{frameOf}
+use Rattle.beyond.specs.Beyond.{beyond}
 use Rattle.draw.specs.Drawn.{farCentre, drawOf}
 use Rattle.draw.specs.declared.Drawing.{Drawing}
 use Rattle.draw.specs.declared.Drawing.the-variants.{Records, Refused}
@@ -34,5 +34,5 @@ pub edge :
     × (alone (f0 ∷ []) (neg above ∷ []) ≡ Refused 8)
     × (alone (f0 ∷ above ∷ []) [] ≡ Records 0)
     × (alone (nan ∷ []) (inf true ∷ []) ≡ Records 0)
-unfolding decide any repeats isSet wrongRecord wrongBytes anyUp anyFor met metArrow metLine indices wrongChains overLimits illFormed chainBy statesOf arrowsOf flatMap farCentre ofBits neg lt frameOf beyond kept filter numberedFrom number records table zip over round
+unfolding decide any repeats isSet wrongRecord wrongBytes anyUp anyFor met metArrow metLine indices wrongChains overLimits illFormed chainBy statesOf arrowsOf flatMap farCentre ofBits neg lt frameOf beyond kept filter numberedFrom records table zip over round
 edge = (refl, refl, refl, refl, refl)

@@ -7,7 +7,6 @@ ghost use Rattle.sheet.specs.Sheet as G;
 ghost use Rattle.sheet.specs.Refusals as R;
 ghost use Rattle.draw.specs.Drawn as S;
 ghost use Rattle.sheet.specs.declared.Checked.the-variants.{Accepted};
-use route::Answer;
 use sheet::Checked;
 
 // How many records a drawing has, or the number of the refusal.
@@ -63,18 +62,6 @@ fn far_centre(xs: &[f64], ys: &[f64], n: usize) -> bool
     some_far(ys, n)
 }
 
-// Document 01's capacities.
-fn main_screen() -> sheet::Limits
-    ensures { λ r. ⌜ r ≡ R.mainScreen ⌝ }
-{
-    sheet::Limits {
-        states: 64,
-        arrows: 256,
-        lines: 8,
-        bytes: 96,
-    }
-}
-
 // ---- the call
 
 // Routes an accepted sheet, what is read of it in the slices lent for that.
@@ -95,11 +82,11 @@ fn draw_read(
     ensures { λ r. ⌜ (r ≡ S.answerBy (S.routeRefusals (G.meaning (now (s .entry))) (now (xs .entry)) (now (ys .entry))) (G.meaning (now (s .entry))) (now (xs .entry)) (now (ys .entry))) × (now (buf .exit) ≡ S.leftBy (S.routeRefusals (G.meaning (now (s .entry))) (now (xs .entry)) (now (ys .entry))) (G.meaning (now (s .entry))) (now (xs .entry)) (now (ys .entry)) (now (buf .entry))) ⌝ }
 {
     graph::read(s, flags, sources, targets, widths, heights);
-    let a = route::geometry(flags, sources, targets, widths, heights, xs, ys, buf);
-    match a {
-        Answer::Drawn(n) => Drawing::Records(n),
-        Answer::Beyond => Drawing::Refused(9),
+    if beyond::beyond(flags, sources, targets, xs, ys) {
+        return Drawing::Refused(9);
     }
+    let n = route::geometry(flags, sources, targets, widths, heights, xs, ys, buf);
+    Drawing::Records(n)
 }
 
 // Routes an accepted sheet of n states whose centres are not far.
@@ -143,7 +130,7 @@ pub fn draw(s: &[u8], xs: &[f64], ys: &[f64], buf: &mut [f64]) -> Drawing
     requires { ⌜ 5120 ≤ length (now buf) ⌝ }
     ensures { λ r. ⌜ (r ≡ S.drawOf R.mainScreen (now (s .entry)) (now (xs .entry)) (now (ys .entry))) × (now (buf .exit) ≡ S.drawAfter R.mainScreen (now (s .entry)) (now (xs .entry)) (now (ys .entry)) (now (buf .entry))) ⌝ }
 {
-    let c = walk::check_within(s, main_screen());
+    let c = walk::check_within(s, sheet::main_screen());
     match c {
         Checked::Refused(n) => Drawing::Refused(n),
         Checked::Accepted => draw_accepted(s, xs, ys, buf),

@@ -18,9 +18,9 @@ use Rattle.shape.specs.declared.«V».{«V»}
 use Rattle.shape.specs.declared.Rect.{Rect}
 use Rattle.shape.specs.Plane.{vec}
 use Rattle.trace.specs.Traces.{sample, noBounds, extended, boundsOf}
-use Rattle.free.specs.Centres.{centres}
+use Rattle.shape.specs.Centres.{centres}
 use Rattle.spot.specs.declared.Geometry.{Geometry}
-use Rattle.ring.specs.Ring.{isStart}
+use Rattle.sheet.specs.Meaning.{isStart}
 use Rattle.fit.specs.Fit.{statePoints, statesPoints, drawnPoints, covered, drawingBounds}
 
 -- ---- a fold over n things from k on

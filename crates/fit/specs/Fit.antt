@@ -11,7 +11,7 @@ use Rattle.shape.specs.declared.Rect.{Rect}
 use Rattle.shape.specs.Plane.{vec}
 use Rattle.trace.specs.Traces.{sample, boundsOf}
 use Rattle.spot.specs.declared.Geometry.{Geometry}
-use Rattle.ring.specs.Ring.{isStart}
+use Rattle.sheet.specs.Meaning.{isStart}
 use Rattle.fit.specs.declared.Size.{Size}
 
 -- ---- what is covered, in the order of `fit`

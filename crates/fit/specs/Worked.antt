@@ -8,7 +8,7 @@ use Rattle.laws.specs.Loops.{over}
 use Rattle.laws.specs.Zip.{zip}
 use Rattle.float.specs.Constants.{whole}
 use Rattle.trace.specs.Traces.{extended, boundsOf}
-use Rattle.free.specs.Centres.{centres}
+use Rattle.shape.specs.Centres.{centres}
 use Rattle.ring.specs.Ring.{ringed, circularXs, circularYs}
 use Rattle.fit.specs.declared.Size.{Size}
 use Rattle.fit.specs.Fit.{statePoints, statesPoints, covered, drawingBounds, shifted, fitXs, fitYs, fitSize}

@@ -10,7 +10,7 @@ ghost use Rattle.laws.specs.Loops.{over};
 ghost use Rattle.laws.specs.Flat.{table};
 ghost use Rattle.shape.specs.Plane.{vec};
 ghost use Rattle.trace.specs.Traces.{sample, noBounds, extended};
-ghost use Rattle.free.specs.Centres.{centres};
+ghost use Rattle.shape.specs.Centres.{centres};
 ghost use Rattle.records.specs.Records.{decodeRecords};
 ghost use Rattle.fit.specs.Fit as S;
 
@@ -57,7 +57,7 @@ fn cover_state(b: Rect, flag: u8, x: f64, y: f64) -> Rect
 {
     let low = cover(b, x - NODE_RADIUS, y - NODE_RADIUS);
     let round = cover(low, x + NODE_RADIUS, y + NODE_RADIUS);
-    if ring::is_start(flag) {
+    if sheet::is_start(flag) {
         return cover(round, x - NODE_RADIUS - START_ARROW_LENGTH, y);
     }
     round

@@ -12,7 +12,8 @@ use Rattle.float.specs.Constants.{f0}
 use Rattle.shape.specs.declared.«V».{«V»}
 use Rattle.free.specs.declared.Chord.{Chord}
 use Rattle.free.specs.declared.Span.{Span}
-use Rattle.free.specs.Centres.{centre, isEnd, othersFrom}
+use Rattle.shape.specs.Centres.{centre}
+use Rattle.free.specs.Chords.{isEnd, othersFrom}
 use Rattle.free.specs.Blocked.{distance, passed, spanOf, intervals, blocked, blockedBy, Grown}
 use Rattle.free.specs.Free.{span, spans}
 use Rattle.free.specs.Turns.{intervals-turn}

@@ -12,7 +12,7 @@ use Rattle.shape.specs.declared.«V».{«V»}
 use Rattle.shape.specs.Plane.{sub, dot, left}
 use Rattle.free.specs.declared.Chord.{Chord}
 use Rattle.free.specs.declared.Span.{Span}
-use Rattle.free.specs.Centres.{isEnd, others}
+use Rattle.free.specs.Chords.{isEnd, others}
 use Rattle.free.specs.Free.{span, spans}
 
 -- how far along the chord a point lies, from its start

@@ -1,4 +1,4 @@
-pub mod Centres
+pub mod Chords
 pub mod Blocked
 pub mod Free
 pub mod Moves

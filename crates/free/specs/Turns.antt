@@ -13,7 +13,8 @@ use Rattle.shape.specs.declared.«V».{«V»}
 use Rattle.shape.specs.Plane.{vec}
 use Rattle.free.specs.declared.Chord.{Chord}
 use Rattle.free.specs.declared.Span.{Span}
-use Rattle.free.specs.Centres.{centre, isEnd, othersFrom}
+use Rattle.shape.specs.Centres.{centre}
+use Rattle.free.specs.Chords.{isEnd, othersFrom}
 use Rattle.free.specs.Blocked.{passed, spanOf, intervals, blockedBy}
 use Rattle.free.specs.Free.{inside, holds}
 

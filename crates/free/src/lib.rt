@@ -4,7 +4,8 @@ ghost use mathlib.Core.Path.{_≡_};
 ghost use mathlib.Core.List.{_++_};
 ghost use Prim.Native.Nat.{_+_, _<_, _≤_};
 ghost use lib.ListN.{length, take};
-ghost use Rattle.free.specs.Centres as C;
+ghost use Rattle.shape.specs.Centres.{centres};
+ghost use Rattle.free.specs.Chords as C;
 ghost use Rattle.free.specs.Blocked as B;
 ghost use Rattle.free.specs.Free as F;
 
@@ -24,22 +25,14 @@ pub struct Span {
     pub hi: f64,
 }
 
-pub fn centre(xs: &[f64], ys: &[f64], k: usize) -> V
-    requires { ⌜ length (now ys) ≡ length (now xs) ⌝ }
-    requires { ⌜ k < length (now xs) ⌝ }
-    ensures { λ r. ⌜ r ≡ C.centre (C.centres (now (xs .entry)) (now (ys .entry))) k ⌝ }
-{
-    V::new(xs[k], ys[k])
-}
-
 pub fn chord_of(xs: &[f64], ys: &[f64], from: usize, to: usize) -> Chord
     requires { ⌜ length (now ys) ≡ length (now xs) ⌝ }
     requires { ⌜ from < length (now xs) ⌝ }
     requires { ⌜ to < length (now xs) ⌝ }
-    ensures { λ r. ⌜ r ≡ C.chord (C.centres (now (xs .entry)) (now (ys .entry))) from to ⌝ }
+    ensures { λ r. ⌜ r ≡ C.chord (centres (now (xs .entry)) (now (ys .entry))) from to ⌝ }
 {
-    let a = centre(xs, ys, from);
-    let b = centre(xs, ys, to);
+    let a = shape::centre(xs, ys, from);
+    let b = shape::centre(xs, ys, to);
     let along = b.sub(a).unit_or(V::new(1.0, 0.0));
     let len = a.dist(b);
     Chord {
@@ -111,11 +104,11 @@ pub fn blocked(xs: &[f64], ys: &[f64], c: Chord, lo: &mut [f64], hi: &mut [f64])
     requires { ⌜ length (now ys) ≡ length (now xs) ⌝ }
     requires { ⌜ length (now hi) ≡ length (now lo) ⌝ }
     requires { ⌜ length (now xs) ≤ length (now lo) ⌝ }
-    ensures { λ r. ⌜ B.Spans r (now (lo .exit)) (now (hi .exit)) (B.blocked c (C.centres (now (xs .entry)) (now (ys .entry)))) ⌝ }
+    ensures { λ r. ⌜ B.Spans r (now (lo .exit)) (now (hi .exit)) (B.blocked c (centres (now (xs .entry)) (now (ys .entry)))) ⌝ }
 {
     let mut n = 0;
     for k in 0..xs.len() {
-        n = block(c, k, centre(xs, ys, k), n, lo, hi);
+        n = block(c, k, shape::centre(xs, ys, k), n, lo, hi);
     }
     n
 }

@@ -50,7 +50,7 @@ pub fn read(
     requires { ⌜ length (now flags) ≡ length (S.statesOf (now s)) ⌝ }
     requires { ⌜ (length (now sources) ≡ length (S.arrowsOf (now s))) × (length (now targets) ≡ length (S.arrowsOf (now s))) ⌝ }
     requires { ⌜ (length (now widths) ≡ length (S.arrowsOf (now s))) × (length (now heights) ≡ length (S.arrowsOf (now s))) × (length (S.arrowsOf (now s)) ≤ 256) ⌝ }
-    ensures { λ _. ⌜ (now (flags .exit) ≡ S.statesOf (now (s .entry))) × (now (sources .exit) ≡ M.sources (S.meaning (now (s .entry)))) × (now (targets .exit) ≡ M.targets (S.meaning (now (s .entry)))) × (now (widths .exit) ≡ Z.widths (S.meaning (now (s .entry)))) × (now (heights .exit) ≡ Z.heights (S.meaning (now (s .entry)))) ⌝ }
+    ensures { λ _. ⌜ (now (flags .exit) ≡ S.flagsOf (S.meaning (now (s .entry)))) × (now (sources .exit) ≡ M.sources (S.meaning (now (s .entry)))) × (now (targets .exit) ≡ M.targets (S.meaning (now (s .entry)))) × (now (widths .exit) ≡ Z.widths (S.meaning (now (s .entry)))) × (now (heights .exit) ≡ Z.heights (S.meaning (now (s .entry)))) ⌝ }
 {
     meaning::flags_into(s, flags);
     meaning::sources_into(s, sources);

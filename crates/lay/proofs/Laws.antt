@@ -15,22 +15,19 @@ use Rattle.float.specs.Standins.{abs}
 use Rattle.shape.specs.declared.«V».{«V»}
 use Rattle.trace.specs.Traces.{Trace, nobody, traceOf, arrow}
 use Rattle.trace.specs.Form.{decodeTraces}
-use Rattle.free.specs.Centres.{centre, centres}
+use Rattle.shape.specs.Centres.{centre, centres}
 use Rattle.bow.specs.declared.Routed.{Routed}
-use Rattle.bow.specs.declared.Joined.the-variants as Joined
 use Rattle.bow.specs.Bend.{leads}
 use Rattle.bow.specs.Between.{between}
 use Rattle.rim.specs.Rims.{leaveAngle, reachAngle}
 use Rattle.records.specs.Slots.{routedFields}
 use Rattle.place.specs.Scene.{Scene}
-use Rattle.routing.specs.Routing.{Frame, Numbered, isKept, isLoop, isArc, isBeyond, joined, beyond, arcShape, startCurve, startTraces}
-use Rattle.routing.specs.Passes.{frameBy, isCrossing, routedBy, routedOf, routeOf, kindOf, leaveOf, reachOf, tracesOf}
+use Rattle.routing.specs.Routing.{Frame, Numbered, isKept, isLoop, isArc, routeOf, joined, arcShape, startCurve, startTraces}
+use Rattle.routing.specs.Passes.{frameBy, isCrossing, kindOf, leaveOf, reachOf, tracesOf}
 use Rattle.routing.specs.Sheets.{orZero}
-use Rattle.routing.specs.Order.{isLost, first-scene}
-use Rattle.lay.specs.declared.Laid.{Laid}
-use Rattle.lay.specs.declared.Laid.the-variants.{Traces, Beyond}
-use Rattle.lay.specs.Lay.{Slices, slices, LaidAll}
-use Rattle.lay.specs.Steps.{arrowAt, otherKind, Along, Crossing, One, LaidOne, Arrows, LaidArrows}
+use Rattle.routing.specs.Order.{first-scene}
+use Rattle.lay.specs.Lay.{Slices, slices, Laying}
+use Rattle.lay.specs.Steps.{arrowAt, otherKind, Along, One, Arrows}
 use Rattle.lay.specs.Numbers.{paired-is}
 use Rattle.lay.specs.Traces.{starts-turn}
 
@@ -51,43 +48,35 @@ module _ (f : Frame) (a : Numbered) (t : isCrossing f a ≡ true) where
   crossing-ends : isLoop a ≡ false
   crossing-ends = not-true (isLoop a) (both (isKept f a) (not (isLoop a)) t .1)
 
-  crossing-lost : joined f a ≡ Joined.Beyond → isLost f a ≡ true
-  crossing-lost e = rw (crossing-kept, crossing-ends, e)
-
-  module _ (r : Routed) (e : joined f a ≡ Joined.Arrow r) where
-    routed-is : routedOf f a ≡ r
-    unfolding routedOf
-    routed-is = ap routedBy e
-
-    crossing-clear : isLost f a ≡ false
-    crossing-clear = rw (crossing-kept, crossing-ends, e)
-
+  module _ (r : Routed) (e : joined f a ≡ r) where
     crossing-kind : kindOf f a ≡ cond (arcShape (r .shape)) 2 3
     unfolding kindOf
-    crossing-kind = rw (crossing-kept, crossing-ends) (ap (λ (q : Routed). cond (arcShape (q .shape)) 2 3) routed-is)
+    crossing-kind = rw (crossing-kept, crossing-ends) (ap (λ (q : Routed). cond (arcShape (q .shape)) 2 3) e)
 
     crossing-leave : leaveOf f a ≡ leaveAngle (r .curve) (centre (f .centres) (a .ends .source))
     unfolding leaveOf
-    crossing-leave = rw t (ap (λ (q : Routed). leaveAngle (q .curve) (centre (f .centres) (a .ends .source))) routed-is)
+    crossing-leave = rw t (ap (λ (q : Routed). leaveAngle (q .curve) (centre (f .centres) (a .ends .source))) e)
 
     crossing-reach : reachOf f a ≡ reachAngle (r .curve) (centre (f .centres) (a .ends .target))
     unfolding reachOf
-    crossing-reach = rw t (ap (λ (q : Routed). reachAngle (q .curve) (centre (f .centres) (a .ends .target))) routed-is)
+    crossing-reach = rw t (ap (λ (q : Routed). reachAngle (q .curve) (centre (f .centres) (a .ends .target))) e)
 
     crossing-traces : tracesOf f a ≡ traceOf (arrow (a .edge)) (r .curve) ∷ []
     unfolding tracesOf
-    crossing-traces = rw t (ap (λ (q : Routed). traceOf (arrow (a .edge)) (q .curve) ∷ []) routed-is)
+    crossing-traces = rw t (ap (λ (q : Routed). traceOf (arrow (a .edge)) (q .curve) ∷ []) e)
 
     along-one : (nt m : ℕ) (s u : Slices) → Along (f .centres) (a .ends .source) (a .ends .target) (a .edge) r nt m s u → One f a nt m s u
     along-one nt m s u g = record {
-      clear = crossing-clear;
       kinds = g .kinds ∙ ap (set (s .kinds) (a .edge)) (sym crossing-kind);
       leaves = g .leaves ∙ ap (set (s .leaves) (a .edge)) (sym crossing-leave);
       reaches = g .reaches ∙ ap (set (s .reaches) (a .edge)) (sym crossing-reach);
-      slots = rw t (g .slots ∙ ap (λ (q : Routed). put (s .slots) (20 * a .edge) (routedFields q)) (sym routed-is));
+      slots = rw t (g .slots ∙ ap (λ (q : Routed). put (s .slots) (20 * a .edge) (routedFields q)) (sym e));
       traces = g .traces ∙ ap (λ (l : List Trace). decodeTraces nt (s .traces) ++ l) (sym crossing-traces);
       room = omega (arith, g .many);
     }
+
+pub along-by : (cs : List «V») (a b i nt m : ℕ) (s u : Slices) (r q : Routed) → r ≡ q → Along cs a b i r nt m s u → Along cs a b i q nt m s u
+along-by cs a b i nt m s u r q e g = subst (λ (x : Routed). Along cs a b i x nt m s u) e g
 
 -- ---- any other arrow
 
@@ -100,11 +89,6 @@ apart-not true true k h = absurd (true≢false h)
 apart-not true false k h = refl
 apart-not false y k h = refl
 
-never : (x y z : Bool) → x && y ≡ false → x && (y && z) ≡ false
-never true true z h = absurd (true≢false h)
-never true false z h = refl
-never false y z h = refl
-
 other-kind-is : (n a b k : ℕ) → ltb a n && ltb b n && not (eqb a b) ≡ false → cond (ltb a n && ltb b n) (cond (eqb a b) 1 k) 0 ≡ otherKind n a b
 other-kind-is n a b k t =
     by-bool (eqb a b)
@@ -115,9 +99,6 @@ module _ (f : Frame) (a : Numbered) (t : isCrossing f a ≡ false) where
   pub other-kind : kindOf f a ≡ otherKind (length (f .flags)) (a .ends .source) (a .ends .target)
   unfolding kindOf
   other-kind = other-kind-is (length (f .flags)) (a .ends .source) (a .ends .target) (cond (isArc (routeOf f a)) 2 3) t
-
-  other-clear : isLost f a ≡ false
-  other-clear = never (isKept f a) (not (isLoop a)) (isBeyond (joined f a)) t
 
   other-leave : leaveOf f a ≡ f0
   unfolding leaveOf
@@ -134,7 +115,6 @@ module _ (f : Frame) (a : Numbered) (t : isCrossing f a ≡ false) where
   pub other-one : (nt : ℕ) (s u : Slices) → u .kinds ≡ set (s .kinds) (a .edge) (otherKind (length (f .flags)) (a .ends .source) (a .ends .target))
       → u .leaves ≡ set (s .leaves) (a .edge) f0 → u .reaches ≡ set (s .reaches) (a .edge) f0 → u .slots ≡ s .slots → u .traces ≡ s .traces → One f a nt nt s u
   other-one nt s u k l r p q = record {
-    clear = other-clear;
     kinds = k ∙ ap (set (s .kinds) (a .edge)) (sym other-kind);
     leaves = l ∙ ap (set (s .leaves) (a .edge)) (sym other-leave);
     reaches = r ∙ ap (set (s .reaches) (a .edge)) (sym other-reach);
@@ -149,13 +129,10 @@ module _ (flags : List ℕ) (xs ys : List Float) (sources targets : List ℕ) (n
   unfolding joined
   joined-is = ap (between (centres xs ys) (getD sources i 0) (getD targets i 0)) (paired-is flags xs ys sources targets n (arrowAt sources targets i))
 
-  module _ (t : isCrossing (frameBy flags xs ys sources targets) (arrowAt sources targets i) ≡ true) (nt : ℕ) (l : Laid) (s u : Slices) where
-    pub crossing-one : Crossing (centres xs ys) sources targets (getD sources i 0) (getD targets i 0) i nt l s u → LaidOne (frameBy flags xs ys sources targets) (arrowAt sources targets i) nt l s u
-    crossing-one = go l
-      where
-        go : (l : Laid) → Crossing (centres xs ys) sources targets (getD sources i 0) (getD targets i 0) i nt l s u → LaidOne (frameBy flags xs ys sources targets) (arrowAt sources targets i) nt l s u
-        go (Traces m) g = along-one (frameBy flags xs ys sources targets) (arrowAt sources targets i) t (g .routed) (joined-is ∙ g .joins) nt m s u (g .along)
-        go Beyond g = crossing-lost (frameBy flags xs ys sources targets) (arrowAt sources targets i) t (joined-is ∙ g)
+  pub crossing-one : isCrossing (frameBy flags xs ys sources targets) (arrowAt sources targets i) ≡ true → (nt m : ℕ) (s u : Slices)
+      → Along (centres xs ys) (getD sources i 0) (getD targets i 0) i (between (centres xs ys) (getD sources i 0) (getD targets i 0) (leads sources targets (getD targets i 0) (getD sources i 0))) nt m s u
+      → One (frameBy flags xs ys sources targets) (arrowAt sources targets i) nt m s u
+  crossing-one t nt m s u g = along-one (frameBy flags xs ys sources targets) (arrowAt sources targets i) t _ joined-is nt m s u g
 
 -- ---- a number that is missing or not finite
 pub finite-yes : (v : Float) → lt (abs v) infinity ≡ true → v ≡ orZero v
@@ -201,35 +178,20 @@ starts-more flags cs k p q r n h e g =
     ∙ ap (p ++_) (sym (starts-turn flags cs k n h))
     ∙ g
 
--- ---- all, by the answer's case
-module _ (f : Frame) (a b : Numbered) (nt : ℕ) (l : Laid) (s u : Slices) (q : a ≡ b) (o : LaidOne f a nt l s u) where
-  pub one-of : (m : ℕ) → l ≡ Traces m → One f b nt m s u
-  one-of m e = subst (λ (x : Numbered). One f x nt m s u) q (subst (λ (x : Laid). LaidOne f a nt x s u) e o)
+-- ---- all
 
-  pub lost-of : l ≡ Beyond → isLost f b ≡ true
-  lost-of e = subst (λ (x : Numbered). isLost f x ≡ true) q (subst (λ (x : Laid). LaidOne f a nt x s u) e o)
-
-module _ (f : Frame) (l : Laid) (s : Slices) (o : LaidArrows f l s) where
-  pub arrows-of : (m : ℕ) → l ≡ Traces m → Arrows f m s
-  arrows-of m e = subst (λ (x : Laid). LaidArrows f x s) e o
-
-  pub beyond-of : l ≡ Beyond → beyond f ≡ true
-  beyond-of e = subst (λ (x : Laid). LaidArrows f x s) e o
+pub one-of : (f : Frame) (a b : Numbered) (nt m : ℕ) (s u : Slices) → a ≡ b → One f a nt m s u → One f b nt m s u
+one-of f a b nt m s u q o = subst (λ (x : Numbered). One f x nt m s u) q o
 
 -- the start arrows' traces after the arrows'
 pub laid-all : (f : Frame) (nt m : ℕ) (s : Slices) (traces : List Float) → Arrows f nt s → m ≤ nt + length (f .flags)
     → decodeTraces m traces ≡ decodeTraces nt (s .traces) ++ startTraces (f .flags) (f .centres)
-    → LaidAll f (Traces m) (slices (s .kinds) (s .leaves) (s .reaches) (s .slots) traces)
-laid-all f nt m s traces o h e = (
-  o .clear,
-  record {
-    kinds = o .kinds;
-    leaves = o .leaves;
-    reaches = o .reaches;
-    slots = o .slots;
-    traces =
-        e ∙ ap (λ (x : List Trace). x ++ startTraces (f .flags) (f .centres)) (o .traces)
-        ∙ sym (ap (λ (x : Scene). x .traces) (first-scene f (o .clear)));
-    room = omega (arith, o .room);
-  },
-)
+    → Laying f m (slices (s .kinds) (s .leaves) (s .reaches) (s .slots) traces)
+laid-all f nt m s traces o h e = record {
+  kinds = o .kinds;
+  leaves = o .leaves;
+  reaches = o .reaches;
+  slots = o .slots;
+  traces = e ∙ ap (λ (x : List Trace). x ++ startTraces (f .flags) (f .centres)) (o .traces) ∙ sym (ap (λ (x : Scene). x .traces) (first-scene f));
+  room = omega (arith, o .room);
+}

@@ -1,4 +1,4 @@
--- The first i arrows laid: one arrow more, an arrow that stops all, and the end. Assumes nothing.
+-- The first i arrows laid: one arrow more, and the end. Assumes nothing.
 use mathlib.Core.Path.{_≡_, refl, sym, ap, _∙_}
 use mathlib.Core.Bool.{Bool, true, cond}
 use mathlib.Core.List.{List, [], _++_, map, flatMap, append-nil, append-assoc}
@@ -14,18 +14,15 @@ use Rattle.trace.specs.Form.{decodeTraces}
 use Rattle.records.specs.Slots.{routedFields, decodeRouted}
 use Rattle.records.specs.Flats.{part-kept}
 use Rattle.records.specs.Back.{length-routed, slot-back}
-use Rattle.routing.specs.Routing.{Frame, Numbered, numbered, beyond}
-use Rattle.routing.specs.Passes.{isCrossing, kindOf, routedOf, leaveOf, reachOf, tracesOf}
+use Rattle.routing.specs.Routing.{Frame, Numbered, numbered, joined}
+use Rattle.routing.specs.Passes.{isCrossing, kindOf, leaveOf, reachOf, tracesOf}
 use Rattle.routing.specs.Numbers.{numberedAt}
-use Rattle.routing.specs.Order.{isLost}
 use Rattle.lay.specs.Lay.{Slices, InSlots}
 use Rattle.lay.specs.Steps.{One, Arrows}
 use Rattle.lay.specs.Filled.{fill-more, fill-end}
 use Rattle.lay.specs.Numbers.{length-numbered, numbered-drop, numbered-past, of-arrow}
-use Rattle.lay.specs.Traces.{beyondIn, beyond-all, beyond-none, beyond-turn, beyond-found}
 
 pub record Sofar (f : Frame) (i nt : ℕ) (s : Slices) : Type 0 where
-  pub clear : beyondIn f (drop i (numbered f)) ≡ beyond f
   pub kinds : take i (s .kinds) ≡ take i (map (kindOf f) (numbered f))
   pub leaves : take i (s .leaves) ≡ take i (map (leaveOf f) (numbered f))
   pub reaches : take i (s .reaches) ≡ take i (map (reachOf f) (numbered f))
@@ -39,7 +36,6 @@ traces-none f l = refl
 
 pub sofar-none : (f : Frame) (s : Slices) → Sofar f 0 0 s
 sofar-none f s = record {
-  clear = beyond-all f;
   kinds = refl;
   leaves = refl;
   reaches = refl;
@@ -57,23 +53,23 @@ module _ (f : Frame) (i : ℕ) (h : i < length (f .arrows)) where
       ap (take (i + 1)) q ∙ fill-more (g (numberedAt f i)) l (map g (numbered f)) i (g (numberedAt f i)) k n e (sym (of-arrow g f i (numberedAt f i) h))
 
   slots-turn : (l l′ : List Float) → 20 * i + 20 ≤ length l → InSlots f l i
-      → l′ ≡ cond (isCrossing f (numberedAt f i)) (put l (20 * i) (routedFields (routedOf f (numberedAt f i)))) l → InSlots f l′ (i + 1)
+      → l′ ≡ cond (isCrossing f (numberedAt f i)) (put l (20 * i) (routedFields (joined f (numberedAt f i)))) l → InSlots f l′ (i + 1)
   slots-turn l l′ k s e j w t =
       by-lt j i
       (λ (d : j < i).
       let n : j ≡ i → ⊥ = λ z. absurd (omega arith) in
       ap (λ (x : List Float). decodeRouted (part 20 j x)) e
       ∙ by-bool (isCrossing f (numberedAt f i))
-      (λ q. rw q (ap decodeRouted (part-kept 20 j i l (routedFields (routedOf f (numberedAt f i))) (length-routed (routedOf f (numberedAt f i))) n)))
+      (λ q. rw q (ap decodeRouted (part-kept 20 j i l (routedFields (joined f (numberedAt f i))) (length-routed (joined f (numberedAt f i))) n)))
       (λ q. rw q)
       ∙ s j d t)
       (λ (d : i ≤ j).
       let z : j ≡ i = omega arith in
       let u : isCrossing f (numberedAt f i) ≡ true = ap (λ (x : ℕ). isCrossing f (numberedAt f x)) (sym z) ∙ t in
-      ap (λ (x : List Float). decodeRouted (part 20 j x)) (e ∙ ap (λ (b : Bool). cond b (put l (20 * i) (routedFields (routedOf f (numberedAt f i)))) l) u)
-      ∙ ap (λ (x : ℕ). decodeRouted (part 20 x (put l (20 * i) (routedFields (routedOf f (numberedAt f i)))))) z
-      ∙ slot-back l i (routedOf f (numberedAt f i)) k
-      ∙ ap (λ (x : ℕ). routedOf f (numberedAt f x)) (sym z))
+      ap (λ (x : List Float). decodeRouted (part 20 j x)) (e ∙ ap (λ (b : Bool). cond b (put l (20 * i) (routedFields (joined f (numberedAt f i)))) l) u)
+      ∙ ap (λ (x : ℕ). decodeRouted (part 20 x (put l (20 * i) (routedFields (joined f (numberedAt f i)))))) z
+      ∙ slot-back l i (joined f (numberedAt f i)) k
+      ∙ ap (λ (x : ℕ). joined f (numberedAt f x)) (sym z))
 
   traces-turn : (p q : List Trace) → p ++ flatMap (tracesOf f) (drop i (numbered f)) ≡ flatMap (tracesOf f) (numbered f) → q ≡ p ++ tracesOf f (numberedAt f i)
       → q ++ flatMap (tracesOf f) (drop (i + 1) (numbered f)) ≡ flatMap (tracesOf f) (numbered f)
@@ -87,7 +83,6 @@ module _ (f : Frame) (i : ℕ) (h : i < length (f .arrows)) where
   pub sofar-turn : (nt m : ℕ) (s t : Slices) → i < length (s .kinds) → i < length (s .leaves) → i < length (s .reaches) → 20 * i + 20 ≤ length (s .slots)
       → Sofar f i nt s → One f (numberedAt f i) nt m s t → Sofar f (i + 1) m t
   sofar-turn nt m s t a b c d p o = record {
-    clear = sym (ap (beyondIn f) (numbered-drop f i h) ∙ beyond-turn f (numberedAt f i) (drop (i + 1) (numbered f)) (o .clear)) ∙ p .clear;
     kinds = column (kindOf f) (s .kinds) (t .kinds) a (p .kinds) (o .kinds);
     leaves = column (leaveOf f) (s .leaves) (t .leaves) b (p .leaves) (o .leaves);
     reaches = column (reachOf f) (s .reaches) (t .reaches) c (p .reaches) (o .reaches);
@@ -95,10 +90,6 @@ module _ (f : Frame) (i : ℕ) (h : i < length (f .arrows)) where
     traces = traces-turn (decodeTraces nt (s .traces)) (decodeTraces m (t .traces)) (p .traces) (o .traces);
     room = omega (arith, p .room, o .room);
   }
-
-  pub sofar-stop : (nt : ℕ) (s : Slices) → Sofar f i nt s → isLost f (numberedAt f i) ≡ true → beyond f ≡ true
-  sofar-stop nt s p o =
-      sym (p .clear) ∙ ap (beyondIn f) (numbered-drop f i h) ∙ beyond-found f (numberedAt f i) (drop (i + 1) (numbered f)) o
 
 module _ (f : Frame) (i : ℕ) (h : i ≡ length (f .arrows)) where
   whole : {A : Type 0} (g : Numbered → A) (l : List A) → length l ≡ length (f .arrows) → take i l ≡ take i (map g (numbered f)) → l ≡ map g (numbered f)
@@ -110,7 +101,6 @@ module _ (f : Frame) (i : ℕ) (h : i ≡ length (f .arrows)) where
   sofar-end nt s a b c p =
       let z : drop i (numbered f) ≡ [] = numbered-past f i (omega arith) in
       record {
-        clear = sym (p .clear) ∙ ap (beyondIn f) z ∙ beyond-none f;
         kinds = whole (kindOf f) (s .kinds) a (p .kinds);
         leaves = whole (leaveOf f) (s .leaves) b (p .leaves);
         reaches = whole (reachOf f) (s .reaches) c (p .reaches);

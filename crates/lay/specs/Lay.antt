@@ -1,6 +1,6 @@
 -- What stands before any label is placed: "It begins with the states and traces that `geometry` has before any label."
 use mathlib.Core.Path.{_≡_}
-use mathlib.Core.Bool.{true, false}
+use mathlib.Core.Bool.{true}
 use mathlib.Core.List.{List, map}
 use Prim.Native.Nat.{ℕ, _+_, _≤_, _<_}
 use lib.ListN.{length}
@@ -8,11 +8,9 @@ use lib.Ieee.{Float}
 use Rattle.laws.specs.Flat.{part}
 use Rattle.trace.specs.Form.{decodeTraces}
 use Rattle.records.specs.Slots.{decodeRouted}
-use Rattle.routing.specs.Routing.{Frame, numbered, beyond, firstScene}
-use Rattle.routing.specs.Passes.{isCrossing, kindOf, routedOf, leaveOf, reachOf}
+use Rattle.routing.specs.Routing.{Frame, numbered, joined, firstScene}
+use Rattle.routing.specs.Passes.{isCrossing, kindOf, leaveOf, reachOf}
 use Rattle.routing.specs.Numbers.{numberedAt}
-use Rattle.lay.specs.declared.Laid.{Laid}
-use Rattle.lay.specs.declared.Laid.the-variants.{Traces, Beyond}
 
 -- the lent slices: for each arrow a number of its kind, two angles and the twenty numbers of a slot; forty numbers for each trace
 pub record Slices : Type 0 where
@@ -27,7 +25,7 @@ slices kinds leaves reaches slots traces = record { kinds = kinds; leaves = leav
 
 -- each arrow between different states has its curve in its slot
 abbrev pub InSlots : Frame → List Float → ℕ → Type 0
-InSlots f slots n = (i : ℕ) → i < n → isCrossing f (numberedAt f i) ≡ true → decodeRouted (part 20 i slots) ≡ routedOf f (numberedAt f i)
+InSlots f slots n = (i : ℕ) → i < n → isCrossing f (numberedAt f i) ≡ true → decodeRouted (part 20 i slots) ≡ joined f (numberedAt f i)
 
 -- every arrow's kind, angles and curve, and the m traces of the first scene
 pub record Laying (f : Frame) (m : ℕ) (t : Slices) : Type 0 where
@@ -37,8 +35,3 @@ pub record Laying (f : Frame) (m : ℕ) (t : Slices) : Type 0 where
   pub slots : InSlots f (t .slots) (length (f .arrows))
   pub traces : decodeTraces m (t .traces) ≡ firstScene f .traces
   pub room : m ≤ length (f .arrows) + length (f .flags)
-
--- the answer: Beyond exactly where "a two-way pair whose first free bow exceeds 10^9"
-abbrev pub LaidAll : Frame → Laid → Slices → Type 0
-LaidAll f (Traces m) t = (beyond f ≡ false) × Laying f m t
-LaidAll f Beyond t = beyond f ≡ true

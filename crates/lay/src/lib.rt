@@ -1,6 +1,5 @@
 // What `geometry` has before any label: the curve of each arrow between different states, its kind and where it meets the rims, and the traces of
 // the first scene. An arrow's curve stands in the twenty numbers of its own slot.
-use bow::Joined;
 use bow::Routed;
 use bow::Shape;
 use shape::Curve;
@@ -12,19 +11,15 @@ ghost use Prim.Native.Nat.{_+_, _*_, _≤_, _<_};
 ghost use lib.ListN.{length, getD};
 ghost use Rattle.laws.specs.Flat.{table};
 ghost use Rattle.float.specs.Constants.{f0};
-ghost use Rattle.free.specs.Centres.{centres};
+ghost use Rattle.shape.specs.Centres.{centres};
+ghost use Rattle.bow.specs.Bend.{leads};
+ghost use Rattle.bow.specs.Between.{between};
 ghost use Rattle.trace.specs.Form.{decodeTraces};
 ghost use Rattle.routing.specs.Routing.{arcShape, startCurve, startTraces};
 ghost use Rattle.routing.specs.Passes.{frameBy};
 ghost use Rattle.routing.specs.Sheets.{orZero};
 ghost use Rattle.lay.specs.Lay as S;
 ghost use Rattle.lay.specs.Steps as O;
-
-// How many traces there are, or a two-way pair whose first free bow exceeds 10^9.
-pub enum Laid {
-    Traces(usize),
-    Beyond,
-}
 
 // ---- centres
 
@@ -104,13 +99,13 @@ fn lay_routed(
     let curve = r.curve;
     let shape = r.shape;
     kinds[i] = kind_of(shape);
-    leaves[i] = rim::leave_angle(curve, free::centre(xs, ys, a));
-    reaches[i] = rim::reach_angle(curve, free::centre(xs, ys, b));
+    leaves[i] = rim::leave_angle(curve, shape::centre(xs, ys, a));
+    reaches[i] = rim::reach_angle(curve, shape::centre(xs, ys, b));
     records::put_routed(slots, i, r);
     trace::push_trace(traces, nt, i + 1, curve)
 }
 
-// Arrow i, from state a to another state b.
+// Arrow i, from state a to another state b; the reverse arrow is looked for among all.
 fn lay_crossing(
     xs: &[f64],
     ys: &[f64],
@@ -125,30 +120,27 @@ fn lay_crossing(
     slots: &mut [f64],
     traces: &mut [f64],
     nt: usize,
-) -> Laid
+) -> usize
     requires { ⌜ (length (now ys) ≡ length (now xs)) × (length (now xs) ≤ 64) × (length (now targets) ≡ length (now sources)) × (a < length (now xs)) × (b < length (now xs)) ⌝ }
     requires { ⌜ O.Room i nt (length (now kinds)) (length (now leaves)) (length (now reaches)) (length (now slots)) (length (now traces)) ⌝ }
-    ensures { λ l. ⌜ O.Crossing (centres (now (xs .entry)) (now (ys .entry))) (now (sources .entry)) (now (targets .entry)) a b i nt l (S.slices (now (kinds .entry)) (now (leaves .entry)) (now (reaches .entry)) (now (slots .entry)) (now (traces .entry))) (S.slices (now (kinds .exit)) (now (leaves .exit)) (now (reaches .exit)) (now (slots .exit)) (now (traces .exit))) ⌝ }
+    ensures { λ m. ⌜ O.Along (centres (now (xs .entry)) (now (ys .entry))) a b i (between (centres (now (xs .entry)) (now (ys .entry))) a b (leads (now (sources .entry)) (now (targets .entry)) b a)) nt m (S.slices (now (kinds .entry)) (now (leaves .entry)) (now (reaches .entry)) (now (slots .entry)) (now (traces .entry))) (S.slices (now (kinds .exit)) (now (leaves .exit)) (now (reaches .exit)) (now (slots .exit)) (now (traces .exit))) ⌝ }
 {
     let both_ways = bow::leads(sources, targets, b, a);
-    let j = bow::between(xs, ys, a, b, both_ways);
-    match j {
-        Joined::Arrow(r) => Laid::Traces(lay_routed(
-            xs,
-            ys,
-            a,
-            b,
-            i,
-            r,
-            kinds,
-            leaves,
-            reaches,
-            slots,
-            traces,
-            nt,
-        )),
-        Joined::Beyond => Laid::Beyond,
-    }
+    let r = bow::between(xs, ys, a, b, both_ways);
+    lay_routed(
+        xs,
+        ys,
+        a,
+        b,
+        i,
+        r,
+        kinds,
+        leaves,
+        reaches,
+        slots,
+        traces,
+        nt,
+    )
 }
 
 // Arrow i: a loop or one that is left out has no curve yet.
@@ -165,11 +157,11 @@ fn lay_arrow(
     slots: &mut [f64],
     traces: &mut [f64],
     nt: usize,
-) -> Laid
+) -> usize
     requires { ⌜ O.Ready (length (now xs)) (length (now ys)) (length (now flags)) (length (now sources)) (length (now targets)) ⌝ }
     requires { ⌜ i < length (now sources) ⌝ }
     requires { ⌜ O.Room i nt (length (now kinds)) (length (now leaves)) (length (now reaches)) (length (now slots)) (length (now traces)) ⌝ }
-    ensures { λ l. ⌜ O.LaidOne (frameBy (now (flags .entry)) (now (xs .entry)) (now (ys .entry)) (now (sources .entry)) (now (targets .entry))) (O.arrowAt (now (sources .entry)) (now (targets .entry)) i) nt l (S.slices (now (kinds .entry)) (now (leaves .entry)) (now (reaches .entry)) (now (slots .entry)) (now (traces .entry))) (S.slices (now (kinds .exit)) (now (leaves .exit)) (now (reaches .exit)) (now (slots .exit)) (now (traces .exit))) ⌝ }
+    ensures { λ m. ⌜ O.One (frameBy (now (flags .entry)) (now (xs .entry)) (now (ys .entry)) (now (sources .entry)) (now (targets .entry))) (O.arrowAt (now (sources .entry)) (now (targets .entry)) i) nt m (S.slices (now (kinds .entry)) (now (leaves .entry)) (now (reaches .entry)) (now (slots .entry)) (now (traces .entry))) (S.slices (now (kinds .exit)) (now (leaves .exit)) (now (reaches .exit)) (now (slots .exit)) (now (traces .exit))) ⌝ }
 {
     let n = flags.len();
     let a = sources[i];
@@ -194,7 +186,7 @@ fn lay_arrow(
     kinds[i] = other_kind(n, a, b);
     leaves[i] = 0.0;
     reaches[i] = 0.0;
-    Laid::Traces(nt)
+    nt
 }
 
 // All arrows, in order.
@@ -209,15 +201,15 @@ fn lay_arrows(
     reaches: &mut [f64],
     slots: &mut [f64],
     traces: &mut [f64],
-) -> Laid
+) -> usize
     requires { ⌜ O.Ready (length (now xs)) (length (now ys)) (length (now flags)) (length (now sources)) (length (now targets)) ⌝ }
     requires { ⌜ O.Wide (length (now sources)) (length (now kinds)) (length (now leaves)) (length (now reaches)) (length (now slots)) (length (now traces)) ⌝ }
-    ensures { λ l. ⌜ O.LaidArrows (frameBy (now (flags .entry)) (now (xs .entry)) (now (ys .entry)) (now (sources .entry)) (now (targets .entry))) l (S.slices (now (kinds .exit)) (now (leaves .exit)) (now (reaches .exit)) (now (slots .exit)) (now (traces .exit))) ⌝ }
+    ensures { λ m. ⌜ O.Arrows (frameBy (now (flags .entry)) (now (xs .entry)) (now (ys .entry)) (now (sources .entry)) (now (targets .entry))) m (S.slices (now (kinds .exit)) (now (leaves .exit)) (now (reaches .exit)) (now (slots .exit)) (now (traces .exit))) ⌝ }
 {
     let mut nt: usize = 0;
     let mut i: usize = 0;
     while i < sources.len() {
-        let l = lay_arrow(
+        nt = lay_arrow(
             xs,
             ys,
             flags,
@@ -231,13 +223,9 @@ fn lay_arrows(
             traces,
             nt,
         );
-        let Laid::Traces(m) = l else {
-            return Laid::Beyond;
-        };
-        nt = m;
         i += 1;
     }
-    Laid::Traces(nt)
+    nt
 }
 
 // ---- start arrows
@@ -269,15 +257,14 @@ fn push_starts(flags: &[u8], xs: &[f64], ys: &[f64], traces: &mut [f64], nt: usi
 {
     let mut m = nt;
     for k in 0..xs.len() {
-        m = push_start(flags[k], free::centre(xs, ys, k), traces, m);
+        m = push_start(flags[k], shape::centre(xs, ys, k), traces, m);
     }
     m
 }
 
 // ---- all
 
-// What is known of each arrow before any label is placed, and the traces of the first scene.
-// The slices are working space: where the answer is Beyond, nothing is said of them.
+// What is known of each arrow before any label is placed, and the traces of the first scene: how many there are.
 pub fn lay(
     xs: &[f64],
     ys: &[f64],
@@ -289,12 +276,12 @@ pub fn lay(
     reaches: &mut [f64],
     slots: &mut [f64],
     traces: &mut [f64],
-) -> Laid
+) -> usize
     requires { ⌜ (length (now ys) ≡ length (now xs)) × (length (now flags) ≡ length (now xs)) × (length (now xs) ≤ 64) × (length (now targets) ≡ length (now sources)) × (length (now sources) ≤ 256) ⌝ }
     requires { ⌜ (length (now kinds) ≡ length (now sources)) × (length (now leaves) ≡ length (now sources)) × (length (now reaches) ≡ length (now sources)) × (20 * length (now sources) ≤ length (now slots)) × (40 * (length (now sources) + length (now xs)) ≤ length (now traces)) ⌝ }
-    ensures { λ l. ⌜ S.LaidAll (frameBy (now (flags .entry)) (now (xs .entry)) (now (ys .entry)) (now (sources .entry)) (now (targets .entry))) l (S.slices (now (kinds .exit)) (now (leaves .exit)) (now (reaches .exit)) (now (slots .exit)) (now (traces .exit))) ⌝ }
+    ensures { λ m. ⌜ S.Laying (frameBy (now (flags .entry)) (now (xs .entry)) (now (ys .entry)) (now (sources .entry)) (now (targets .entry))) m (S.slices (now (kinds .exit)) (now (leaves .exit)) (now (reaches .exit)) (now (slots .exit)) (now (traces .exit))) ⌝ }
 {
-    let l = lay_arrows(
+    let nt = lay_arrows(
         xs,
         ys,
         flags,
@@ -306,8 +293,5 @@ pub fn lay(
         slots,
         traces,
     );
-    let Laid::Traces(nt) = l else {
-        return Laid::Beyond;
-    };
-    Laid::Traces(push_starts(flags, xs, ys, traces, nt))
+    push_starts(flags, xs, ys, traces, nt)
 }

@@ -1,6 +1,6 @@
 -- The layout of a graph by kind: layers or ring, the choice between them, and the fit. Document 01: "layout.rs".
-use mathlib.Core.Bool.{Bool, false, cond, _||_}
-use mathlib.Core.List.{List, [], _∷_, map}
+use mathlib.Core.Bool.{Bool, cond, _||_}
+use mathlib.Core.List.{List, [], map}
 use Prim.Native.Nat.{ℕ, zero, suc, _+_}
 use lib.Dec.{ltb, eqb}
 use lib.ListN.{length}
@@ -9,20 +9,18 @@ use Rattle.laws.specs.Flat.{table}
 use Rattle.laws.specs.Zip.{zip}
 use Rattle.float.specs.Constants.{f2, f2-5, f16}
 use Rattle.float.specs.Ops.{_⊗_, lt, count}
-use Rattle.sheet.specs.Sheet.{Graph}
-use Rattle.sheet.specs.Refusals.{any}
-use Rattle.free.specs.Centres.{centres}
+use Rattle.sheet.specs.Sheet.{Graph, flagsOf}
+use Rattle.sheet.specs.Meaning.{startIndex}
+use Rattle.shape.specs.Centres.{centres}
 use Rattle.spot.specs.declared.Geometry.{Geometry}
-use Rattle.routing.specs.Routing.{Ends, Frame, Size, records, beyond}
+use Rattle.routing.specs.Routing.{Ends, Frame, Size, records}
 use Rattle.routing.specs.Passes.{endsBy, sizesBy}
 use Rattle.routing.specs.Sheets.{centreAt, endsOf, sizesOf}
 use Rattle.clutter.specs.Clutter.{clutterOf}
-use Rattle.ring.specs.Ring.{startIndex, largest, circularXs, circularYs}
+use Rattle.ring.specs.Ring.{largest, circularXs, circularYs}
 use Rattle.columns.specs.Columns.{Arrow, arrow}
 use Rattle.layered.specs.Layered.{layeredXs, layeredYs}
 use Rattle.fit.specs.Fit.{fitXs, fitYs, fitSize}
-use Rattle.layout.specs.declared.Placed.{Placed}
-use Rattle.layout.specs.declared.Placed.the-variants as Placed
 
 -- ---- what is laid out: the states' flags, the arrows' ends, and the sizes of their labels
 
@@ -32,7 +30,7 @@ pub record Plan : Type 0 where
   pub sizes : List Size
 
 abbrev pub planOf : Graph → Plan
-planOf g = record { flags = g .states; arrows = map endsOf (g .arrows); sizes = sizesOf g }
+planOf g = record { flags = flagsOf g; arrows = map endsOf (g .arrows); sizes = sizesOf g }
 
 -- the plan that slices hold
 abbrev pub planBy : List ℕ → List ℕ → List ℕ → List Float → List Float → Plan
@@ -85,10 +83,6 @@ ring p = ringBy (many p) (startOf p) (widest p)
 abbrev pub frameAt : Plan → Placing → Frame
 frameAt p c = record { flags = p .flags; centres = table (centreAt (c .xs) (c .ys)) 0 (many p); arrows = p .arrows }
 
--- refused by 9
-abbrev pub beyondAt : Plan → Placing → Bool
-beyondAt p c = beyond (frameAt p c)
-
 abbrev pub drawnAt : Plan → Placing → List Geometry
 drawnAt p c = records (frameAt p c) (p .sizes)
 
@@ -107,23 +101,19 @@ isDense p = isMore (many p) (length (p .arrows))
 unfoldable pub isTangled : Plan → Bool
 isTangled p = ltb (clutterAt p (ring p) + 2) (clutterAt p (layers p))
 
--- "0 Auto, 1 Layered, 2 Circular"
+unfoldable pub takesRing : Plan → Bool
+takesRing p = isDense p || isTangled p
+
+-- "layout kind not 0 Auto, 1 Layered, 2 Circular" is refused by 11: kinds above the last
+abbrev pub lastKind : ℕ
+lastKind = 2
+
+-- "0 Auto, 1 Layered, 2 Circular"; a kind that 11 refuses has no centres
 unfoldable pub chosen : ℕ → Plan → Placing
-chosen zero p = cond (isDense p || isTangled p) (ring p) (layers p)
+chosen zero p = cond (takesRing p) (ring p) (layers p)
 chosen (suc zero) p = layers p
-chosen (suc (suc k)) p = ring p
-
--- ---- "A layout is refused by 9 if any drawing it measures is."
-
--- the centres whose drawing it measures: for clutter both, where Auto has to compare; to fit it, the one chosen
-unfoldable pub measured : ℕ → Plan → List Placing
-measured zero p = cond (isDense p) (ring p ∷ []) (layers p ∷ ring p ∷ [])
-measured (suc zero) p = layers p ∷ []
-measured (suc (suc k)) p = ring p ∷ []
-
--- no states: nothing is drawn
-unfoldable pub layoutBeyond : ℕ → Plan → Bool
-layoutBeyond kind p = cond (eqb (many p) 0) false (any (beyondAt p) (measured kind p))
+chosen (suc (suc zero)) p = ring p
+chosen (suc (suc (suc k))) p = placing [] []
 
 -- ---- the layout
 
@@ -151,7 +141,3 @@ fitted p c =
 
 unfoldable pub layoutOf : ℕ → Plan → Layout
 layoutOf kind p = cond (eqb (many p) 0) noStates (fitted p (chosen kind p))
-
--- the answer: width and height, or Beyond for 9
-abbrev pub placed : ℕ → Plan → Placed
-placed kind p = cond (layoutBeyond kind p) Placed.Beyond (Placed.Size (layoutOf kind p .width) (layoutOf kind p .height))

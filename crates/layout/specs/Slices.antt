@@ -1,27 +1,23 @@
 -- The plan that slices hold, and the records read back from the numbers of a drawing. Assumes nothing.
 use mathlib.Core.Path.{_≡_, refl, sym, ap, ap₂, _∙_, subst}
-use mathlib.Core.Bool.{Bool, true, false, cond}
-use mathlib.Core.List.{List, [], _∷_, map, flatMap}
+use mathlib.Core.List.{List, [], _∷_, map}
 use Prim.Native.Nat.{ℕ, _≤_}
 use native.Mathlib.Omega.{arith}
-use lib.Dec.{T}
 use lib.ListN.{length}
 use lib.Ieee.{Float}
-use Rattle.laws.specs.Cases.{by-bool}
 use Rattle.laws.specs.Put.{put}
 use Rattle.laws.specs.Zip.{zip, zip-length}
-use Rattle.records.specs.Records.{fields, decodeRecords}
+use Rattle.records.specs.Records.{decodeRecords}
 use Rattle.records.specs.Back.{Small}
-use Rattle.routing.specs.Routing.{Frame, Size, records, beyond}
+use Rattle.routing.specs.Routing.{Frame, Size, records}
 use Rattle.routing.specs.Passes.{endsBy, sizesBy}
 use Rattle.routing.specs.Passes as Passes
 use Rattle.routing.specs.Decoded.{records-most, records-small, records-decoded}
-use Rattle.route.specs.Geometry.{answer, numbers}
-use Rattle.route.specs.declared.Answer.{Answer}
-use Rattle.route.specs.declared.Answer.the-variants as Answer
+use Rattle.route.specs.Geometry.{count, numbers}
 use Rattle.columns.specs.Columns.{Arrow, arrowsOf}
 use Rattle.layered.specs.Layered.{layeredXs, layeredYs}
-use Rattle.ring.specs.Ring.{startIndex, largest, circularXs, circularYs}
+use Rattle.sheet.specs.Meaning.{startIndex}
+use Rattle.ring.specs.Ring.{largest, circularXs, circularYs}
 use Rattle.layout.specs.Layout.{planBy, placing, arrowOf, layersBy, layers, ringBy, ring, isMore, isDense}
 
 -- ---- two lists as one, and each of them again
@@ -76,41 +72,17 @@ pub ring-done : (flags : List ℕ) (widths : List Float) (n s : ℕ) (w : Float)
     → xs ≡ circularXs n s w → ys ≡ circularYs n s w → placing xs ys ≡ ringBy (length flags) (startIndex flags) (largest widths)
 ring-done flags widths n s w xs ys en es ew ex ey = rw (ex, ey, en, es, ew)
 
--- ---- the answer of `geometry`, and what its numbers hold
-
-isDrawn : Answer → Bool
-isDrawn (Answer.Drawn n) = true
-isDrawn Answer.Beyond = false
-
-countOf : Answer → ℕ
-countOf (Answer.Drawn n) = n
-countOf Answer.Beyond = 0
-
-pub refused : {A : Type 0} → false ≡ true → A
-refused e = absurd (subst T (sym e) tt)
-
-pub answer-beyond : (f : Frame) (sizes : List Size) (a : Answer) → a ≡ answer f sizes → a ≡ Answer.Beyond → beyond f ≡ true
-unfolding isDrawn
-answer-beyond f sizes a e b =
-    by-bool (beyond f) (λ t. t)
-    (λ t. refused (ap isDrawn (sym b ∙ e) ∙ ap (λ (u : Bool). isDrawn (cond u Answer.Beyond (Answer.Drawn (length (records f sizes))))) t))
+-- ---- what the numbers of `geometry` hold
 
 -- n records, read from the slice l
 pub record Reads (f : Frame) (sizes : List Size) (n : ℕ) (l : List Float) : Type 0 where
-  pub drawn : beyond f ≡ false
   pub gives : decodeRecords n l ≡ records f sizes
   pub most : n ≤ 256
   pub small : Small (decodeRecords n l)
 
-pub answer-drawn : (f : Frame) (sizes : List Size) (a : Answer) (n : ℕ) (l₀ l : List Float) → a ≡ answer f sizes → a ≡ Answer.Drawn n
-    → l ≡ put l₀ 0 (numbers f sizes) → length (f .arrows) ≤ 256 → 5120 ≤ length l₀ → Reads f sizes n l
-unfolding isDrawn countOf
-answer-drawn f sizes a n l₀ l e b w m room =
-    by-bool (beyond f)
-    (λ t. refused (sym (ap isDrawn (sym b ∙ e) ∙ ap (λ (u : Bool). isDrawn (cond u Answer.Beyond (Answer.Drawn (length (records f sizes))))) t)))
-    (λ t.
-    let k : n ≡ length (records f sizes) = ap countOf (sym b ∙ e) ∙ ap (λ (u : Bool). countOf (cond u Answer.Beyond (Answer.Drawn (length (records f sizes))))) t in
-    let few : length (records f sizes) ≤ length (f .arrows) = records-most f sizes t in
-    let g : decodeRecords n l ≡ records f sizes =
-    ap₂ decodeRecords k (w ∙ ap (λ (u : Bool). put l₀ 0 (cond u [] (flatMap fields (records f sizes)))) t) ∙ records-decoded f sizes l₀ (omega arith) (omega arith) in
-    record { drawn = t; gives = g; most = omega arith; small = subst Small (sym g) (records-small f sizes (omega arith)) })
+pub reads-drawn : (f : Frame) (sizes : List Size) (n : ℕ) (l₀ l : List Float) → n ≡ count f sizes → l ≡ put l₀ 0 (numbers f sizes)
+    → length (f .arrows) ≤ 256 → 5120 ≤ length l₀ → Reads f sizes n l
+reads-drawn f sizes n l₀ l k w m room =
+    let few : length (records f sizes) ≤ length (f .arrows) = records-most f sizes in
+    let g : decodeRecords n l ≡ records f sizes = ap₂ decodeRecords k w ∙ records-decoded f sizes l₀ (omega arith) (omega arith) in
+    record { gives = g; most = omega arith; small = subst Small (sym g) (records-small f sizes (omega arith)) }

@@ -1,10 +1,10 @@
 // The layout of a graph by kind: layers or ring, the choice between them, and the fit.
-use route::Answer;
+use fit::Size;
 ghost use mathlib.Core.Path.{_≡_};
-ghost use mathlib.Core.Bool.{false};
 ghost use Prim.Native.Nat.{_<_, _≤_};
 ghost use lib.ListN.{length};
-ghost use Rattle.ring.specs.Ring.{startIndex, largest};
+ghost use Rattle.sheet.specs.Meaning.{startIndex};
+ghost use Rattle.ring.specs.Ring.{largest};
 ghost use Rattle.layout.specs.Layout as S;
 ghost use Rattle.layout.specs.Choice as C;
 
@@ -13,29 +13,13 @@ const MARGIN: f64 = 16.0;
 // How much more cluttered than the ring the layers may be.
 const AUTO_TOLERANCE: usize = 2;
 
-// Width and height of the drawing, or one of the drawings measured is refused by 9.
-pub enum Placed {
-    Size(f64, f64),
-    Beyond,
-}
-
-// The clutter of a drawing, or it is refused by 9.
-enum Counted {
-    Count(usize),
-    Beyond,
-}
-
-// The centres that are taken, or a drawing whose clutter is counted is refused by 9.
-enum Choice {
-    Layers,
-    Ring,
-    Beyond,
-}
+// The last layout kind: 0 Auto, 1 Layered, 2 Circular.
+pub const LAST_KIND: u8 = 2;
 
 // ---- centres
 
 // The centres in layers.
-fn layers_at(
+pub fn layers_at(
     flags: &[u8],
     sources: &[usize],
     targets: &[usize],
@@ -47,18 +31,18 @@ fn layers_at(
     requires { ⌜ C.States (now flags) (now xs) (now ys) × C.Arrows (now sources) (now targets) (now widths) (now heights) ⌝ }
     ensures { λ _. ⌜ S.placing (now (xs .exit)) (now (ys .exit)) ≡ S.layers (S.planBy (now (flags .entry)) (now (sources .entry)) (now (targets .entry)) (now (widths .entry)) (now (heights .entry))) ⌝ }
 {
-    let start = ring::start_index(flags);
+    let start = sheet::start_index(flags);
     let label_w = ring::largest(widths);
     let label_h = ring::largest(heights);
     layered::layered(start, sources, targets, label_w, label_h, xs, ys);
 }
 
 // The centres on the ring.
-fn ring_at(flags: &[u8], widths: &[f64], xs: &mut [f64], ys: &mut [f64])
+pub fn ring_at(flags: &[u8], widths: &[f64], xs: &mut [f64], ys: &mut [f64])
     requires { ⌜ C.States (now flags) (now xs) (now ys) ⌝ }
     ensures { λ _. ⌜ S.placing (now (xs .exit)) (now (ys .exit)) ≡ S.ringBy (length (now (flags .entry))) (startIndex (now (flags .entry))) (largest (now (widths .entry))) ⌝ }
 {
-    ring::circular(ring::start_index(flags), ring::largest(widths), xs, ys);
+    ring::circular(sheet::start_index(flags), ring::largest(widths), xs, ys);
 }
 
 // ---- what is measured
@@ -74,12 +58,12 @@ fn clutter_by(
     ys: &[f64],
     px: &mut [f64],
     py: &mut [f64],
-) -> Counted
+) -> usize
     requires { ⌜ C.States (now flags) (now px) (now py) × C.Arrows (now sources) (now targets) (now widths) (now heights) ⌝ }
-    ensures { λ r. ⌜ r ≡ C.counted (S.planBy (now (flags .entry)) (now (sources .entry)) (now (targets .entry)) (now (widths .entry)) (now (heights .entry))) (S.placing (now (xs .entry)) (now (ys .entry))) ⌝ }
+    ensures { λ r. ⌜ r ≡ S.clutterAt (S.planBy (now (flags .entry)) (now (sources .entry)) (now (targets .entry)) (now (widths .entry)) (now (heights .entry))) (S.placing (now (xs .entry)) (now (ys .entry))) ⌝ }
 {
     let mut records = [0.0f64; 5120];
-    let drawn = route::geometry(
+    let count = route::geometry(
         flags,
         sources,
         targets,
@@ -89,12 +73,9 @@ fn clutter_by(
         ys,
         &mut records,
     );
-    let Answer::Drawn(count) = drawn else {
-        return Counted::Beyond;
-    };
     lay::centred(xs, px);
     lay::centred(ys, py);
-    Counted::Count(clutter::clutter(px, py, &records, count))
+    clutter::clutter(px, py, &records, count)
 }
 
 // The clutter at these centres.
@@ -106,9 +87,9 @@ fn clutter_at(
     heights: &[f64],
     xs: &[f64],
     ys: &[f64],
-) -> Counted
+) -> usize
     requires { ⌜ (0 < length (now flags)) × (length (now flags) ≤ 64) × C.Arrows (now sources) (now targets) (now widths) (now heights) ⌝ }
-    ensures { λ r. ⌜ r ≡ C.counted (S.planBy (now (flags .entry)) (now (sources .entry)) (now (targets .entry)) (now (widths .entry)) (now (heights .entry))) (S.placing (now (xs .entry)) (now (ys .entry))) ⌝ }
+    ensures { λ r. ⌜ r ≡ S.clutterAt (S.planBy (now (flags .entry)) (now (sources .entry)) (now (targets .entry)) (now (widths .entry)) (now (heights .entry))) (S.placing (now (xs .entry)) (now (ys .entry))) ⌝ }
 {
     let mut px = [0.0f64; 64];
     let mut py = [0.0f64; 64];
@@ -135,9 +116,9 @@ fn layers_clutter(
     heights: &[f64],
     xs: &mut [f64],
     ys: &mut [f64],
-) -> Counted
+) -> usize
     requires { ⌜ C.States (now flags) (now xs) (now ys) × C.Arrows (now sources) (now targets) (now widths) (now heights) ⌝ }
-    ensures { λ r. ⌜ r ≡ C.counted (S.planBy (now (flags .entry)) (now (sources .entry)) (now (targets .entry)) (now (widths .entry)) (now (heights .entry))) (S.layers (S.planBy (now (flags .entry)) (now (sources .entry)) (now (targets .entry)) (now (widths .entry)) (now (heights .entry)))) ⌝ }
+    ensures { λ r. ⌜ r ≡ S.clutterAt (S.planBy (now (flags .entry)) (now (sources .entry)) (now (targets .entry)) (now (widths .entry)) (now (heights .entry))) (S.layers (S.planBy (now (flags .entry)) (now (sources .entry)) (now (targets .entry)) (now (widths .entry)) (now (heights .entry)))) ⌝ }
 {
     layers_at(flags, sources, targets, widths, heights, xs, ys);
     clutter_at(flags, sources, targets, widths, heights, xs, ys)
@@ -152,9 +133,9 @@ fn ring_clutter(
     heights: &[f64],
     xs: &mut [f64],
     ys: &mut [f64],
-) -> Counted
+) -> usize
     requires { ⌜ C.States (now flags) (now xs) (now ys) × C.Arrows (now sources) (now targets) (now widths) (now heights) ⌝ }
-    ensures { λ r. ⌜ r ≡ C.counted (S.planBy (now (flags .entry)) (now (sources .entry)) (now (targets .entry)) (now (widths .entry)) (now (heights .entry))) (S.ring (S.planBy (now (flags .entry)) (now (sources .entry)) (now (targets .entry)) (now (widths .entry)) (now (heights .entry)))) ⌝ }
+    ensures { λ r. ⌜ r ≡ S.clutterAt (S.planBy (now (flags .entry)) (now (sources .entry)) (now (targets .entry)) (now (widths .entry)) (now (heights .entry))) (S.ring (S.planBy (now (flags .entry)) (now (sources .entry)) (now (targets .entry)) (now (widths .entry)) (now (heights .entry)))) ⌝ }
 {
     ring_at(flags, widths, xs, ys);
     clutter_at(flags, sources, targets, widths, heights, xs, ys)
@@ -163,15 +144,15 @@ fn ring_clutter(
 // ---- the choice
 
 // Whether m arrows are more than 2.5 for each of n states.
-fn dense(n: usize, m: usize) -> bool
+pub fn dense(n: usize, m: usize) -> bool
     requires { ⌜ (n ≤ 64) × (m ≤ 256) ⌝ }
     ensures { λ r. ⌜ r ≡ S.isMore n m ⌝ }
 {
     2.5 * (n as f64) < (m as f64)
 }
 
-// Auto; the slices are room for centres.
-fn auto(
+// Whether Auto takes the ring; the slices are room for centres.
+fn takes_ring(
     flags: &[u8],
     sources: &[usize],
     targets: &[usize],
@@ -179,28 +160,39 @@ fn auto(
     heights: &[f64],
     xs: &mut [f64],
     ys: &mut [f64],
-) -> Choice
+) -> bool
     requires { ⌜ C.States (now flags) (now xs) (now ys) × C.Arrows (now sources) (now targets) (now widths) (now heights) ⌝ }
-    ensures { λ r. ⌜ r ≡ C.auto (S.planBy (now (flags .entry)) (now (sources .entry)) (now (targets .entry)) (now (widths .entry)) (now (heights .entry))) ⌝ }
+    ensures { λ r. ⌜ r ≡ S.takesRing (S.planBy (now (flags .entry)) (now (sources .entry)) (now (targets .entry)) (now (widths .entry)) (now (heights .entry))) ⌝ }
 {
     if dense(flags.len(), sources.len()) {
-        return Choice::Ring;
+        return true;
     }
-    let a = layers_clutter(flags, sources, targets, widths, heights, xs, ys);
-    let Counted::Count(layers) = a else {
-        return Choice::Beyond;
-    };
-    let b = ring_clutter(flags, sources, targets, widths, heights, xs, ys);
-    let Counted::Count(ring) = b else {
-        return Choice::Beyond;
-    };
-    if ring + AUTO_TOLERANCE < layers {
-        return Choice::Ring;
-    }
-    Choice::Layers
+    let layers = layers_clutter(flags, sources, targets, widths, heights, xs, ys);
+    let ring = ring_clutter(flags, sources, targets, widths, heights, xs, ys);
+    ring + AUTO_TOLERANCE < layers
 }
 
-// What to fit, by kind; the slices are room for centres.
+// Auto.
+fn auto_at(
+    flags: &[u8],
+    sources: &[usize],
+    targets: &[usize],
+    widths: &[f64],
+    heights: &[f64],
+    xs: &mut [f64],
+    ys: &mut [f64],
+)
+    requires { ⌜ C.States (now flags) (now xs) (now ys) × C.Arrows (now sources) (now targets) (now widths) (now heights) ⌝ }
+    ensures { λ _. ⌜ S.placing (now (xs .exit)) (now (ys .exit)) ≡ S.chosen 0 (S.planBy (now (flags .entry)) (now (sources .entry)) (now (targets .entry)) (now (widths .entry)) (now (heights .entry))) ⌝ }
+{
+    if takes_ring(flags, sources, targets, widths, heights, xs, ys) {
+        ring_at(flags, widths, xs, ys);
+        return;
+    }
+    layers_at(flags, sources, targets, widths, heights, xs, ys);
+}
+
+// The centres by kind.
 fn choose(
     kind: u8,
     flags: &[u8],
@@ -210,17 +202,16 @@ fn choose(
     heights: &[f64],
     xs: &mut [f64],
     ys: &mut [f64],
-) -> Choice
-    requires { ⌜ (kind ≤ 2) × C.States (now flags) (now xs) (now ys) × C.Arrows (now sources) (now targets) (now widths) (now heights) ⌝ }
-    ensures { λ r. ⌜ r ≡ C.choice kind (S.planBy (now (flags .entry)) (now (sources .entry)) (now (targets .entry)) (now (widths .entry)) (now (heights .entry))) ⌝ }
+)
+    requires { ⌜ (kind ≤ S.lastKind) × C.States (now flags) (now xs) (now ys) × C.Arrows (now sources) (now targets) (now widths) (now heights) ⌝ }
+    ensures { λ _. ⌜ S.placing (now (xs .exit)) (now (ys .exit)) ≡ S.chosen kind (S.planBy (now (flags .entry)) (now (sources .entry)) (now (targets .entry)) (now (widths .entry)) (now (heights .entry))) ⌝ }
 {
-    if kind == 1 {
-        return Choice::Layers;
+    match kind {
+        0 => auto_at(flags, sources, targets, widths, heights, xs, ys),
+        1 => layers_at(flags, sources, targets, widths, heights, xs, ys),
+        2 => ring_at(flags, widths, xs, ys),
+        _ => {}
     }
-    if kind == 2 {
-        return Choice::Ring;
-    }
-    auto(flags, sources, targets, widths, heights, xs, ys)
 }
 
 // ---- the fit
@@ -234,12 +225,12 @@ fn fit_at(
     heights: &[f64],
     xs: &mut [f64],
     ys: &mut [f64],
-) -> Placed
+) -> Size
     requires { ⌜ C.States (now flags) (now xs) (now ys) × C.Arrows (now sources) (now targets) (now widths) (now heights) ⌝ }
-    ensures { λ r. ⌜ C.Fitted (S.planBy (now (flags .entry)) (now (sources .entry)) (now (targets .entry)) (now (widths .entry)) (now (heights .entry))) (S.placing (now (xs .entry)) (now (ys .entry))) r (now (xs .exit)) (now (ys .exit)) ⌝ }
+    ensures { λ r. ⌜ C.Left (S.fitted (S.planBy (now (flags .entry)) (now (sources .entry)) (now (targets .entry)) (now (widths .entry)) (now (heights .entry))) (S.placing (now (xs .entry)) (now (ys .entry)))) r (now (xs .exit)) (now (ys .exit)) ⌝ }
 {
     let mut records = [0.0f64; 5120];
-    let drawn = route::geometry(
+    let count = route::geometry(
         flags,
         sources,
         targets,
@@ -249,67 +240,10 @@ fn fit_at(
         ys,
         &mut records,
     );
-    let Answer::Drawn(count) = drawn else {
-        return Placed::Beyond;
-    };
-    let size = fit::fit(flags, &records, count, xs, ys);
-    Placed::Size(size.width, size.height)
+    fit::fit(flags, &records, count, xs, ys)
 }
 
-fn fit_layers(
-    flags: &[u8],
-    sources: &[usize],
-    targets: &[usize],
-    widths: &[f64],
-    heights: &[f64],
-    xs: &mut [f64],
-    ys: &mut [f64],
-) -> Placed
-    requires { ⌜ C.States (now flags) (now xs) (now ys) × C.Arrows (now sources) (now targets) (now widths) (now heights) ⌝ }
-    ensures { λ r. ⌜ C.Fitted (S.planBy (now (flags .entry)) (now (sources .entry)) (now (targets .entry)) (now (widths .entry)) (now (heights .entry))) (S.layers (S.planBy (now (flags .entry)) (now (sources .entry)) (now (targets .entry)) (now (widths .entry)) (now (heights .entry)))) r (now (xs .exit)) (now (ys .exit)) ⌝ }
-{
-    layers_at(flags, sources, targets, widths, heights, xs, ys);
-    fit_at(flags, sources, targets, widths, heights, xs, ys)
-}
-
-fn fit_ring(
-    flags: &[u8],
-    sources: &[usize],
-    targets: &[usize],
-    widths: &[f64],
-    heights: &[f64],
-    xs: &mut [f64],
-    ys: &mut [f64],
-) -> Placed
-    requires { ⌜ C.States (now flags) (now xs) (now ys) × C.Arrows (now sources) (now targets) (now widths) (now heights) ⌝ }
-    ensures { λ r. ⌜ C.Fitted (S.planBy (now (flags .entry)) (now (sources .entry)) (now (targets .entry)) (now (widths .entry)) (now (heights .entry))) (S.ring (S.planBy (now (flags .entry)) (now (sources .entry)) (now (targets .entry)) (now (widths .entry)) (now (heights .entry)))) r (now (xs .exit)) (now (ys .exit)) ⌝ }
-{
-    ring_at(flags, widths, xs, ys);
-    fit_at(flags, sources, targets, widths, heights, xs, ys)
-}
-
-// Fits what is chosen.
-fn fit_by(
-    choice: Choice,
-    flags: &[u8],
-    sources: &[usize],
-    targets: &[usize],
-    widths: &[f64],
-    heights: &[f64],
-    xs: &mut [f64],
-    ys: &mut [f64],
-) -> Placed
-    requires { ⌜ C.States (now flags) (now xs) (now ys) × C.Arrows (now sources) (now targets) (now widths) (now heights) ⌝ }
-    ensures { λ r. ⌜ C.FittedBy choice (S.planBy (now (flags .entry)) (now (sources .entry)) (now (targets .entry)) (now (widths .entry)) (now (heights .entry))) r (now (xs .exit)) (now (ys .exit)) ⌝ }
-{
-    match choice {
-        Choice::Layers => fit_layers(flags, sources, targets, widths, heights, xs, ys),
-        Choice::Ring => fit_ring(flags, sources, targets, widths, heights, xs, ys),
-        Choice::Beyond => Placed::Beyond,
-    }
-}
-
-// The layout by kind: 0 Auto, 1 Layered, 2 Circular. Where the answer is Beyond, nothing is said of the centres.
+// The layout by kind: the centres, and the size of the drawing.
 pub fn layout(
     kind: u8,
     flags: &[u8],
@@ -319,14 +253,16 @@ pub fn layout(
     heights: &[f64],
     xs: &mut [f64],
     ys: &mut [f64],
-) -> Placed
-    requires { ⌜ (kind ≤ 2) × (length (now flags) ≤ 64) × (length (now xs) ≡ length (now flags)) × (length (now ys) ≡ length (now flags)) × (length (now sources) ≤ 256) × (length (now targets) ≡ length (now sources)) × (length (now widths) ≡ length (now sources)) × (length (now heights) ≡ length (now sources)) ⌝ }
-    ensures { λ r. ⌜ r ≡ S.placed kind (S.planBy (now (flags .entry)) (now (sources .entry)) (now (targets .entry)) (now (widths .entry)) (now (heights .entry))) ⌝ }
-    ensures { λ _. ⌜ (S.layoutBeyond kind (S.planBy (now (flags .entry)) (now (sources .entry)) (now (targets .entry)) (now (widths .entry)) (now (heights .entry))) ≡ false → (now (xs .exit) ≡ S.layoutOf kind (S.planBy (now (flags .entry)) (now (sources .entry)) (now (targets .entry)) (now (widths .entry)) (now (heights .entry))) .xs) × (now (ys .exit) ≡ S.layoutOf kind (S.planBy (now (flags .entry)) (now (sources .entry)) (now (targets .entry)) (now (widths .entry)) (now (heights .entry))) .ys)) ⌝ }
+) -> Size
+    requires { ⌜ (kind ≤ S.lastKind) × (length (now flags) ≤ 64) × (length (now xs) ≡ length (now flags)) × (length (now ys) ≡ length (now flags)) × (length (now sources) ≤ 256) × (length (now targets) ≡ length (now sources)) × (length (now widths) ≡ length (now sources)) × (length (now heights) ≡ length (now sources)) ⌝ }
+    ensures { λ r. ⌜ C.Left (S.layoutOf kind (S.planBy (now (flags .entry)) (now (sources .entry)) (now (targets .entry)) (now (widths .entry)) (now (heights .entry)))) r (now (xs .exit)) (now (ys .exit)) ⌝ }
 {
     if flags.len() == 0 {
-        return Placed::Size(2.0 * MARGIN, 2.0 * MARGIN);
+        return Size {
+            width: 2.0 * MARGIN,
+            height: 2.0 * MARGIN,
+        };
     }
-    let choice = choose(kind, flags, sources, targets, widths, heights, xs, ys);
-    fit_by(choice, flags, sources, targets, widths, heights, xs, ys)
+    choose(kind, flags, sources, targets, widths, heights, xs, ys);
+    fit_at(flags, sources, targets, widths, heights, xs, ys)
 }

@@ -1,4 +1,5 @@
 pub mod Every
+pub mod Each
 pub mod Continues
 pub mod Lines
 pub mod Worked

@@ -1,57 +1,102 @@
 -- The text of a drawing: the paths of its records, and its listing. Bytes are ASCII: 32 is a blank, 10 a newline.
-use mathlib.Core.Bool.{Bool, true, cond, _&&_}
-use mathlib.Core.List.{List, [], _∷_, _++_, flatMap}
+use mathlib.Core.Bool.{Bool, true}
+use mathlib.Core.List.{List, [], _∷_, _++_, map, flatMap}
 use Prim.Native.Nat.{ℕ, suc}
+use Prim.Native.String.{String}
 use lib.ListN.{getD}
 use lib.Ieee.{Float}
+use Rattle.laws.specs.Filter.{filter}
 use Rattle.float.specs.Ops.{_⊖_}
 use Rattle.float.specs.Constants.{f0, f22}
 use Rattle.text.specs.Digits.{digits}
+use Rattle.text.specs.Ascii.{ascii}
 use Rattle.number.specs.Number.{numText, writable}
 use Rattle.shape.specs.declared.«V».{«V»}
 use Rattle.shape.specs.Plane.{vec}
-use Rattle.svg.specs.Paths.{curvePath, headOf, headPath, curveText, headText, pointWritable, pathWritable}
+use Rattle.svg.specs.Paths.{Command, curvePath, headOf, headPath, pathText, pathWritable}
 use Rattle.spot.specs.declared.Anchor.{Anchor}
 use Rattle.spot.specs.declared.Anchor.the-variants.{Start, Middle, End}
 use Rattle.spot.specs.declared.Geometry.{Geometry}
-use Rattle.ring.specs.Ring.{isStart}
+use Rattle.sheet.specs.Meaning.{isStart}
 use Rattle.lines.specs.Every.{every}
 
 -- ---- path text
 
--- one path, "ended by a newline byte"
-unfoldable pub pathLine : Geometry → List ℕ
-pathLine g = curveText (g .curve) ++ (10 ∷ [])
+-- "one path a record in record order": the commands of each
+unfoldable pub pathsOf : List Geometry → List (List (Command «V»))
+pathsOf gs = map (λ g. curvePath (g .curve)) gs
 
--- "path text, one path a record in record order"
+-- "each ended by a newline byte"
+unfoldable pub pathLine : List (Command «V») → List ℕ
+pathLine path = pathText path ++ (10 ∷ [])
+
+-- the path text
 unfoldable pub pathsText : List Geometry → List ℕ
-pathsText gs = flatMap pathLine gs
+pathsText gs = flatMap pathLine (pathsOf gs)
 
 -- refusal 10: whether every coordinate of every path may be written
-unfoldable pub pathOk : Geometry → Bool
-pathOk g = pathWritable (curvePath (g .curve))
-
 unfoldable pub pathsWritable : List Geometry → Bool
-pathsWritable gs = every pathOk gs
+pathsWritable gs = every pathWritable (pathsOf gs)
 
--- ---- the listing's fields
+-- ---- a line of the listing: its name and its fields
 
--- "floats are written numbers": a blank and a number; two of them
-unfoldable pub field : Float → List ℕ
-field v = 32 ∷ numText v
+-- a whole number, a float, a path as its commands, a word
+pub data Field : Type 0 where
+  wholeField : ℕ → Field
+  floatField : Float → Field
+  pathField : List (Command «V») → Field
+  wordField : List ℕ → Field
 
-unfoldable pub pair : Float → Float → List ℕ
-pair a b = field a ++ field b
+pub record TextLine : Type 0 where
+  pub name : List ℕ
+  pub fields : List Field
 
--- a word and the number of a state or an arrow
-unfoldable pub titled : List ℕ → ℕ → List ℕ
-titled word k = word ++ (32 ∷ digits k)
+abbrev pub named : List ℕ → List Field → TextLine
+named name fields = record { name = name; fields = fields }
 
--- `start`, `middle` and `end`, after a blank
-unfoldable pub anchorText : Anchor → List ℕ
-anchorText Start = 32 ∷ 115 ∷ 116 ∷ 97 ∷ 114 ∷ 116 ∷ []
-anchorText Middle = 32 ∷ 109 ∷ 105 ∷ 100 ∷ 100 ∷ 108 ∷ 101 ∷ []
-anchorText End = 32 ∷ 101 ∷ 110 ∷ 100 ∷ []
+abbrev pub textLine : String → List Field → TextLine
+textLine name fields = named (ascii name) fields
+
+-- ---- its text
+
+-- "floats are written numbers"
+unfoldable pub fieldText : Field → List ℕ
+fieldText (wholeField n) = digits n
+fieldText (floatField v) = numText v
+fieldText (pathField cs) = pathText cs
+fieldText (wordField w) = w
+
+-- a blank before each
+unfoldable pub fieldsText : List Field → List ℕ
+fieldsText fs = flatMap (λ f. 32 ∷ fieldText f) fs
+
+-- without its newline
+unfoldable pub bodyText : TextLine → List ℕ
+bodyText l = l .name ++ fieldsText (l .fields)
+
+-- "Every line ends in a newline"
+unfoldable pub lineText : TextLine → List ℕ
+lineText l = bodyText l ++ (10 ∷ [])
+
+unfoldable pub linesText : List TextLine → List ℕ
+linesText ls = flatMap lineText ls
+
+-- ---- refusal 10: whether every float of it, and every coordinate of its paths, may be written
+
+unfoldable pub fieldWritable : Field → Bool
+fieldWritable (wholeField n) = true
+fieldWritable (floatField v) = writable v
+fieldWritable (pathField cs) = pathWritable cs
+fieldWritable (wordField w) = true
+
+unfoldable pub fieldsWritable : List Field → Bool
+fieldsWritable fs = every fieldWritable fs
+
+unfoldable pub lineWritable : TextLine → Bool
+lineWritable l = fieldsWritable (l .fields)
+
+unfoldable pub linesWritable : List TextLine → Bool
+linesWritable ls = every lineWritable ls
 
 -- ---- states by their numbers
 
@@ -70,95 +115,75 @@ statesFrom k (c ∷ cs) = record { number = k; centre = c } ∷ statesFrom (suc 
 abbrev pub flagOf : List ℕ → State → ℕ
 flagOf flags s = getD flags (s .number) 0
 
+-- the start states
+unfoldable pub starts : List ℕ → List State → List State
+starts flags states = filter (λ s. isStart (flagOf flags s)) states
+
 -- the tip of a start arrow: on the rim, from the left
 abbrev pub startTip : «V» → «V»
 startTip c = vec (c .x ⊖ f22) (c .y)
 
--- ---- the listing's lines: "Every line ends in a newline"
+-- ---- "Fields: width, height; state, centre; arrow, path; arrow, tip, angle; arrow, head; arrow, label point, anchor; start state, head."
 
--- `size`: "width, height"
-unfoldable pub sizeLine : Float → Float → List ℕ
-sizeLine width height = (115 ∷ 105 ∷ 122 ∷ 101 ∷ []) ++ pair width height ++ (10 ∷ [])
+-- a point is two floats
+abbrev pub pointFields : «V» → List Field
+pointFields p = floatField (p .x) ∷ floatField (p .y) ∷ []
 
--- `state`: "state, centre"
-unfoldable pub stateLine : State → List ℕ
-stateLine s = titled (115 ∷ 116 ∷ 97 ∷ 116 ∷ 101 ∷ []) (s .number) ++ pair (s .centre .x) (s .centre .y) ++ (10 ∷ [])
+-- a head is the path of an arrowhead
+abbrev pub headField : «V» → Float → Field
+headField tip angle = pathField (headPath (headOf tip angle))
 
--- `edge`: "arrow, path"
-unfoldable pub edgeLine : Geometry → List ℕ
-edgeLine g = titled (101 ∷ 100 ∷ 103 ∷ 101 ∷ []) (g .edge) ++ (32 ∷ curveText (g .curve)) ++ (10 ∷ [])
+abbrev pub anchorWord : Anchor → List ℕ
+anchorWord Start = ascii "start"
+anchorWord Middle = ascii "middle"
+anchorWord End = ascii "end"
 
--- `tip`: "arrow, tip, angle"
-unfoldable pub tipLine : Geometry → List ℕ
-tipLine g = titled (116 ∷ 105 ∷ 112 ∷ []) (g .edge) ++ pair (g .tip .x) (g .tip .y) ++ field (g .angle) ++ (10 ∷ [])
+-- "width, height"
+abbrev pub sizeLine : Float → Float → TextLine
+sizeLine width height = textLine "size" (floatField width ∷ floatField height ∷ [])
 
--- `head`: "arrow, head"
-unfoldable pub headLine : Geometry → List ℕ
-headLine g = titled (104 ∷ 101 ∷ 97 ∷ 100 ∷ []) (g .edge) ++ (32 ∷ headText (g .tip) (g .angle)) ++ (10 ∷ [])
+-- "state, centre"
+abbrev pub stateLine : State → TextLine
+stateLine s = textLine "state" (wholeField (s .number) ∷ pointFields (s .centre))
 
--- `label`: "arrow, label point, anchor"
-unfoldable pub labelLine : Geometry → List ℕ
-labelLine g = titled (108 ∷ 97 ∷ 98 ∷ 101 ∷ 108 ∷ []) (g .edge) ++ pair (g .label .x) (g .label .y) ++ anchorText (g .anchor) ++ (10 ∷ [])
+-- "arrow, path"
+abbrev pub edgeLine : Geometry → TextLine
+edgeLine g = textLine "edge" (wholeField (g .edge) ∷ pathField (curvePath (g .curve)) ∷ [])
 
--- `start`: "start state, head"; the head points to the right
-unfoldable pub startLine : State → List ℕ
-startLine s = titled (115 ∷ 116 ∷ 97 ∷ 114 ∷ 116 ∷ []) (s .number) ++ (32 ∷ headText (startTip (s .centre)) f0) ++ (10 ∷ [])
+-- "arrow, tip, angle"
+abbrev pub tipLine : Geometry → TextLine
+tipLine g = textLine "tip" (wholeField (g .edge) ∷ pointFields (g .tip) ++ (floatField (g .angle) ∷ []))
+
+-- "arrow, head"
+abbrev pub headLine : Geometry → TextLine
+headLine g = textLine "head" (wholeField (g .edge) ∷ headField (g .tip) (g .angle) ∷ [])
+
+-- "arrow, label point, anchor"
+abbrev pub labelLine : Geometry → TextLine
+labelLine g = textLine "label" (wholeField (g .edge) ∷ pointFields (g .label) ++ (wordField (anchorWord (g .anchor)) ∷ []))
+
+-- "start state, head"; the head points to the right
+abbrev pub startLine : State → TextLine
+startLine s = textLine "start" (wholeField (s .number) ∷ headField (startTip (s .centre)) f0 ∷ [])
 
 -- "four lines a record"
-unfoldable pub recordLines : Geometry → List ℕ
-recordLines g = edgeLine g ++ tipLine g ++ headLine g ++ labelLine g
-
--- a state that is no start has no line among the starts
-unfoldable pub startText : ℕ → State → List ℕ
-startText flag s = cond (isStart flag) (startLine s) []
+abbrev pub recordLines : Geometry → List TextLine
+recordLines g = edgeLine g ∷ tipLine g ∷ headLine g ∷ labelLine g ∷ []
 
 -- ---- the listing
 
-unfoldable pub statesText : List State → List ℕ
-statesText states = flatMap stateLine states
-
-unfoldable pub recordsText : List Geometry → List ℕ
-recordsText gs = flatMap recordLines gs
-
-unfoldable pub startsText : List ℕ → List State → List ℕ
-startsText flags states = flatMap (λ s. startText (flagOf flags s) s) states
-
 -- "Order: size, states, then four lines a record, then starts."
+unfoldable pub listLines : Float → Float → List «V» → List ℕ → List Geometry → List TextLine
+listLines width height centres flags gs =
+    let states = statesFrom 0 centres in
+    sizeLine width height
+    ∷ (map stateLine states
+    ++ (flatMap recordLines gs
+    ++ map startLine (starts flags states)))
+
 unfoldable pub listText : Float → Float → List «V» → List ℕ → List Geometry → List ℕ
-listText width height centres flags gs =
-    let states = statesFrom 0 centres in
-    sizeLine width height ++ statesText states ++ recordsText gs ++ startsText flags states
+listText width height centres flags gs = linesText (listLines width height centres flags gs)
 
--- ---- refusal 10: whether every number of the listing may be written
-
-abbrev pub headOk : «V» → Float → Bool
-headOk tip angle = pathWritable (headPath (headOf tip angle))
-
-unfoldable pub stateOk : State → Bool
-stateOk s = pointWritable (s .centre)
-
--- a tip, its angle and its head
-unfoldable pub tipOk : «V» → Float → Bool
-tipOk tip angle = pointWritable tip && (writable angle && headOk tip angle)
-
--- a record's path, what stands at its tip, and its label point
-unfoldable pub recordOk : Geometry → Bool
-recordOk g = pathOk g && (tipOk (g .tip) (g .angle) && pointWritable (g .label))
-
--- a start's head
-unfoldable pub startOk : ℕ → State → Bool
-startOk flag s = cond (isStart flag) (headOk (startTip (s .centre)) f0) true
-
-unfoldable pub statesOk : List State → Bool
-statesOk states = every stateOk states
-
-unfoldable pub recordsOk : List Geometry → Bool
-recordsOk gs = every recordOk gs
-
-unfoldable pub startsOk : List ℕ → List State → Bool
-startsOk flags states = every (λ s. startOk (flagOf flags s) s) states
-
+-- refusal 10
 unfoldable pub listWritable : Float → Float → List «V» → List ℕ → List Geometry → Bool
-listWritable width height centres flags gs =
-    let states = statesFrom 0 centres in
-    pointWritable (vec width height) && (statesOk states && (recordsOk gs && startsOk flags states))
+listWritable width height centres flags gs = linesWritable (listLines width height centres flags gs)

@@ -5,13 +5,15 @@ use shape::V;
 use spot::Anchor;
 use spot::Geometry;
 ghost use mathlib.Core.Path.{_≡_};
-ghost use mathlib.Core.List.{_∷_};
+ghost use mathlib.Core.Bool.{cond, true};
+ghost use mathlib.Core.List.{[], _∷_, map, flatMap};
 ghost use Prim.Native.Nat.{_*_, _≤_};
 ghost use lib.ListN.{length};
 ghost use Rattle.laws.specs.Writers.{Wrote};
 ghost use Rattle.shape.specs.Plane.{vec};
-ghost use Rattle.svg.specs.Paths.{curveText, headText, pointWritable};
-ghost use Rattle.free.specs.Centres.{centres};
+ghost use Rattle.svg.specs.Paths.{curvePath, pathWritable};
+ghost use Rattle.shape.specs.Centres.{centres};
+ghost use Rattle.sheet.specs.Meaning.{isStart};
 ghost use Rattle.records.specs.Records.{decodeRecords};
 ghost use Rattle.lines.specs.Lines as S;
 
@@ -19,9 +21,9 @@ const NODE_RADIUS: f64 = 22.0;
 
 // ---- path text
 
-// A record's path and a newline.
+// A record's path, ended by a newline.
 fn put_path_line(out: &mut [u8], at: usize, g: Geometry) -> usize
-    ensures { λ r. ⌜ Wrote (now (out .entry)) at (now (out .exit)) r (S.pathLine g) ⌝ }
+    ensures { λ r. ⌜ Wrote (now (out .entry)) at (now (out .exit)) r (S.pathLine (curvePath (g .curve))) ⌝ }
 {
     let curve = g.curve;
     let newline = svg::put_path(out, at, curve);
@@ -42,7 +44,7 @@ pub fn put_paths(out: &mut [u8], at: usize, records: &[f64], count: usize) -> us
 }
 
 fn path_ok(g: Geometry) -> bool
-    ensures { λ r. ⌜ r ≡ S.pathOk g ⌝ }
+    ensures { λ r. ⌜ r ≡ pathWritable (curvePath (g .curve)) ⌝ }
 {
     let curve = g.curve;
     svg::curve_writable(curve)
@@ -66,14 +68,14 @@ pub fn paths_writable(records: &[f64], count: usize) -> bool
 
 // A blank and a written number.
 fn put_field(out: &mut [u8], at: usize, v: f64) -> usize
-    ensures { λ r. ⌜ Wrote (now (out .entry)) at (now (out .exit)) r (S.field v) ⌝ }
+    ensures { λ r. ⌜ Wrote (now (out .entry)) at (now (out .exit)) r (S.fieldsText (S.floatField v ∷ [])) ⌝ }
 {
     let next = text::put_byte(out, at, b' ');
     number::put_num(out, next, v)
 }
 
 fn put_pair(out: &mut [u8], at: usize, a: f64, b: f64) -> usize
-    ensures { λ r. ⌜ Wrote (now (out .entry)) at (now (out .exit)) r (S.pair a b) ⌝ }
+    ensures { λ r. ⌜ Wrote (now (out .entry)) at (now (out .exit)) r (S.fieldsText (S.pointFields (vec a b))) ⌝ }
 {
     let next = put_field(out, at, a);
     put_field(out, next, b)
@@ -81,7 +83,7 @@ fn put_pair(out: &mut [u8], at: usize, a: f64, b: f64) -> usize
 
 // A word and the number of a state or an arrow.
 fn put_titled(out: &mut [u8], at: usize, word: &[u8], k: usize) -> usize
-    ensures { λ r. ⌜ Wrote (now (out .entry)) at (now (out .exit)) r (S.titled (now (word .entry)) k) ⌝ }
+    ensures { λ r. ⌜ Wrote (now (out .entry)) at (now (out .exit)) r (S.bodyText (S.named (now (word .entry)) (S.wholeField k ∷ []))) ⌝ }
 {
     let blank = text::put_bytes(out, at, word);
     let next = text::put_byte(out, blank, b' ');
@@ -89,7 +91,7 @@ fn put_titled(out: &mut [u8], at: usize, word: &[u8], k: usize) -> usize
 }
 
 fn put_anchor(out: &mut [u8], at: usize, anchor: Anchor) -> usize
-    ensures { λ r. ⌜ Wrote (now (out .entry)) at (now (out .exit)) r (S.anchorText anchor) ⌝ }
+    ensures { λ r. ⌜ Wrote (now (out .entry)) at (now (out .exit)) r (S.fieldsText (S.wordField (S.anchorWord anchor) ∷ [])) ⌝ }
 {
     match anchor {
         Anchor::Start => text::put_bytes(out, at, b" start"),
@@ -100,7 +102,7 @@ fn put_anchor(out: &mut [u8], at: usize, anchor: Anchor) -> usize
 
 // A blank and a path.
 fn put_curve(out: &mut [u8], at: usize, curve: Curve) -> usize
-    ensures { λ r. ⌜ Wrote (now (out .entry)) at (now (out .exit)) r (32 ∷ curveText curve) ⌝ }
+    ensures { λ r. ⌜ Wrote (now (out .entry)) at (now (out .exit)) r (S.fieldsText (S.pathField (curvePath curve) ∷ [])) ⌝ }
 {
     let next = text::put_byte(out, at, b' ');
     svg::put_path(out, next, curve)
@@ -108,7 +110,7 @@ fn put_curve(out: &mut [u8], at: usize, curve: Curve) -> usize
 
 // A blank and an arrowhead.
 fn put_head(out: &mut [u8], at: usize, tip: V, angle: f64) -> usize
-    ensures { λ r. ⌜ Wrote (now (out .entry)) at (now (out .exit)) r (32 ∷ headText tip angle) ⌝ }
+    ensures { λ r. ⌜ Wrote (now (out .entry)) at (now (out .exit)) r (S.fieldsText (S.headField tip angle ∷ [])) ⌝ }
 {
     let next = text::put_byte(out, at, b' ');
     svg::put_arrowhead(out, next, tip, angle)
@@ -117,7 +119,7 @@ fn put_head(out: &mut [u8], at: usize, tip: V, angle: f64) -> usize
 // ---- the listing's lines
 
 fn put_size_line(out: &mut [u8], at: usize, width: f64, height: f64) -> usize
-    ensures { λ r. ⌜ Wrote (now (out .entry)) at (now (out .exit)) r (S.sizeLine width height) ⌝ }
+    ensures { λ r. ⌜ Wrote (now (out .entry)) at (now (out .exit)) r (S.lineText (S.sizeLine width height)) ⌝ }
 {
     let size = text::put_bytes(out, at, b"size");
     let end = put_pair(out, size, width, height);
@@ -125,7 +127,7 @@ fn put_size_line(out: &mut [u8], at: usize, width: f64, height: f64) -> usize
 }
 
 fn put_state_line(out: &mut [u8], at: usize, k: usize, x: f64, y: f64) -> usize
-    ensures { λ r. ⌜ Wrote (now (out .entry)) at (now (out .exit)) r (S.stateLine (S.stateAt k x y)) ⌝ }
+    ensures { λ r. ⌜ Wrote (now (out .entry)) at (now (out .exit)) r (S.lineText (S.stateLine (S.stateAt k x y))) ⌝ }
 {
     let centre = put_titled(out, at, b"state", k);
     let end = put_pair(out, centre, x, y);
@@ -133,7 +135,7 @@ fn put_state_line(out: &mut [u8], at: usize, k: usize, x: f64, y: f64) -> usize
 }
 
 fn put_edge_line(out: &mut [u8], at: usize, g: Geometry) -> usize
-    ensures { λ r. ⌜ Wrote (now (out .entry)) at (now (out .exit)) r (S.edgeLine g) ⌝ }
+    ensures { λ r. ⌜ Wrote (now (out .entry)) at (now (out .exit)) r (S.lineText (S.edgeLine g)) ⌝ }
 {
     let curve = g.curve;
     let path = put_titled(out, at, b"edge", g.edge);
@@ -142,7 +144,7 @@ fn put_edge_line(out: &mut [u8], at: usize, g: Geometry) -> usize
 }
 
 fn put_tip_line(out: &mut [u8], at: usize, g: Geometry) -> usize
-    ensures { λ r. ⌜ Wrote (now (out .entry)) at (now (out .exit)) r (S.tipLine g) ⌝ }
+    ensures { λ r. ⌜ Wrote (now (out .entry)) at (now (out .exit)) r (S.lineText (S.tipLine g)) ⌝ }
 {
     let tip = put_titled(out, at, b"tip", g.edge);
     let angle = put_pair(out, tip, g.tip.x, g.tip.y);
@@ -151,7 +153,7 @@ fn put_tip_line(out: &mut [u8], at: usize, g: Geometry) -> usize
 }
 
 fn put_head_line(out: &mut [u8], at: usize, g: Geometry) -> usize
-    ensures { λ r. ⌜ Wrote (now (out .entry)) at (now (out .exit)) r (S.headLine g) ⌝ }
+    ensures { λ r. ⌜ Wrote (now (out .entry)) at (now (out .exit)) r (S.lineText (S.headLine g)) ⌝ }
 {
     let head = put_titled(out, at, b"head", g.edge);
     let end = put_head(out, head, g.tip, g.angle);
@@ -159,7 +161,7 @@ fn put_head_line(out: &mut [u8], at: usize, g: Geometry) -> usize
 }
 
 fn put_label_line(out: &mut [u8], at: usize, g: Geometry) -> usize
-    ensures { λ r. ⌜ Wrote (now (out .entry)) at (now (out .exit)) r (S.labelLine g) ⌝ }
+    ensures { λ r. ⌜ Wrote (now (out .entry)) at (now (out .exit)) r (S.lineText (S.labelLine g)) ⌝ }
 {
     let anchor = g.anchor;
     let label = put_titled(out, at, b"label", g.edge);
@@ -170,7 +172,7 @@ fn put_label_line(out: &mut [u8], at: usize, g: Geometry) -> usize
 
 // The four lines of a record.
 fn put_record_lines(out: &mut [u8], at: usize, g: Geometry) -> usize
-    ensures { λ r. ⌜ Wrote (now (out .entry)) at (now (out .exit)) r (S.recordLines g) ⌝ }
+    ensures { λ r. ⌜ Wrote (now (out .entry)) at (now (out .exit)) r (S.linesText (S.recordLines g)) ⌝ }
 {
     let tip = put_edge_line(out, at, g);
     let head = put_tip_line(out, tip, g);
@@ -189,7 +191,7 @@ fn start_tip(x: f64, y: f64) -> V
 }
 
 fn put_start_line(out: &mut [u8], at: usize, k: usize, x: f64, y: f64) -> usize
-    ensures { λ r. ⌜ Wrote (now (out .entry)) at (now (out .exit)) r (S.startLine (S.stateAt k x y)) ⌝ }
+    ensures { λ r. ⌜ Wrote (now (out .entry)) at (now (out .exit)) r (S.lineText (S.startLine (S.stateAt k x y))) ⌝ }
 {
     let head = put_titled(out, at, b"start", k);
     let end = put_head(out, head, start_tip(x, y), 0.0);
@@ -198,9 +200,11 @@ fn put_start_line(out: &mut [u8], at: usize, k: usize, x: f64, y: f64) -> usize
 
 // The line of a start state; nothing for any other.
 fn put_start(out: &mut [u8], at: usize, flag: u8, k: usize, x: f64, y: f64) -> usize
-    ensures { λ r. ⌜ Wrote (now (out .entry)) at (now (out .exit)) r (S.startText flag (S.stateAt k x y)) ⌝ }
+    ensures { λ r.
+        let text = S.lineText (S.startLine (S.stateAt k x y)) in
+        ⌜ Wrote (now (out .entry)) at (now (out .exit)) r (cond (isStart flag) text []) ⌝ }
 {
-    if ring::is_start(flag) {
+    if sheet::is_start(flag) {
         return put_start_line(out, at, k, x, y);
     }
     at
@@ -210,7 +214,9 @@ fn put_start(out: &mut [u8], at: usize, flag: u8, k: usize, x: f64, y: f64) -> u
 
 fn put_states(out: &mut [u8], at: usize, xs: &[f64], ys: &[f64]) -> usize
     requires { ⌜ length (now ys) ≡ length (now xs) ⌝ }
-    ensures { λ r. ⌜ Wrote (now (out .entry)) at (now (out .exit)) r (S.statesText (S.statesFrom 0 (centres (now (xs .entry)) (now (ys .entry))))) ⌝ }
+    ensures { λ r.
+        let states = S.statesFrom 0 (centres (now (xs .entry)) (now (ys .entry))) in
+        ⌜ Wrote (now (out .entry)) at (now (out .exit)) r (S.linesText (map S.stateLine states)) ⌝ }
 {
     let mut next = at;
     for k in 0..xs.len() {
@@ -221,7 +227,9 @@ fn put_states(out: &mut [u8], at: usize, xs: &[f64], ys: &[f64]) -> usize
 
 fn put_records(out: &mut [u8], at: usize, records: &[f64], count: usize) -> usize
     requires { ⌜ 20 * count ≤ length (now records) ⌝ }
-    ensures { λ r. ⌜ Wrote (now (out .entry)) at (now (out .exit)) r (S.recordsText (decodeRecords count (now (records .entry)))) ⌝ }
+    ensures { λ r.
+        let gs = decodeRecords count (now (records .entry)) in
+        ⌜ Wrote (now (out .entry)) at (now (out .exit)) r (S.linesText (flatMap S.recordLines gs)) ⌝ }
 {
     let mut next = at;
     for k in 0..count {
@@ -233,7 +241,9 @@ fn put_records(out: &mut [u8], at: usize, records: &[f64], count: usize) -> usiz
 
 fn put_starts(out: &mut [u8], at: usize, xs: &[f64], ys: &[f64], flags: &[u8]) -> usize
     requires { ⌜ (length (now ys) ≡ length (now xs)) × (length (now flags) ≡ length (now xs)) ⌝ }
-    ensures { λ r. ⌜ Wrote (now (out .entry)) at (now (out .exit)) r (S.startsText (now (flags .entry)) (S.statesFrom 0 (centres (now (xs .entry)) (now (ys .entry))))) ⌝ }
+    ensures { λ r.
+        let states = S.statesFrom 0 (centres (now (xs .entry)) (now (ys .entry))) in
+        ⌜ Wrote (now (out .entry)) at (now (out .exit)) r (S.linesText (map S.startLine (S.starts (now (flags .entry)) states))) ⌝ }
 {
     let mut next = at;
     for k in 0..xs.len() {
@@ -266,7 +276,7 @@ pub fn put_listing(
 // ---- whether the listing's numbers may be written
 
 fn pair_ok(x: f64, y: f64) -> bool
-    ensures { λ r. ⌜ r ≡ pointWritable (vec x y) ⌝ }
+    ensures { λ r. ⌜ r ≡ S.fieldsWritable (S.pointFields (vec x y)) ⌝ }
 {
     if number::writable(x) {
         return number::writable(y);
@@ -274,36 +284,36 @@ fn pair_ok(x: f64, y: f64) -> bool
     false
 }
 
-// A tip, its angle and its head.
-fn tip_ok(tip: V, angle: f64) -> bool
-    ensures { λ r. ⌜ r ≡ S.tipOk tip angle ⌝ }
+fn tip_ok(g: Geometry) -> bool
+    ensures { λ r. ⌜ r ≡ S.lineWritable (S.tipLine g) ⌝ }
 {
-    if !pair_ok(tip.x, tip.y) {
-        return false;
+    if pair_ok(g.tip.x, g.tip.y) {
+        return number::writable(g.angle);
     }
-    if !number::writable(angle) {
-        return false;
-    }
-    svg::head_writable(tip, angle)
+    false
 }
 
+// The four lines of a record.
 fn record_ok(g: Geometry) -> bool
-    ensures { λ r. ⌜ r ≡ S.recordOk g ⌝ }
+    ensures { λ r. ⌜ r ≡ S.linesWritable (S.recordLines g) ⌝ }
 {
     if !path_ok(g) {
         return false;
     }
-    if !tip_ok(g.tip, g.angle) {
+    if !tip_ok(g) {
+        return false;
+    }
+    if !svg::head_writable(g.tip, g.angle) {
         return false;
     }
     pair_ok(g.label.x, g.label.y)
 }
 
-// The head of a start state; nothing is written for any other.
+// The line of a start state; nothing is written for any other.
 fn start_ok(flag: u8, k: usize, x: f64, y: f64) -> bool
-    ensures { λ r. ⌜ r ≡ S.startOk flag (S.stateAt k x y) ⌝ }
+    ensures { λ r. ⌜ r ≡ cond (isStart flag) (S.lineWritable (S.startLine (S.stateAt k x y))) true ⌝ }
 {
-    if ring::is_start(flag) {
+    if sheet::is_start(flag) {
         return svg::head_writable(start_tip(x, y), 0.0);
     }
     true
@@ -311,7 +321,7 @@ fn start_ok(flag: u8, k: usize, x: f64, y: f64) -> bool
 
 fn states_ok(xs: &[f64], ys: &[f64]) -> bool
     requires { ⌜ length (now ys) ≡ length (now xs) ⌝ }
-    ensures { λ r. ⌜ r ≡ S.statesOk (S.statesFrom 0 (centres (now (xs .entry)) (now (ys .entry)))) ⌝ }
+    ensures { λ r. ⌜ r ≡ S.linesWritable (map S.stateLine (S.statesFrom 0 (centres (now (xs .entry)) (now (ys .entry))))) ⌝ }
 {
     for k in 0..xs.len() {
         if !pair_ok(xs[k], ys[k]) {
@@ -323,7 +333,7 @@ fn states_ok(xs: &[f64], ys: &[f64]) -> bool
 
 fn records_ok(records: &[f64], count: usize) -> bool
     requires { ⌜ 20 * count ≤ length (now records) ⌝ }
-    ensures { λ r. ⌜ r ≡ S.recordsOk (decodeRecords count (now (records .entry))) ⌝ }
+    ensures { λ r. ⌜ r ≡ S.linesWritable (flatMap S.recordLines (decodeRecords count (now (records .entry)))) ⌝ }
 {
     for k in 0..count {
         let g = records::geometry_at(records, k);
@@ -336,7 +346,9 @@ fn records_ok(records: &[f64], count: usize) -> bool
 
 fn starts_ok(xs: &[f64], ys: &[f64], flags: &[u8]) -> bool
     requires { ⌜ (length (now ys) ≡ length (now xs)) × (length (now flags) ≡ length (now xs)) ⌝ }
-    ensures { λ r. ⌜ r ≡ S.startsOk (now (flags .entry)) (S.statesFrom 0 (centres (now (xs .entry)) (now (ys .entry)))) ⌝ }
+    ensures { λ r.
+        let states = S.statesFrom 0 (centres (now (xs .entry)) (now (ys .entry))) in
+        ⌜ r ≡ S.linesWritable (map S.startLine (S.starts (now (flags .entry)) states)) ⌝ }
 {
     for k in 0..xs.len() {
         if !start_ok(flags[k], k, xs[k], ys[k]) {

@@ -1,21 +1,24 @@
--- What the program writes fits in what it is lent: a listing, and a refusal. Assumes nothing.
-use mathlib.Core.Path.{_≡_, ap, _∙_}
+-- What the program writes fits in what it lends, and an input that is longer than a sheet is refused by 1. Assumes nothing.
+use mathlib.Core.Path.{_≡_, sym, ap, _∙_}
+use mathlib.Core.Bool.{true}
 use mathlib.Core.List.{List, [], _∷_, _++_}
 use Prim.Native.Nat.{ℕ, _+_, _/_, _≤_, _<_}
 use native.Mathlib.Omega.{arith}
 use lib.Dec.{ltb}
 use lib.ListN.{length, take, drop, length-append}
-use lib.Seq.{take-append-seam}
-use borrow.Author.Tests.{ltb-false}
+use lib.Seq.{length-take-le, take-all, take-append-seam}
+use borrow.Author.Tests.{lt-ltb, ltb-false}
 use Rattle.laws.specs.Cases.{by-bool, by-lt}
-use Rattle.laws.specs.Refusals.{Refusal, refusal, decide}
+use Rattle.laws.specs.Refusals.{Refusal, refusal, decide, clear-decides}
 use Rattle.laws.specs.Writers.{Wrote, fitted}
 use Rattle.text.specs.Digits.{digits, digits-one, digits-more}
-use Rattle.diagram.specs.Calls.{Outcome, values, number, short, listing, listRefusals, list}
-use Rattle.listing.specs.Listing.{refusedText, shown}
+use Rattle.sheet.specs.Refusals.{wrongLength}
+use Rattle.diagram.specs.Calls.{Outcome, values, number, short, onto, listing, listRefusals, list, listAfter}
+use Rattle.diagram.specs.Decided.{answered-clear}
+use Rattle.listing.specs.Listing.{asked, lent, refusedText, shown, output}
 
 -- the value of an answer, 0 where it is refused
-abbrev pub count : Outcome ℕ → ℕ
+abbrev count : Outcome ℕ → ℕ
 count (values n) = n
 count (number n) = 0
 
@@ -35,7 +38,7 @@ butLast (r ∷ []) = []
 butLast (r ∷ q ∷ rs) = r ∷ butLast (q ∷ rs)
 
 -- "a longer listing is refused by 7"
-pub list-fits : (s : List ℕ) (kind room : ℕ) → count (list s kind room) ≤ room
+list-fits : (s : List ℕ) (kind room : ℕ) → count (list s kind room) ≤ room
 unfolding list decide
 list-fits s kind room = refused-fits (butLast (listRefusals s kind room)) (decide (refusal 7 (short room (listing s kind)) ∷ []) number (values (length (listing s kind)))) room (last-fits room (length (listing s kind)))
 
@@ -63,6 +66,46 @@ front {l} {out} {txt} {n} w h =
     let f = fitted w h in
     (omega (arith, f .0), rw (f .0, f .1) (take-append-seam txt (drop (length txt) l)))
 
--- an answer that is a value shows that many bytes
-pub shows : {n : ℕ} {o : Outcome ℕ} {out l : List ℕ} → values n ≡ o → out ≡ l → take n out ≡ shown o l
-shows {n} {o} {out} {l} e f = ap (λ (p : Outcome ℕ). shown p out) e ∙ ap (shown o) f
+-- ---- the call, with as much lent as there is
+
+-- a call that is answered leaves the listing at the front
+front-listing : {n : ℕ} {after : List ℕ} (s out : List ℕ) → values n ≡ list s 0 (length out) → after ≡ listAfter s 0 out
+    → take n after ≡ listing s 0
+unfolding list listAfter
+front-listing {n} s out e f =
+    let rs : List Refusal = listRefusals s 0 (length out) in
+    let c = answered-clear rs (length (listing s 0)) n e in
+    rw (c .1, f, clear-decides (λ (k : ℕ). out) (onto (listing s 0) out) rs (c .0))
+    (take-append-seam (listing s 0) (drop (length (listing s 0)) out))
+
+-- what is shown of an answer is what the program writes
+shows : {o : Outcome ℕ} (s out : List ℕ) → length out ≡ lent → o ≡ list s 0 (length out) → shown o (listing s 0) ≡ output s
+unfolding output
+shows s out l e = ap (λ (p : Outcome ℕ). shown p (listing s 0)) (e ∙ ap (list s 0) l)
+
+pub listed : {n : ℕ} {after : List ℕ} (s out : List ℕ) → length out ≡ lent → values n ≡ list s 0 (length out)
+    → after ≡ listAfter s 0 out → (n ≤ length out) × (take n after ≡ output s)
+listed s out l e f = (omega (arith, ap count e, list-fits s 0 (length out)), front-listing s out e f ∙ shows s out l e)
+
+pub refused : {n : ℕ} (s out : List ℕ) → length out ≡ lent → number n ≡ list s 0 (length out) → refusedText n ≡ output s
+refused s out l e = shows s out l e
+
+-- ---- inputs longer than a sheet
+
+long : (s : List ℕ) → 65536 < length s → wrongLength s ≡ true
+long s h = by-bool (ltb (length s) 16) (λ t. rw t) (λ t. rw (t, lt-ltb 65536 (length s) h))
+
+refused-1 : (s : List ℕ) → 65536 < length s → output s ≡ refusedText 1
+unfolding output list decide
+refused-1 s h = rw (long s h)
+
+-- "sheet .. over 65,536 bytes" is refused by 1: one byte more is enough to see it
+pub over-long : (input : List ℕ) → 65536 < length input → output (take asked input) ≡ refusedText 1
+over-long input h = refused-1 (take asked input) (omega (arith, length-take-le asked input h))
+
+-- what is read decides as the whole input does
+pub as-whole : (input : List ℕ) → output (take asked input) ≡ output input
+as-whole input =
+    by-lt 65536 (length input)
+    (λ h. over-long input h ∙ sym (refused-1 input h))
+    (λ h. ap output (take-all asked input (omega arith)))

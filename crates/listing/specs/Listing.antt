@@ -1,19 +1,27 @@
--- What the program writes.
+-- What the program asks for, lends and writes.
 use mathlib.Core.List.{List, [], _∷_, _++_}
 use Prim.Native.Nat.{ℕ}
-use lib.ListN.{length, take}
 use Rattle.text.specs.Digits.{digits}
-use Rattle.diagram.specs.Calls.{Outcome, values, number, list, listAfter}
+use Rattle.text.specs.Ascii.{ascii}
+use Rattle.diagram.specs.Calls.{Outcome, values, number, list, listing}
+
+-- one byte more than the 65,536 of a sheet is asked for, so that a longer input is refused as a sheet of that length
+abbrev pub asked : ℕ
+asked = 65537
+
+-- "The program lends 65,536 bytes of text; a longer listing is refused by 7."
+abbrev pub lent : ℕ
+lent = 65536
 
 -- "Refused: `refused` and the number only."
 unfoldable pub refusedText : ℕ → List ℕ
-refusedText n = (114 ∷ 101 ∷ 102 ∷ 117 ∷ 115 ∷ 101 ∷ 100 ∷ 32 ∷ []) ++ digits n ++ (10 ∷ [])
+refusedText n = ascii "refused " ++ digits n ++ (10 ∷ [])
 
--- the bytes that the call wrote, or the refusal
+-- the text that the call answered with, or the refusal
 abbrev pub shown : Outcome ℕ → List ℕ → List ℕ
-shown (values n) out = take n out
-shown (number n) out = refusedText n
+shown (values n) text = text
+shown (number n) text = refusedText n
 
--- "The listing program reads a sheet from standard input and lays out as Auto", into the text it lends
-unfoldable pub output : List ℕ → List ℕ → List ℕ
-output s out = shown (list s 0 (length out)) (listAfter s 0 out)
+-- "The listing program reads a sheet from standard input and lays out as Auto": what it writes of the bytes read
+unfoldable pub output : List ℕ → List ℕ
+output s = shown (list s 0 lent) (listing s 0)

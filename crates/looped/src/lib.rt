@@ -13,7 +13,7 @@ ghost use lib.Dec.{ltb, eqb};
 ghost use lib.ListN.{length};
 ghost use Rattle.laws.specs.Counting.{number, worth};
 ghost use Rattle.laws.specs.Flat.{part};
-ghost use Rattle.free.specs.Centres.{centre, centres};
+ghost use Rattle.shape.specs.Centres.{centre, centres};
 ghost use Rattle.trace.specs.Traces.{near, traceOf, arrow};
 ghost use Rattle.trace.specs.Form.{decodeTrace, decodeTraces};
 ghost use Rattle.place.specs.Scene as S;

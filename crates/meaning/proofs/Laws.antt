@@ -7,7 +7,7 @@ use native.Mathlib.Omega.{arith}
 use lib.ListN.{length, take, drop, set, length-append, length-take, length-drop, length-set, length-map}
 use Rattle.text.specs.Automaton.{feedAll}
 use Rattle.text.specs.Table.{feedAll-join, well-formed-is}
-use Rattle.sheet.specs.Sheet.{chainBy, next, piece, byteOne, count, firstText, firstArrow, lineOf, linesFrom, Arrow, arrowOf, arrowsOf, chain, firstLine, firstState, statesOf, meaning}
+use Rattle.sheet.specs.Sheet.{chainBy, next, piece, byteOne, count, firstText, firstArrow, lineOf, linesFrom, Arrow, arrowOf, arrowsOf, chain, firstLine, firstState, stateOf, statesOf, meaning}
 use Rattle.sheet.specs.Refusals.{any, longLine, largeArrow, overLimits, illLine, illArrow}
 use Rattle.sheet.specs.declared.Limits.{Limits}
 use borrow.Author.Tests.{lt-ltb, le-ltb}
@@ -98,7 +98,7 @@ module _ (m : Limits) (s : List ℕ) (k f n : ℕ) (e : f ≡ firstLine s k) (q 
 module _ (m : Limits) (s : List ℕ) (f n : ℕ) (e : f ≡ firstState s) (q : n ≡ length (chain s f)) where
   pub states-by : ltb (m .states) n ≡ ltb (m .states) (length (statesOf s))
   unfolding statesOf
-  states-by = rw (length-map (chain s (firstState s)) (byteOne s), ← e, ← q)
+  states-by = rw (length-map (chain s (firstState s)) (stateOf s), ← e, ← q)
 
 module _ (m : Limits) (s : List ℕ) (f n : ℕ) (e : f ≡ firstArrow s) (q : n ≡ length (chain s f)) where
   pub arrows-by : ltb (m .arrows) n ≡ ltb (m .arrows) (length (arrowsOf s))
@@ -130,7 +130,7 @@ ill-line s k st e = rw (well-formed-is (lineOf s k), ← e)
 -- ---- counts
 pub count-states : (s : List ℕ) (f n : ℕ) → f ≡ firstState s → n ≡ length (chain s f) → n ≡ length (statesOf s)
 unfolding statesOf
-count-states s f n e q = q ∙ ap (λ (j : ℕ). length (chain s j)) e ∙ sym (length-map (chain s (firstState s)) (byteOne s))
+count-states s f n e q = q ∙ ap (λ (j : ℕ). length (chain s j)) e ∙ sym (length-map (chain s (firstState s)) (stateOf s))
 
 pub count-arrows : (s : List ℕ) (f n : ℕ) → f ≡ firstArrow s → n ≡ length (chain s f) → n ≡ length (arrowsOf s)
 unfolding arrowsOf

@@ -5,7 +5,7 @@ use mathlib.Core.List.{List, [], _∷_, map}
 use Prim.Native.Nat.{ℕ, zero, suc, _<_}
 use native.Mathlib.Nat.{not-suc-le-zero, le-of-suc-le-suc}
 use lib.ListN.{length, getD, length-map}
-use Rattle.sheet.specs.Sheet.{firstLine, Arrow, Graph, arrowChain, fromOf, toOf, arrowOf, arrowsOf, linesFrom, meaning}
+use Rattle.sheet.specs.Sheet.{byteOne, firstLine, Arrow, Graph, stateChain, arrowChain, fromOf, toOf, stateOf, statesOf, arrowOf, arrowsOf, linesFrom, meaning, flagsOf}
 
 -- an end of arrow record k: the state that it leads to, or the one that it leaves
 abbrev pub endOf : List ℕ → Bool → ℕ → ℕ
@@ -22,6 +22,10 @@ targets g = map (λ a. a .target) (g .arrows)
 unfoldable pub heads : List ℕ → List ℕ
 heads s = map (firstLine s) (arrowChain s)
 
+flags-go : (s l : List ℕ) → map (λ a. a .flags) (map (stateOf s) l) ≡ map (byteOne s) l
+flags-go s [] = refl
+flags-go s (k ∷ l) = ap (λ (r : List ℕ). byteOne s k ∷ r) (flags-go s l)
+
 sources-go : (s l : List ℕ) → map (λ a. a .source) (map (arrowOf s) l) ≡ map (fromOf s) l
 unfolding arrowOf
 sources-go s [] = refl
@@ -31,6 +35,10 @@ targets-go : (s l : List ℕ) → map (λ a. a .target) (map (arrowOf s) l) ≡ 
 unfolding arrowOf
 targets-go s [] = refl
 targets-go s (k ∷ l) = ap (λ (r : List ℕ). toOf s k ∷ r) (targets-go s l)
+
+pub flags-are : (s : List ℕ) → flagsOf (meaning s) ≡ map (byteOne s) (stateChain s)
+unfolding statesOf
+flags-are s = flags-go s (stateChain s)
 
 pub sources-are : (s : List ℕ) → sources (meaning s) ≡ map (endOf s false) (arrowChain s)
 unfolding arrowsOf

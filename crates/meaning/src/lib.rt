@@ -243,7 +243,7 @@ fn store(out: &mut [usize], k: usize, v: usize)
 
 // The flag byte of each state, into `out` as far as it reaches.
 pub fn flags_into(s: &[u8], out: &mut [u8])
-    ensures { λ _. ⌜ now (out .exit) ≡ put (now (out .entry)) 0 (S.statesOf (now (s .entry))) ⌝ }
+    ensures { λ _. ⌜ now (out .exit) ≡ put (now (out .entry)) 0 (S.flagsOf (S.meaning (now (s .entry)))) ⌝ }
 {
     let mut i = word_at(s, 4);
     let mut left = word_at(s, 2) + 1;

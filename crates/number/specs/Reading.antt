@@ -63,7 +63,7 @@ readNumber [] = none
 readNumber (b ∷ l) = cond (eqb b 45) (unsigned true l) (unsigned false (b ∷ l))
 
 -- ---- digits
-abbrev AllDigits : List ℕ → Type 0
+abbrev pub AllDigits : List ℕ → Type 0
 AllDigits [] = Unit {0}
 AllDigits (d ∷ ds) = (isDigit d ≡ true) × AllDigits ds
 
@@ -71,21 +71,21 @@ join : (xs ys : List ℕ) → AllDigits xs → AllDigits ys → AllDigits (xs ++
 join [] ys p q = q
 join (x ∷ xs) ys p q = (p .0, join xs ys (p .1) q)
 
-digit : (n : ℕ) → n < 10 → isDigit (48 + n) ≡ true
-digit n h = rw (le-leb 48 (48 + n) (omega arith), le-leb (48 + n) 57 (omega arith))
+pub digit-is : (n : ℕ) → n < 10 → isDigit (48 + n) ≡ true
+digit-is n h = rw (le-leb 48 (48 + n) (omega arith), le-leb (48 + n) 57 (omega arith))
 
 by-all : (f n : ℕ) → n ≤ f → AllDigits (digitsBy f n)
 unfolding digitsBy
-by-all zero n h = (digit n (omega arith), tt)
+by-all zero n h = (digit-is n (omega arith), tt)
 by-all (suc f) n h = go (ltb n 10) refl (by-all f (n / 10))
   where
     go : (t : Bool) → ltb n 10 ≡ t → (n / 10 ≤ f → AllDigits (digitsBy f (n / 10))) → AllDigits (cond t ((48 + n) ∷ []) (digitsBy f (n / 10) ++ ((48 + n % 10) ∷ [])))
-    go true e ih = (digit n (ltb-true n 10 e), tt)
-    go false e ih = let w : 10 ≤ n = ltb-false n 10 e in join (digitsBy f (n / 10)) ((48 + n % 10) ∷ []) (ih (omega arith)) (digit (n % 10) (omega arith), tt)
+    go true e ih = (digit-is n (ltb-true n 10 e), tt)
+    go false e ih = let w : 10 ≤ n = ltb-false n 10 e in join (digitsBy f (n / 10)) ((48 + n % 10) ∷ []) (ih (omega arith)) (digit-is (n % 10) (omega arith), tt)
 
-all : (n : ℕ) → AllDigits (digits n)
+pub digits-all : (n : ℕ) → AllDigits (digits n)
 unfolding digits
-all n = by-all n n (le-refl n)
+digits-all n = by-all n n (le-refl n)
 
 some-by : (f n : ℕ) → 0 < length (digitsBy f n)
 unfolding digitsBy
@@ -96,7 +96,7 @@ some-by (suc f) n = go (ltb n 10)
     go true = omega arith
     go false = rw (length-append (digitsBy f (n / 10)) ((48 + n % 10) ∷ [])) (omega arith)
 
-some-digit : (n : ℕ) → 0 < length (digits n)
+pub some-digit : (n : ℕ) → 0 < length (digits n)
 unfolding digits
 some-digit n = some-by n n
 
@@ -114,10 +114,10 @@ unfolding leading following
 stops [] h = (refl, refl)
 stops (b ∷ l) h = (rw h, rw h)
 
-split : (ds l : List ℕ) → AllDigits ds → NoDigit l → (leading (ds ++ l) ≡ ds) × (following (ds ++ l) ≡ l)
+pub digits-split : (ds l : List ℕ) → AllDigits ds → NoDigit l → (leading (ds ++ l) ≡ ds) × (following (ds ++ l) ≡ l)
 unfolding leading following
-split [] l p h = unfold leading following in (stops l h)
-split (d ∷ ds) l p h = let r = split ds l (p .1) h in (rw (p .0) (ap (λ (x : List ℕ). d ∷ x) (r .0)), rw (p .0) (r .1))
+digits-split [] l p h = unfold leading following in (stops l h)
+digits-split (d ∷ ds) l p h = let r = digits-split ds l (p .1) h in (rw (p .0) (ap (λ (x : List ℕ). d ∷ x) (r .0)), rw (p .0) (r .1))
 
 -- ---- reading back
 
@@ -138,11 +138,11 @@ module _ (minus : Bool) (n : ℕ) (rest : List ℕ) where
 
   one-back : (a : ℕ) → isDigit a ≡ true → NoDigit rest → point minus n (46 ∷ a ∷ rest) ≡ some (readAs minus (100 * n + 10 * (a - 48)) rest)
   unfolding point decimals
-  one-back a h k = let s = split (a ∷ []) rest (h, tt) k in rw (s .0, s .1)
+  one-back a h k = let s = digits-split (a ∷ []) rest (h, tt) k in rw (s .0, s .1)
 
   two-back : (a b : ℕ) → isDigit a ≡ true → isDigit b ≡ true → NoDigit rest → point minus n (46 ∷ a ∷ b ∷ rest) ≡ some (readAs minus (100 * n + (10 * (a - 48) + (b - 48))) rest)
   unfolding point decimals
-  two-back a b h i k = let s = split (a ∷ b ∷ []) rest (h, (i, tt)) k in rw (s .0, s .1)
+  two-back a b h i k = let s = digits-split (a ∷ b ∷ []) rest (h, (i, tt)) k in rw (s .0, s .1)
 
   fraction-back : (f : ℕ) → f < 100 → Ends rest → point minus n (fraction f ++ rest) ≡ some (readAs minus (100 * n + f) rest)
   unfolding fraction
@@ -151,8 +151,8 @@ module _ (minus : Bool) (n : ℕ) (rest : List ℕ) where
       by-bool (eqb f 0)
       (λ (e : eqb f 0 ≡ true). rw e (none-back k ∙ ap read (omega (arith, eqb-true f 0 e))))
       (λ (e : eqb f 0 ≡ false). by-bool (eqb (f % 10) 0)
-      (λ (g : eqb (f % 10) 0 ≡ true). rw (e, g) (one-back (48 + f / 10) (digit (f / 10) (omega arith)) (no-digit rest k) ∙ ap read (omega (arith, eqb-true (f % 10) 0 g))))
-      (λ (g : eqb (f % 10) 0 ≡ false). rw (e, g) (two-back (48 + f / 10) (48 + f % 10) (digit (f / 10) (omega arith)) (digit (f % 10) (omega arith)) (no-digit rest k) ∙ ap read (omega arith))))
+      (λ (g : eqb (f % 10) 0 ≡ true). rw (e, g) (one-back (48 + f / 10) (digit-is (f / 10) (omega arith)) (no-digit rest k) ∙ ap read (omega (arith, eqb-true (f % 10) 0 g))))
+      (λ (g : eqb (f % 10) 0 ≡ false). rw (e, g) (two-back (48 + f / 10) (48 + f % 10) (digit-is (f / 10) (omega arith)) (digit-is (f % 10) (omega arith)) (no-digit rest k) ∙ ap read (omega arith))))
 
 -- what stands after the whole part begins with no digit
 fraction-ends : (f : ℕ) (rest : List ℕ) → Ends rest → NoDigit (fraction f ++ rest)
@@ -164,7 +164,7 @@ fraction-ends f rest h =
 whole-back : (minus : Bool) (n : ℕ) (l : List ℕ) → NoDigit l → unsigned minus (digits n ++ l) ≡ point minus n l
 unfolding unsigned
 whole-back minus n l h =
-    let s = split (digits n) l (all n) h in
+    let s = digits-split (digits n) l (digits-all n) h in
     let z : length (digits n) ≡ 0 → ⊥ = λ e. omega (arith, some-digit n) in
     rw (s .0, s .1, ne-eqb _ _ z, value-digits n)
 
@@ -187,7 +187,7 @@ decimal-back h rest k =
     let f = fraction (h .size % 100) in
     let e : m ++ ds ++ f ++ rest ≡ m ++ (ds ++ (f ++ rest)) = simp append-assoc in
     ap readNumber e
-    ∙ after-sign (h .minus) ds (f ++ rest) (all (h .size / 100)) (some-digit (h .size / 100))
+    ∙ after-sign (h .minus) ds (f ++ rest) (digits-all (h .size / 100)) (some-digit (h .size / 100))
     ∙ whole-back (h .minus) (h .size / 100) (f ++ rest) (fraction-ends (h .size % 100) rest k)
     ∙ fraction-back (h .minus) (h .size / 100) rest (h .size % 100) (omega arith) k
     ∙ ap (λ (n : ℕ). some (readAs (h .minus) n rest)) (omega arith)
@@ -221,7 +221,7 @@ num-begins v rest =
     let ds = digits (h .size / 100) in
     let f = fraction (h .size % 100) in
     let e : m ++ ds ++ f ++ rest ≡ m ++ (ds ++ (f ++ rest)) = simp append-assoc in
-    rw e (sign-begins (h .minus) (ds ++ (f ++ rest)) (digits-begin ds (f ++ rest) (all (h .size / 100)) (some-digit (h .size / 100))))
+    rw e (sign-begins (h .minus) (ds ++ (f ++ rest)) (digits-begin ds (f ++ rest) (digits-all (h .size / 100)) (some-digit (h .size / 100))))
 
 -- ---- what stands after the first point: nothing, as there is none; or one or two digits of which the last is not `0`
 unfoldable pub afterPoint : List ℕ → Option (List ℕ)
@@ -250,8 +250,8 @@ unfolding fraction afterPoint
 tidy-fraction f h =
     by-bool (eqb f 0) (λ (e : eqb f 0 ≡ true). rw e)
     (λ (e : eqb f 0 ≡ false). by-bool (eqb (f % 10) 0)
-    (λ (g : eqb (f % 10) 0 ≡ true). rw (e, g, digit (f / 10) (omega arith), ne-eqb (48 + f / 10) 48 (λ (z : 48 + f / 10 ≡ 48). eqb-false f 0 e (omega (arith, eqb-true (f % 10) 0 g)))))
-    (λ (g : eqb (f % 10) 0 ≡ false). rw (e, g, digit (f / 10) (omega arith), digit (f % 10) (omega arith), ne-eqb (48 + f % 10) 48 (λ (z : 48 + f % 10 ≡ 48). eqb-false (f % 10) 0 g (omega arith)))))
+    (λ (g : eqb (f % 10) 0 ≡ true). rw (e, g, digit-is (f / 10) (omega arith), ne-eqb (48 + f / 10) 48 (λ (z : 48 + f / 10 ≡ 48). eqb-false f 0 e (omega (arith, eqb-true (f % 10) 0 g)))))
+    (λ (g : eqb (f % 10) 0 ≡ false). rw (e, g, digit-is (f / 10) (omega arith), digit-is (f % 10) (omega arith), ne-eqb (48 + f % 10) 48 (λ (z : 48 + f % 10 ≡ 48). eqb-false (f % 10) 0 g (omega arith)))))
 
 -- "no trailing zeros", nor a trailing point, and "at most two decimals"
 pub num-tidy : (v : Float) → tidy (afterPoint (numText v)) ≡ true
@@ -263,7 +263,7 @@ num-tidy v =
     let f = fraction (h .size % 100) in
     let e : m ++ ds ++ f ≡ m ++ (ds ++ f) = append-assoc m ds f in
     ap (λ (l : List ℕ). tidy (afterPoint l)) e
-    ∙ ap tidy (skip-minus (h .minus) (ds ++ f) ∙ skip ds f (all (h .size / 100)))
+    ∙ ap tidy (skip-minus (h .minus) (ds ++ f) ∙ skip ds f (digits-all (h .size / 100)))
     ∙ tidy-fraction (h .size % 100) (omega arith)
 
 -- "never -0": no hundredths are `0`, whatever the sign

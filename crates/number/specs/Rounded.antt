@@ -1,10 +1,10 @@
 -- Below 10^13 the hundredths are the whole number that v · 100, rounded, is. Assumes nothing.
 use mathlib.Core.Path.{_≡_, refl, sym, ap, _∙_, subst}
-use mathlib.Core.Bool.{Bool, true, false, true≢false}
+use mathlib.Core.Bool.{Bool, true, false, not, _&&_, _||_, true≢false}
 use Prim.Native.Nat.{ℕ, zero, suc, _+_, _-_, _*_, _/_, _%_, _^_, _≤_, _<_, compare}
 use native.Mathlib.Nat.{div-lt-iff-lt-mul, mul-one, mul-le-mul-right}
 use native.Mathlib.Omega.{arith}
-use borrow.Author.Tests.{ltb-true, eqb-true}
+use borrow.Author.Tests.{ltb-true, ltb-false, lt-ltb, eqb-true, eqb-false}
 use lib.Dec.{T, eqb, ltb, lt→ltb, le→leb}
 use lib.IntN.{ℤ, pos}
 use lib.Ieee.{Float, nan, inf, fin, up, down, binary64, ofBits, ofInt, inFloat, toUnsigned}
@@ -18,7 +18,7 @@ use Rattle.laws.specs.Cases.{by-bool}
 use Rattle.float.specs.Ops.{_⊗_, lt, le}
 use Rattle.float.specs.Constants.{f100, f1e13, infinity}
 use Rattle.float.specs.Standins.{negative, abs, halfUp, round}
-use Rattle.number.specs.Number.{sizeOf}
+use Rattle.number.specs.Number.{sizeOf, writable}
 
 -- ---- the sign of a rounded number is that of the exact one, and its size is that of the exact size
 abs-units : (s : Bool) (q k : ℕ) → (abs (Ieee.units binary64 s q k) ≡ Ieee.units binary64 false q k) × (negative (Ieee.units binary64 s q k) ≡ s)
@@ -146,6 +146,22 @@ rounded (fin s m e) h =
       low = c .0;
       high = c .1;
     }
+
+-- the same of any finite number that refusal 10 lets through
+below : (x y : ℕ) → not (ltb y x || (eqb y x && true)) ≡ true → ltb x y ≡ true
+below x y h =
+    by-bool (ltb y x) (λ (e : ltb y x ≡ true). absurd (true≢false (sym h ∙ rw e)))
+    (λ (e : ltb y x ≡ false). by-bool (eqb y x) (λ (g : eqb y x ≡ true). absurd (true≢false (sym h ∙ rw (e, g))))
+    (λ (g : eqb y x ≡ false).
+    let a : x ≤ y = ltb-false y x e in
+    let b : y ≡ x → ⊥ = eqb-false y x g in
+    lt-ltb x y (omega arith)))
+
+pub writable-rounded : (v : Float) → writable v ≡ true → finite v ≡ true → Rounded v
+unfolding Ieee.lt Ieee.le Ieee.eq ofBits
+writable-rounded nan h f = absurd (true≢false (sym f))
+writable-rounded (inf s) h f = absurd (true≢false (sym f))
+writable-rounded (fin s m e) h f = rounded (fin s m e) (unfold Ieee.lt Ieee.le Ieee.eq ofBits in (below (m * up e * 1) (10 ^ 13 * down e) h))
 
 -- ---- finite, by the test against infinity
 pub finite-test : (v : Float) → lt (abs v) infinity ≡ finite v

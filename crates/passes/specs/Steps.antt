@@ -9,14 +9,15 @@ use lib.Ieee.{Float}
 use Rattle.laws.specs.Flat.{part, table}
 use Rattle.laws.specs.Loops.{up}
 use Rattle.shape.specs.declared.«V».{«V»}
-use Rattle.free.specs.Centres.{centre}
+use Rattle.shape.specs.Centres.{centre}
 use Rattle.spot.specs.declared.Turn.{Turn}
 use Rattle.records.specs.Slots.{decodeRouted}
 use Rattle.place.specs.Scene.{scene}
 use Rattle.place.specs.Turn.{placed}
 use Rattle.rim.specs.Rims.{rimAngles, allEnds}
 use Rattle.looped.specs.Looped.{Loop, loopOf, looped}
-use Rattle.routing.specs.Routing.{Size, none, isStart, turnOf}
+use Rattle.sheet.specs.Meaning.{isStart}
+use Rattle.routing.specs.Routing.{Size, none, turnOf}
 use Rattle.routing.specs.Passes.{Drawn, drawnOf}
 use Rattle.routing.specs.Turns.{withLoop, withLabel}
 

@@ -6,7 +6,7 @@ ghost use mathlib.Core.Path.{_≡_};
 ghost use Prim.Native.Nat.{_+_, _*_, _≤_, _<_};
 ghost use lib.ListN.{length, getD};
 ghost use Rattle.laws.specs.Put.{put};
-ghost use Rattle.free.specs.Centres.{centres};
+ghost use Rattle.shape.specs.Centres.{centres};
 ghost use Rattle.place.specs.Scene.{scene};
 ghost use Rattle.looped.specs.Looped.{looped};
 ghost use Rattle.routing.specs.Passes.{sizesBy};

@@ -13,7 +13,7 @@ use Rattle.label.specs.Label.{asciiWidth}
 use Rattle.shape.specs.declared.«V».{«V»}
 use Rattle.shape.specs.declared.Rect.{Rect}
 use Rattle.shape.specs.Plane.{rect, grown, overlaps, touches, boxDist}
-use Rattle.free.specs.Centres.{centres as centresOf}
+use Rattle.shape.specs.Centres.{centres as centresOf}
 use Rattle.trace.specs.Traces.{Trace, foreign, hitsRect}
 use Rattle.trace.specs.Form.{decodeRect, boundsIn, decodeTrace, decodeTraces}
 use Rattle.trace.specs.Reach.{hits-none}

@@ -16,7 +16,7 @@ ghost use Rattle.laws.specs.Flat.{part};
 ghost use Rattle.laws.specs.Put.{put};
 ghost use Rattle.float.specs.Ops.{lt};
 ghost use Rattle.shape.specs.Plane.{overlaps, vec};
-ghost use Rattle.free.specs.Centres.{centres};
+ghost use Rattle.shape.specs.Centres.{centres};
 ghost use Rattle.trace.specs.Form.{decodeRect, decodeTrace, decodeTraces};
 ghost use Rattle.spot.specs.Spots.{upper, spotCount};
 ghost use Rattle.place.specs.Scene as S;

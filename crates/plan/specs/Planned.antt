@@ -9,7 +9,8 @@ use Rattle.laws.specs.Refusals.{Refusal, refusal, decide}
 use Rattle.sheet.specs.Sheet.{Graph, meaning}
 use Rattle.sheet.specs.Refusals.{refusals}
 use Rattle.sheet.specs.declared.Limits.{Limits}
-use Rattle.layout.specs.Layout.{planOf, Layout, layoutBeyond, layoutOf}
+use Rattle.layout.specs.Layout.{planOf, Layout, lastKind, layoutOf}
+use Rattle.plan.specs.Measured.{layoutBeyond}
 use Rattle.plan.specs.declared.Planned.{Planned}
 use Rattle.plan.specs.declared.Planned.the-variants.{Size, Refused}
 
@@ -25,7 +26,7 @@ sheetRefusals m kind s = refusals m s ++ layoutRefusals kind (meaning s)
 
 -- 'layout kind not 0 Auto, 1 Layered, 2 Circular'
 abbrev pub planRefusals : Limits → ℕ → List ℕ → List Refusal
-planRefusals m kind s = refusal 11 (ltb 2 kind) ∷ sheetRefusals m kind s
+planRefusals m kind s = refusal 11 (ltb lastKind kind) ∷ sheetRefusals m kind s
 
 -- ---- the call
 

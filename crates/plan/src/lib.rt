@@ -1,5 +1,4 @@
 // A sheet checked and laid out by kind.
-use layout::Placed;
 use sheet::Checked;
 ghost use mathlib.Core.Path.{_≡_};
 ghost use Prim.Native.Nat.{_≤_};
@@ -8,6 +7,9 @@ ghost use Rattle.laws.specs.Put.{put};
 ghost use Rattle.sheet.specs.Sheet as G;
 ghost use Rattle.sheet.specs.Refusals as R;
 ghost use Rattle.sheet.specs.declared.Checked.the-variants.{Accepted};
+ghost use Rattle.layout.specs.Layout as L;
+ghost use Rattle.layout.specs.Choice as C;
+ghost use Rattle.plan.specs.Measured as M;
 ghost use Rattle.plan.specs.Planned as S;
 
 // How many states there are, width and height of the drawing; or the number of the refusal.
@@ -16,17 +18,107 @@ pub enum Planned {
     Refused(u8),
 }
 
-// Document 01's capacities.
-fn main_screen() -> sheet::Limits
-    ensures { λ r. ⌜ r ≡ R.mainScreen ⌝ }
+// ---- 9: "A layout is refused by 9 if any drawing it measures is." The slices are room for centres.
+
+// Whether the drawing in layers is refused.
+fn layers_beyond(
+    flags: &[u8],
+    sources: &[usize],
+    targets: &[usize],
+    widths: &[f64],
+    heights: &[f64],
+    px: &mut [f64],
+    py: &mut [f64],
+) -> bool
+    requires { ⌜ C.States (now flags) (now px) (now py) × C.Arrows (now sources) (now targets) (now widths) (now heights) ⌝ }
+    ensures { λ r. ⌜ r ≡ M.beyondAt (L.planBy (now (flags .entry)) (now (sources .entry)) (now (targets .entry)) (now (widths .entry)) (now (heights .entry))) (L.layers (L.planBy (now (flags .entry)) (now (sources .entry)) (now (targets .entry)) (now (widths .entry)) (now (heights .entry)))) ⌝ }
 {
-    sheet::Limits {
-        states: 64,
-        arrows: 256,
-        lines: 8,
-        bytes: 96,
+    layout::layers_at(flags, sources, targets, widths, heights, px, py);
+    beyond::beyond(flags, sources, targets, px, py)
+}
+
+// Whether the drawing on the ring is refused.
+fn ring_beyond(
+    flags: &[u8],
+    sources: &[usize],
+    targets: &[usize],
+    widths: &[f64],
+    heights: &[f64],
+    px: &mut [f64],
+    py: &mut [f64],
+) -> bool
+    requires { ⌜ C.States (now flags) (now px) (now py) × C.Arrows (now sources) (now targets) (now widths) (now heights) ⌝ }
+    ensures { λ r. ⌜ r ≡ M.beyondAt (L.planBy (now (flags .entry)) (now (sources .entry)) (now (targets .entry)) (now (widths .entry)) (now (heights .entry))) (L.ring (L.planBy (now (flags .entry)) (now (sources .entry)) (now (targets .entry)) (now (widths .entry)) (now (heights .entry)))) ⌝ }
+{
+    layout::ring_at(flags, widths, px, py);
+    beyond::beyond(flags, sources, targets, px, py)
+}
+
+// Auto measures the ring, and the layers too where it has to compare.
+fn auto_beyond(
+    flags: &[u8],
+    sources: &[usize],
+    targets: &[usize],
+    widths: &[f64],
+    heights: &[f64],
+    px: &mut [f64],
+    py: &mut [f64],
+) -> bool
+    requires { ⌜ C.States (now flags) (now px) (now py) × C.Arrows (now sources) (now targets) (now widths) (now heights) ⌝ }
+    ensures { λ r. ⌜ r ≡ M.anyBeyond (L.planBy (now (flags .entry)) (now (sources .entry)) (now (targets .entry)) (now (widths .entry)) (now (heights .entry))) (M.measured 0 (L.planBy (now (flags .entry)) (now (sources .entry)) (now (targets .entry)) (now (widths .entry)) (now (heights .entry)))) ⌝ }
+{
+    if layout::dense(flags.len(), sources.len()) {
+        return ring_beyond(flags, sources, targets, widths, heights, px, py);
+    }
+    if layers_beyond(flags, sources, targets, widths, heights, px, py) {
+        return true;
+    }
+    ring_beyond(flags, sources, targets, widths, heights, px, py)
+}
+
+// By kind.
+fn kind_beyond(
+    kind: u8,
+    flags: &[u8],
+    sources: &[usize],
+    targets: &[usize],
+    widths: &[f64],
+    heights: &[f64],
+    px: &mut [f64],
+    py: &mut [f64],
+) -> bool
+    requires { ⌜ (kind ≤ L.lastKind) × C.States (now flags) (now px) (now py) × C.Arrows (now sources) (now targets) (now widths) (now heights) ⌝ }
+    ensures { λ r. ⌜ r ≡ M.anyBeyond (L.planBy (now (flags .entry)) (now (sources .entry)) (now (targets .entry)) (now (widths .entry)) (now (heights .entry))) (M.measured kind (L.planBy (now (flags .entry)) (now (sources .entry)) (now (targets .entry)) (now (widths .entry)) (now (heights .entry)))) ⌝ }
+{
+    match kind {
+        0 => auto_beyond(flags, sources, targets, widths, heights, px, py),
+        1 => layers_beyond(flags, sources, targets, widths, heights, px, py),
+        2 => ring_beyond(flags, sources, targets, widths, heights, px, py),
+        _ => false,
     }
 }
+
+// Whether a drawing that the layout measures is refused; without states nothing is drawn. Nothing is said of the room for centres afterwards.
+pub fn layout_beyond(
+    kind: u8,
+    flags: &[u8],
+    sources: &[usize],
+    targets: &[usize],
+    widths: &[f64],
+    heights: &[f64],
+    px: &mut [f64],
+    py: &mut [f64],
+) -> bool
+    requires { ⌜ (kind ≤ L.lastKind) × (length (now flags) ≤ 64) × (length (now px) ≡ length (now flags)) × (length (now py) ≡ length (now flags)) × (length (now sources) ≤ 256) × (length (now targets) ≡ length (now sources)) × (length (now widths) ≡ length (now sources)) × (length (now heights) ≡ length (now sources)) ⌝ }
+    ensures { λ r. ⌜ r ≡ M.layoutBeyond kind (L.planBy (now (flags .entry)) (now (sources .entry)) (now (targets .entry)) (now (widths .entry)) (now (heights .entry))) ⌝ }
+{
+    if flags.len() == 0 {
+        return false;
+    }
+    kind_beyond(kind, flags, sources, targets, widths, heights, px, py)
+}
+
+// ---- the call
 
 // Puts `from` at the front of `to`.
 fn copy(from: &[f64], to: &mut [f64])
@@ -54,24 +146,24 @@ fn plan_read(
     xs: &mut [f64],
     ys: &mut [f64],
 ) -> Planned
-    requires { ⌜ (kind ≤ 2) × (length (now flags) ≡ length (G.statesOf (now s))) × (length (now px) ≡ length (G.statesOf (now s))) × (length (now py) ≡ length (G.statesOf (now s))) × (length (G.statesOf (now s)) ≤ 64) × (64 ≤ length (now xs)) × (64 ≤ length (now ys)) ⌝ }
+    requires { ⌜ (kind ≤ L.lastKind) × (length (now flags) ≡ length (G.statesOf (now s))) × (length (now px) ≡ length (G.statesOf (now s))) × (length (now py) ≡ length (G.statesOf (now s))) × (length (G.statesOf (now s)) ≤ 64) × (64 ≤ length (now xs)) × (64 ≤ length (now ys)) ⌝ }
     requires { ⌜ (length (now sources) ≡ length (G.arrowsOf (now s))) × (length (now targets) ≡ length (G.arrowsOf (now s))) ⌝ }
     requires { ⌜ (length (now widths) ≡ length (G.arrowsOf (now s))) × (length (now heights) ≡ length (G.arrowsOf (now s))) × (length (G.arrowsOf (now s)) ≤ 256) ⌝ }
     ensures { λ r. ⌜ (r ≡ S.answerBy (S.layoutRefusals kind (G.meaning (now (s .entry)))) kind (G.meaning (now (s .entry)))) × (now (xs .exit) ≡ S.xsBy (S.layoutRefusals kind (G.meaning (now (s .entry)))) kind (G.meaning (now (s .entry))) (now (xs .entry))) × (now (ys .exit) ≡ S.ysBy (S.layoutRefusals kind (G.meaning (now (s .entry)))) kind (G.meaning (now (s .entry))) (now (ys .entry))) ⌝ }
 {
     graph::read(s, flags, sources, targets, widths, heights);
-    let a = layout::layout(kind, flags, sources, targets, widths, heights, px, py);
-    let Placed::Size(width, height) = a else {
+    if layout_beyond(kind, flags, sources, targets, widths, heights, px, py) {
         return Planned::Refused(9);
-    };
+    }
+    let size = layout::layout(kind, flags, sources, targets, widths, heights, px, py);
     copy(px, xs);
     copy(py, ys);
-    Planned::Size(flags.len(), width, height)
+    Planned::Size(flags.len(), size.width, size.height)
 }
 
 // Lays out an accepted sheet of n states and m arrows.
 fn plan_sized(s: &[u8], kind: u8, n: usize, m: usize, xs: &mut [f64], ys: &mut [f64]) -> Planned
-    requires { ⌜ (kind ≤ 2) × (n ≡ length (G.statesOf (now s))) × (n ≤ 64) × (m ≡ length (G.arrowsOf (now s))) × (m ≤ 256) × (64 ≤ length (now xs)) × (64 ≤ length (now ys)) ⌝ }
+    requires { ⌜ (kind ≤ L.lastKind) × (n ≡ length (G.statesOf (now s))) × (n ≤ 64) × (m ≡ length (G.arrowsOf (now s))) × (m ≤ 256) × (64 ≤ length (now xs)) × (64 ≤ length (now ys)) ⌝ }
     ensures { λ r. ⌜ (r ≡ S.answerBy (S.layoutRefusals kind (G.meaning (now (s .entry)))) kind (G.meaning (now (s .entry)))) × (now (xs .exit) ≡ S.xsBy (S.layoutRefusals kind (G.meaning (now (s .entry)))) kind (G.meaning (now (s .entry))) (now (xs .entry))) × (now (ys .exit) ≡ S.ysBy (S.layoutRefusals kind (G.meaning (now (s .entry)))) kind (G.meaning (now (s .entry))) (now (ys .entry))) ⌝ }
 {
     let mut flags = [0u8; 64];
@@ -98,7 +190,7 @@ fn plan_sized(s: &[u8], kind: u8, n: usize, m: usize, xs: &mut [f64], ys: &mut [
 
 // Lays out an accepted sheet.
 fn plan_accepted(s: &[u8], kind: u8, xs: &mut [f64], ys: &mut [f64]) -> Planned
-    requires { ⌜ (R.checkOf R.mainScreen (now s) ≡ Accepted) × (kind ≤ 2) × (64 ≤ length (now xs)) × (64 ≤ length (now ys)) ⌝ }
+    requires { ⌜ (R.checkOf R.mainScreen (now s) ≡ Accepted) × (kind ≤ L.lastKind) × (64 ≤ length (now xs)) × (64 ≤ length (now ys)) ⌝ }
     ensures { λ r. ⌜ (r ≡ S.answerBy (S.layoutRefusals kind (G.meaning (now (s .entry)))) kind (G.meaning (now (s .entry)))) × (now (xs .exit) ≡ S.xsBy (S.layoutRefusals kind (G.meaning (now (s .entry)))) kind (G.meaning (now (s .entry))) (now (xs .entry))) × (now (ys .exit) ≡ S.ysBy (S.layoutRefusals kind (G.meaning (now (s .entry)))) kind (G.meaning (now (s .entry))) (now (ys .entry))) ⌝ }
 {
     let n = meaning::state_count(s);
@@ -111,10 +203,10 @@ pub fn plan(s: &[u8], kind: u8, xs: &mut [f64], ys: &mut [f64]) -> Planned
     requires { ⌜ (64 ≤ length (now xs)) × (64 ≤ length (now ys)) ⌝ }
     ensures { λ r. ⌜ (r ≡ S.planned R.mainScreen kind (now (s .entry))) × (now (xs .exit) ≡ S.xsAfter R.mainScreen kind (now (s .entry)) (now (xs .entry))) × (now (ys .exit) ≡ S.ysAfter R.mainScreen kind (now (s .entry)) (now (ys .entry))) ⌝ }
 {
-    if 2 < kind {
+    if layout::LAST_KIND < kind {
         return Planned::Refused(11);
     }
-    let c = walk::check_within(s, main_screen());
+    let c = walk::check_within(s, sheet::main_screen());
     match c {
         Checked::Refused(n) => Planned::Refused(n),
         Checked::Accepted => plan_accepted(s, kind, xs, ys),

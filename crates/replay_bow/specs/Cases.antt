@@ -6,17 +6,15 @@ use lib.Dec.{eqb, ltb, leb}
 use lib.ListN.{length}
 use lib.Ieee.{Float}
 use Rattle.shape.specs.declared.«V».{«V»}
-use Rattle.free.specs.Centres.{centres, chord}
+use Rattle.shape.specs.Centres.{centres}
+use Rattle.free.specs.Chords.{chord}
 use Rattle.free.specs.Free.{spans, firstFree}
 use Rattle.bow.specs.Bend.{bend}
 use Rattle.bow.specs.Between.{between}
-use Rattle.bow.specs.declared.Bent.{Bent}
-use Rattle.bow.specs.declared.Bent.the-variants as B
 use Rattle.bow.specs.declared.Shape.{Shape}
 use Rattle.bow.specs.declared.Shape.the-variants.{Line, Arc, Loop}
 use Rattle.bow.specs.declared.Routed.{Routed}
-use Rattle.bow.specs.declared.Joined.{Joined}
-use Rattle.bow.specs.declared.Joined.the-variants as J
+use Rattle.beyond.specs.Beyond.{pairBeyond}
 use Rattle.replay.specs.Payload.{after, byteAt, floatAt, floatsAt, sameFloat, answered, row, chosen}
 use Rattle.replay_shape.specs.Shapes.{sameCurve}
 
@@ -26,12 +24,7 @@ use Rattle.replay_shape.specs.Shapes.{sameCurve}
 unfoldable pub withFloat : List ℕ → ℕ → ℕ → Float → Bool
 withFloat p at b v = eqb (byteAt p at) b && sameFloat p (after at 1) v
 
--- of `bend`: a byte, 0 or 9, and the bow
-abbrev pub bowIs : List ℕ → ℕ → Bent → Bool
-bowIs p at (B.Offset h) = withFloat p at 0 h
-bowIs p at B.Beyond = eqb (byteAt p at) 9
-
--- of `between`: a byte, 0 or 9, the curve, the tip's angle, and the shape
+-- of `between`: a byte, 0, the curve, the tip's angle, and the shape
 unfoldable pub shapeIs : List ℕ → ℕ → Shape → Bool
 shapeIs p at Line = eqb (byteAt p at) 0
 shapeIs p at (Arc outer) = withFloat p at 1 outer
@@ -44,20 +37,23 @@ arrowIs p at r =
     && (sameFloat p (after at 66) (r .«tip_angle»)
     && shapeIs p (after at 74) (r .shape)))
 
-abbrev pub joinedIs : List ℕ → ℕ → Joined → Bool
-joinedIs p at (J.Arrow r) = arrowIs p at r
-joinedIs p at J.Beyond = eqb (byteAt p at) 9
-
 -- ---- bend and between: the number of centres, the two ends and whether the reverse arrow is there, a byte each; the xs, the ys; and the answer
 
 abbrev pub bothWays : List ℕ → Bool
 bothWays p = eqb (byteAt p 3) 1
 
+-- "a two-way pair whose first free bow exceeds 10^9": a byte, 9, in place of an answer
+unfoldable pub refused : List ℕ → List «V» → ℕ → ℕ → Bool
+refused p cs from to = bothWays p && pairBeyond (chord cs from to) cs
+
+-- of `bend`: a byte, 0, and the bow
 unfoldable pub bentAgrees : List ℕ → ℕ → List «V» → ℕ → ℕ → Bool
-bentAgrees p at cs from to = eqb (length p) (at + 9) && bowIs p at (bend (chord cs from to) cs (bothWays p))
+bentAgrees p at cs from to =
+    eqb (length p) (at + 9) && cond (refused p cs from to) (eqb (byteAt p at) 9) (withFloat p at 0 (bend (chord cs from to) cs (bothWays p)))
 
 unfoldable pub joinedAgrees : List ℕ → ℕ → List «V» → ℕ → ℕ → Bool
-joinedAgrees p at cs from to = eqb (length p) (at + 83) && joinedIs p at (between cs from to (bothWays p))
+joinedAgrees p at cs from to =
+    eqb (length p) (at + 83) && cond (refused p cs from to) (eqb (byteAt p at) 9) (arrowIs p at (between cs from to (bothWays p)))
 
 unfoldable pub tried : Bool → List ℕ → List Float → List Float → Bool
 tried joined p xs ys =

@@ -4,10 +4,8 @@
 ghost use mathlib.Core.Path.{_≡_};
 ghost use Prim.Native.Nat.{_<_, _≤_};
 ghost use lib.ListN.{length};
-ghost use Rattle.free.specs.Centres.{centres};
+ghost use Rattle.shape.specs.Centres.{centres};
 ghost use Rattle.replay_bow.specs.Cases as S;
-use bow::Bent;
-use bow::Joined;
 use bow::Routed;
 use bow::Shape;
 use replay::after;
@@ -31,16 +29,6 @@ fn with_float(p: &[u8], at: usize, b: u8, v: f64) -> bool
     same_float(p, after(at, 1), v)
 }
 
-// The answer of `bend`: a byte, 0 or 9, and the bow.
-fn bow_is(p: &[u8], at: usize, b: Bent) -> bool
-    ensures { λ r. ⌜ r ≡ S.bowIs (now (p .entry)) at b ⌝ }
-{
-    match b {
-        Bent::Offset(h) => with_float(p, at, 0, h),
-        Bent::Beyond => byte(p, at) == 9,
-    }
-}
-
 fn shape_is(p: &[u8], at: usize, s: Shape) -> bool
     ensures { λ r. ⌜ r ≡ S.shapeIs (now (p .entry)) at s ⌝ }
 {
@@ -51,6 +39,7 @@ fn shape_is(p: &[u8], at: usize, s: Shape) -> bool
     }
 }
 
+// The answer of `between`: a byte, 0, the curve, the tip's angle, and the shape.
 fn arrow_is(p: &[u8], at: usize, r: Routed) -> bool
     ensures { λ b. ⌜ b ≡ S.arrowIs (now (p .entry)) at r ⌝ }
 {
@@ -68,22 +57,23 @@ fn arrow_is(p: &[u8], at: usize, r: Routed) -> bool
     shape_is(p, after(at, 74), shape)
 }
 
-// The answer of `between`: a byte, 0 or 9, the curve, the tip's angle, and the shape.
-fn joined_is(p: &[u8], at: usize, j: Joined) -> bool
-    ensures { λ r. ⌜ r ≡ S.joinedIs (now (p .entry)) at j ⌝ }
-{
-    match j {
-        Joined::Arrow(r) => arrow_is(p, at, r),
-        Joined::Beyond => byte(p, at) == 9,
-    }
-}
-
 // ---- bend and between
 
 fn both_ways(p: &[u8]) -> bool
     ensures { λ r. ⌜ r ≡ S.bothWays (now (p .entry)) ⌝ }
 {
     byte(p, 3) == 1
+}
+
+// Whether 9 is answered in place of a bow.
+fn refused(p: &[u8], xs: &[f64], ys: &[f64], from: usize, to: usize) -> bool
+    requires { ⌜ (length (now ys) ≡ length (now xs)) × (length (now xs) ≤ 64) × (from < length (now xs)) × (to < length (now xs)) ⌝ }
+    ensures { λ r. ⌜ r ≡ S.refused (now (p .entry)) (centres (now (xs .entry)) (now (ys .entry))) from to ⌝ }
+{
+    if both_ways(p) {
+        return beyond::pair_beyond(xs, ys, free::chord_of(xs, ys, from, to));
+    }
+    false
 }
 
 fn bent_agrees(p: &[u8], at: usize, xs: &[f64], ys: &[f64], from: usize, to: usize) -> bool
@@ -93,8 +83,11 @@ fn bent_agrees(p: &[u8], at: usize, xs: &[f64], ys: &[f64], from: usize, to: usi
     if p.len() != at + 9 {
         return false;
     }
+    if refused(p, xs, ys, from, to) {
+        return byte(p, at) == 9;
+    }
     let c = free::chord_of(xs, ys, from, to);
-    bow_is(p, at, bow::bend(xs, ys, c, both_ways(p)))
+    with_float(p, at, 0, bow::bend(xs, ys, c, both_ways(p)))
 }
 
 fn joined_agrees(p: &[u8], at: usize, xs: &[f64], ys: &[f64], from: usize, to: usize) -> bool
@@ -104,7 +97,10 @@ fn joined_agrees(p: &[u8], at: usize, xs: &[f64], ys: &[f64], from: usize, to: u
     if p.len() != at + 83 {
         return false;
     }
-    joined_is(p, at, bow::between(xs, ys, from, to, both_ways(p)))
+    if refused(p, xs, ys, from, to) {
+        return byte(p, at) == 9;
+    }
+    arrow_is(p, at, bow::between(xs, ys, from, to, both_ways(p)))
 }
 
 // The case at these centres; its ends are tested here.

@@ -7,10 +7,13 @@ use Prim.Native.Nat.{ℕ, _+_, _*_, _≤_, _<_}
 use lib.Dec.{eqb, leb, ltb}
 use lib.ListN.{length}
 use lib.Ieee.{Float}
-use Rattle.layout.specs.Layout.{Plan, planBy, Layout, layoutOf, layoutBeyond}
+use Rattle.layout.specs.Layout.{Plan, planBy, Layout, lastKind, layoutOf}
+use Rattle.plan.specs.Measured.{layoutBeyond}
 use Rattle.replay.specs.Payload.{after, byteAt, sameFloat}
 use Rattle.replay_route.specs.Graphs.{states, arrows, flags, sources, targets, widths, heights, behind}
 use Rattle.replay_route.specs.Cases.{refused, numbersAre}
+use Rattle.replay_layout.specs.declared.Placed.{Placed}
+use Rattle.replay_layout.specs.declared.Placed.the-variants as Placed
 
 unfoldable pub plan : List ℕ → Plan
 plan p = planBy (flags p) (sources p) (targets p) (widths p) (heights p)
@@ -18,15 +21,19 @@ plan p = planBy (flags p) (sources p) (targets p) (widths p) (heights p)
 abbrev pub kind : List ℕ → ℕ
 kind p = byteAt p (behind p)
 
--- no case has more than 64 states or 256 arrows, another kind than 0 to 2, or is shorter than its arguments
+-- no case has more than 64 states or 256 arrows, a kind above the last, or is shorter than its arguments
 unfoldable pub sound : List ℕ → Bool
-sound p = leb (states p) 64 && (leb (arrows p) 256 && (leb (kind p) 2 && ltb (behind p) (length p)))
+sound p = leb (states p) 64 && (leb (arrows p) 256 && (leb (kind p) lastKind && ltb (behind p) (length p)))
 
 pub record Sound (p : List ℕ) : Type 0 where
   pub few-states : states p ≤ 64
   pub few-arrows : arrows p ≤ 256
-  pub known : kind p ≤ 2
+  pub known : kind p ≤ lastKind
   pub whole : behind p < length p
+
+-- width and height, or Beyond for 9
+abbrev pub placed : ℕ → Plan → Placed
+placed kind p = cond (layoutBeyond kind p) Placed.Beyond (Placed.Size (layoutOf kind p .width) (layoutOf kind p .height))
 
 -- what a layout that is not refused leaves in the slices lent for the centres
 pub record Leaves (p : List ℕ) (xs ys : List Float) : Type 0 where

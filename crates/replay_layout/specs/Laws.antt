@@ -10,13 +10,16 @@ use lib.Dec.{eqb, leb, ltb}
 use lib.ListN.{length, getD, take, drop, drop-of-length-le}
 use lib.Seq.{drop-cons}
 use lib.Ieee.{Float, nan}
-use Rattle.layout.specs.Layout.{Plan, planBy, layoutOf, layoutBeyond, placed}
-use Rattle.layout.specs.declared.Placed.{Placed}
-use Rattle.layout.specs.declared.Placed.the-variants as Placed
+use Rattle.layout.specs.Layout.{Plan, planBy, lastKind, layoutOf}
+use Rattle.fit.specs.declared.Size.{Size}
+use Rattle.layout.specs.Choice.{Left}
+use Rattle.plan.specs.Measured.{layoutBeyond}
+use Rattle.replay_layout.specs.declared.Placed.{Placed}
+use Rattle.replay_layout.specs.declared.Placed.the-variants as Placed
 use Rattle.replay.specs.Payload.{after, byteAt, floatsAt, sameFloat}
 use Rattle.replay_route.specs.Graphs.{states, arrows, flags, sources, targets, widths, heights, behind, wordsAt}
 use Rattle.replay_route.specs.Cases.{refused}
-use Rattle.replay_layout.specs.Cases.{plan, kind, sound, Sound, Leaves, floatsAre, layoutIs, laidOut}
+use Rattle.replay_layout.specs.Cases.{plan, kind, sound, Sound, placed, Leaves, floatsAre, layoutIs, laidOut}
 
 -- ---- a sound case
 
@@ -29,7 +32,7 @@ unfolding sound
 sound-is p e =
     let a = both (leb (states p) 64) _ e in
     let b = both (leb (arrows p) 256) _ (a .1) in
-    let c = both (leb (kind p) 2) _ (b .1) in
+    let c = both (leb (kind p) lastKind) _ (b .1) in
     record { few-states = leb-true _ _ (a .0); few-arrows = leb-true _ _ (b .0); known = leb-true _ _ (c .0); whole = ltb-true _ _ (c .1) }
 
 pub first-inside : (p : List ℕ) → Sound p → 4 + states p ≤ length p
@@ -50,6 +53,16 @@ pub laid-is : (p fl so ta : List ℕ) (wi he xs ys : List Float) (n m k : ℕ) (
 laid-is p fl so ta wi he xs ys n m k a e₁ e₂ e₀ e₃ e₄ e₅ e₆ e₇ u v =
     let g = plan-is p fl so ta wi he n m e₁ e₂ e₃ e₄ e₅ e₆ e₇ in
     (rw (← g, ← e₀) u, record { placing = rw (← g, ← e₀) v })
+
+-- 9 is decided before anything is laid out
+module _ (k : ℕ) (q : Plan) (xs ys : List Float) where
+  pub in-beyond : layoutBeyond k q ≡ true
+      → (Placed.Beyond ≡ placed k q) × (layoutBeyond k q ≡ false → (xs ≡ layoutOf k q .xs) × (ys ≡ layoutOf k q .ys))
+  in-beyond t = (rw t refl, λ f. absurd (true≢false (sym t ∙ f)))
+
+  pub in-laid : (s : Size) → layoutBeyond k q ≡ false → Left (layoutOf k q) s xs ys
+      → (Placed.Size (s .width) (s .height) ≡ placed k q) × (layoutBeyond k q ≡ false → (xs ≡ layoutOf k q .xs) × (ys ≡ layoutOf k q .ys))
+  in-laid s t l = (rw t (ap₂ Placed.Size (l .width) (l .height)), λ f. (l .xs-are, l .ys-are))
 
 placed-by : (b : Bool) (w h w′ h′ : Float) → cond b Placed.Beyond (Placed.Size w h) ≡ Placed.Size w′ h′ → (b ≡ false) × (w′ ≡ w) × (h′ ≡ h)
 placed-by true w h w′ h′ e = absurd (never e)
@@ -95,7 +108,7 @@ module _ (p : List ℕ) (l : List Float) where
   unfolding floatsAre
   floats-end at k h = rw (drop-of-length-le l h)
 
-pub kind-known : (p : List ℕ) (at k : ℕ) → Sound p → at ≡ behind p → k ≡ byteAt p at → k ≤ 2
+pub kind-known : (p : List ℕ) (at k : ℕ) → Sound p → at ≡ behind p → k ≡ byteAt p at → k ≤ lastKind
 kind-known p at k s e₁ e₂ = let e : k ≡ kind p = e₂ ∙ ap (byteAt p) e₁ in omega (arith, s .known)
 
 pub few-of : (p : List ℕ) → sound p ≡ true → states p ≤ 64

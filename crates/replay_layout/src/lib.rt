@@ -4,10 +4,10 @@ ghost use mathlib.Core.Path.{_≡_};
 ghost use mathlib.Core.Bool.{false};
 ghost use Prim.Native.Nat.{_<_, _≤_};
 ghost use lib.ListN.{length};
-ghost use Rattle.layout.specs.Layout.{placed, layoutBeyond, layoutOf};
+ghost use Rattle.layout.specs.Layout.{planBy, lastKind, layoutOf};
+ghost use Rattle.plan.specs.Measured.{layoutBeyond};
 ghost use Rattle.replay_route.specs.Graphs.{states};
 ghost use Rattle.replay_layout.specs.Cases as S;
-use layout::Placed;
 use replay::after;
 use replay::byte;
 use replay::fill;
@@ -19,7 +19,13 @@ use replay_route::fill_words;
 use replay_route::numbers_are;
 use replay_route::refused;
 
-// No case has more than 64 states or 256 arrows, another kind than 0 to 2, or is shorter than its
+// Width and height of the drawing, or 9 refuses the layout.
+enum Placed {
+    Size(f64, f64),
+    Beyond,
+}
+
+// No case has more than 64 states or 256 arrows, a kind above the last, or is shorter than its
 // arguments.
 fn sound(p: &[u8]) -> bool
     ensures { λ r. ⌜ r ≡ S.sound (now (p .entry)) ⌝ }
@@ -31,16 +37,38 @@ fn sound(p: &[u8]) -> bool
     if place(p, 2) > 256 {
         return false;
     }
-    if byte(p, at) > 2 {
+    if byte(p, at) > layout::LAST_KIND {
         return false;
     }
     at < p.len()
 }
 
+// Lays a graph out, unless 9 refuses it.
+fn laid_in(
+    kind: u8,
+    flags: &[u8],
+    sources: &[usize],
+    targets: &[usize],
+    widths: &[f64],
+    heights: &[f64],
+    xs: &mut [f64],
+    ys: &mut [f64],
+) -> Placed
+    requires { ⌜ (kind ≤ lastKind) × (length (now flags) ≤ 64) × (length (now xs) ≡ length (now flags)) × (length (now ys) ≡ length (now flags)) × (length (now sources) ≤ 256) × (length (now targets) ≡ length (now sources)) × (length (now widths) ≡ length (now sources)) × (length (now heights) ≡ length (now sources)) ⌝ }
+    ensures { λ r. ⌜ r ≡ S.placed kind (planBy (now (flags .entry)) (now (sources .entry)) (now (targets .entry)) (now (widths .entry)) (now (heights .entry))) ⌝ }
+    ensures { λ _. ⌜ (layoutBeyond kind (planBy (now (flags .entry)) (now (sources .entry)) (now (targets .entry)) (now (widths .entry)) (now (heights .entry))) ≡ false → (now (xs .exit) ≡ layoutOf kind (planBy (now (flags .entry)) (now (sources .entry)) (now (targets .entry)) (now (widths .entry)) (now (heights .entry))) .xs) × (now (ys .exit) ≡ layoutOf kind (planBy (now (flags .entry)) (now (sources .entry)) (now (targets .entry)) (now (widths .entry)) (now (heights .entry))) .ys)) ⌝ }
+{
+    if plan::layout_beyond(kind, flags, sources, targets, widths, heights, xs, ys) {
+        return Placed::Beyond;
+    }
+    let size = layout::layout(kind, flags, sources, targets, widths, heights, xs, ys);
+    Placed::Size(size.width, size.height)
+}
+
 // Lays the case's graph out.
 fn laid(p: &[u8], xs: &mut [f64], ys: &mut [f64]) -> Placed
     requires { ⌜ S.Sound (now p) × (length (now xs) ≡ states (now p)) × (length (now ys) ≡ states (now p)) ⌝ }
-    ensures { λ r. ⌜ r ≡ placed (S.kind (now (p .entry))) (S.plan (now (p .entry))) ⌝ }
+    ensures { λ r. ⌜ r ≡ S.placed (S.kind (now (p .entry))) (S.plan (now (p .entry))) ⌝ }
     ensures { λ _. ⌜ S.Leaves (now (p .entry)) (now (xs .exit)) (now (ys .exit)) ⌝ }
 {
     let n = low(byte(p, 1));
@@ -55,7 +83,7 @@ fn laid(p: &[u8], xs: &mut [f64], ys: &mut [f64]) -> Placed
     fill_words(p, first + 2 * m, &mut targets);
     fill(p, first + 4 * m, &mut widths);
     fill(p, first + 12 * m, &mut heights);
-    layout::layout(
+    laid_in(
         kind,
         &p[4..first],
         &sources[..m],

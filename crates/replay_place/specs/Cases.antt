@@ -9,7 +9,7 @@ use Rattle.float.specs.Ops.{eq}
 use Rattle.float.specs.Constants.{f0}
 use Rattle.shape.specs.declared.Rect.{Rect}
 use Rattle.shape.specs.declared.Curve.{Curve}
-use Rattle.free.specs.Centres.{centres}
+use Rattle.shape.specs.Centres.{centres}
 use Rattle.trace.specs.Traces.{Trace, traceOf, ownerOf}
 use Rattle.bow.specs.declared.Shape.{Shape}
 use Rattle.bow.specs.declared.Shape.the-variants.{Line, Arc}

@@ -6,7 +6,8 @@ use lib.Dec.{eqb}
 use lib.ListN.{length}
 use lib.Ieee.{Float}
 use Rattle.records.specs.Records.{fields}
-use Rattle.routing.specs.Routing.{beyond, records}
+use Rattle.routing.specs.Routing.{records}
+use Rattle.beyond.specs.Beyond.{beyond}
 use Rattle.clutter.specs.Clutter.{clutterOf}
 use Rattle.replay.specs.Payload.{after, byteAt, longAt, sameFloat, row, chosen}
 use Rattle.replay_route.specs.Graphs.{frame, sizes, end, sound}

@@ -19,15 +19,18 @@ use Rattle.shape.specs.declared.«V».{«V»}
 use Rattle.spot.specs.declared.Geometry.{Geometry}
 use Rattle.records.specs.Records.{fields, decodeRecords}
 use Rattle.records.specs.Back.{Small, length-records}
-use Rattle.free.specs.Centres.{centres}
-use Rattle.routing.specs.Routing.{Frame, Size, beyond, records}
+use Rattle.shape.specs.Centres.{centres}
+use Rattle.routing.specs.Routing.{Frame, Size, records}
 use Rattle.routing.specs.Passes.{endsBy, sizesBy}
 use Rattle.routing.specs.Sheets.{orZero, centreAt}
 use Rattle.routing.specs.Frames.{orZeros, centres-table}
 use Rattle.routing.specs.Decoded.{records-most, records-small, records-decoded}
-use Rattle.route.specs.Geometry.{answer, numbers, frameAt}
-use Rattle.route.specs.declared.Answer.{Answer}
-use Rattle.route.specs.declared.Answer.the-variants as Answer
+use Rattle.route.specs.Geometry.{frameAt}
+use Rattle.route.specs.Geometry as Geometry
+use Rattle.beyond.specs.Beyond.{beyond}
+use Rattle.replay_route.specs.declared.Answer.{Answer}
+use Rattle.replay_route.specs.declared.Answer.the-variants as Answer
+use Rattle.replay_route.specs.Answers.{answer, numbers}
 use Rattle.clutter.specs.Clutter.{clutterOf}
 use Rattle.replay.specs.Payload.{after, byteAt, wordAt, floatAt, floatsAt, sameFloat}
 use Rattle.replay.specs.Laws.{each-first, each-length}
@@ -71,6 +74,17 @@ answer-not false n e = absurd (never e)
 pub answer-beyond : (f : Frame) (s : List Size) (a : Answer) → a ≡ answer f s → a ≡ Answer.Beyond → beyond f ≡ true
 answer-beyond f s a e g = answer-not (beyond f) (length (records f s)) (sym e ∙ g)
 
+-- 9 is decided before anything is drawn
+pub case-beyond : (f g : Frame) (s : List Size) (l : List Float) → f ≡ g → beyond f ≡ true → (Answer.Beyond ≡ answer g s) × (l ≡ put l 0 (numbers g s))
+unfolding put
+case-beyond f g s l e b = let t : beyond g ≡ true = ap beyond (sym e) ∙ b in rw t (refl, refl)
+
+pub case-drawn : (f g : Frame) (s : List Size) (k : ℕ) (l out : List Float) → f ≡ g → beyond f ≡ false → k ≡ Geometry.count f s → out ≡ put l 0 (Geometry.numbers f s)
+    → (Answer.Drawn k ≡ answer g s) × (out ≡ put l 0 (numbers g s))
+case-drawn f g s k l out e b n o =
+    let t : beyond g ≡ false = ap beyond (sym e) ∙ b in
+    rw t (ap Answer.Drawn (n ∙ ap (λ (h : Frame). Geometry.count h s) e), o ∙ ap (λ (h : Frame). put l 0 (Geometry.numbers h s)) e)
+
 -- ---- the records of a case
 
 few : (p : List ℕ) → Sound p → length (frame p .arrows) ≤ 256
@@ -78,7 +92,7 @@ unfolding frame sources targets
 few p s = omega (arith, zip-length endsBy (sources p) (targets p) (each-length 2 (wordAt p) _ (arrows p) ∙ sym (each-length 2 (wordAt p) _ (arrows p))), each-length 2 (wordAt p) (4 + states p) (arrows p), s .few-arrows)
 
 pub drawn-most : (p : List ℕ) (k : ℕ) → Sound p → beyond (frame p) ≡ false → k ≡ length (records (frame p) (sizes p)) → k ≤ 256
-drawn-most p k s b e = omega (arith, records-most (frame p) (sizes p) b, few p s)
+drawn-most p k s b e = omega (arith, records-most (frame p) (sizes p), few p s)
 
 -- the numbers that the records left at the front of a slice
 pub drawn-numbers : (p : List ℕ) (l out : List Float) (k : ℕ) → Sound p → 5120 ≤ length l → beyond (frame p) ≡ false → k ≡ length (records (frame p) (sizes p)) → out ≡ put l 0 (numbers (frame p) (sizes p)) → take (20 * k) out ≡ flatMap fields (records (frame p) (sizes p))

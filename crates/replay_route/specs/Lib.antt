@@ -1,3 +1,4 @@
+pub mod Answers
 pub mod Graphs
 pub mod Cases
 pub mod Laws

@@ -11,8 +11,9 @@ ghost use Rattle.records.specs.Records.{decodeRecords};
 ghost use Rattle.records.specs.Back.{Small};
 ghost use Rattle.routing.specs.Passes.{sizesBy};
 ghost use Rattle.routing.specs.Frames.{orZeros};
-ghost use Rattle.route.specs.Geometry.{answer, numbers, frameAt};
-ghost use Rattle.free.specs.Centres.{centres};
+ghost use Rattle.route.specs.Geometry.{frameAt};
+ghost use Rattle.replay_route.specs.Answers.{answer, numbers};
+ghost use Rattle.shape.specs.Centres.{centres};
 ghost use Rattle.clutter.specs.Clutter.{clutterOf};
 ghost use Rattle.replay_route.specs.Graphs as G;
 ghost use Rattle.replay_route.specs.Cases as S;
@@ -23,7 +24,12 @@ use replay::long;
 use replay::low;
 use replay::place;
 use replay::same_float;
-use route::Answer;
+
+// How many records a drawing has, or 9 refuses it.
+pub enum Answer {
+    Drawn(usize),
+    Beyond,
+}
 
 // ---- the graph and the centres
 
@@ -95,7 +101,10 @@ fn at_centres(
     let mut ys = [0.0f64; 64];
     fill(p, at + 2, &mut xs);
     fill(p, at + 2 + 8 * nx, &mut ys);
-    route::geometry(
+    if beyond::beyond(flags, sources, targets, &xs[..nx], &ys[..ny]) {
+        return Answer::Beyond;
+    }
+    Answer::Drawn(route::geometry(
         flags,
         sources,
         targets,
@@ -104,7 +113,7 @@ fn at_centres(
         &xs[..nx],
         &ys[..ny],
         records,
-    )
+    ))
 }
 
 // Draws the case.

@@ -2,7 +2,7 @@
 use mathlib.Core.Bool.{Bool, cond, not, _&&_}
 use mathlib.Core.List.{List, [], _∷_, _++_, flatMap}
 use Prim.Native.Nat.{ℕ}
-use lib.Dec.{ltb, eqb}
+use lib.Dec.{eqb}
 use lib.ListN.{length, getD}
 use lib.Ieee.{Float, nan}
 use Rattle.laws.specs.Filter.{filter}
@@ -12,6 +12,7 @@ use Rattle.shape.specs.declared.«V».{«V»}
 use Rattle.shape.specs.declared.Curve.{Curve}
 use Rattle.shape.specs.Curves.{start, end}
 use Rattle.shape.specs.Plane.{sub, angle}
+use Rattle.sheet.specs.Meaning.{endsBelow}
 
 -- the angle at which a curve leaves the state with centre c, or reaches it
 abbrev pub leaveAngle : Curve → «V» → Float
@@ -29,7 +30,7 @@ pub record Ends : Type 0 where
 
 -- an arrow between two different states of n; others meet no rim: a loop is drawn later, an arrow with an end not below n is left out
 abbrev pub apart : ℕ → ℕ → ℕ → Bool
-apart n a b = ltb a n && ltb b n && not (eqb a b)
+apart n a b = endsBelow n a b && not (eqb a b)
 
 abbrev pub joins : ℕ → Ends → Bool
 joins n e = apart n (e .source) (e .target)

@@ -1,30 +1,16 @@
--- A turn of the search for the start state, and its ends; a list filled place by place; one state, and more. Assumes nothing.
+-- A list filled place by place; one state, and more. Assumes nothing.
 use mathlib.Core.Path.{_≡_, refl, sym, ap, ap₂, _∙_}
-use mathlib.Core.Bool.{true, false}
 use mathlib.Core.List.{List, [], _∷_, _++_}
-use Prim.Native.Nat.{ℕ, _+_, _≤_, _<_}
+use Prim.Native.Nat.{ℕ, _+_, _<_}
 use native.Mathlib.Numerals.{add-one}
 use native.Mathlib.Omega.{arith}
 use borrow.Author.Tests.{ne-eqb}
-use lib.ListN.{length, getD, take, drop, set, drop-of-length-le}
-use lib.Seq.{take-suc-set, take-all, drop-cons}
+use lib.ListN.{length, take, set}
+use lib.Seq.{take-suc-set, take-all}
 use lib.Ieee.{Float}
 use Rattle.laws.specs.Flat.{table, table-more}
 use Rattle.float.specs.Constants.{f0}
-use Rattle.ring.specs.Ring.{isStart, startFrom, radius, around, ringed}
-
-module _ (l : List ℕ) (i : ℕ) where
-  pub start-hit : i < length l → isStart (getD l i 0) ≡ true → i ≡ startFrom i (drop i l)
-  unfolding startFrom
-  start-hit h e = sym (rw (drop-cons l i 0 h, e))
-
-  pub start-miss : i < length l → isStart (getD l i 0) ≡ false → startFrom (i + 1) (drop (i + 1) l) ≡ startFrom i (drop i l)
-  unfolding startFrom
-  start-miss h e = sym (rw (drop-cons l i 0 h, e, add-one))
-
-  pub start-none : length l ≤ i → 0 ≡ startFrom i (drop i l)
-  unfolding startFrom
-  start-none h = sym (rw (drop-of-length-le l h))
+use Rattle.ring.specs.Ring.{radius, around, ringed}
 
 module _ {A : Type 0} (f : ℕ → A) where
   pub table-set : (l : List A) (i : ℕ) (a : A) → i < length l → take i l ≡ table f 0 i → a ≡ f i → take (i + 1) (set l i a) ≡ table f 0 (i + 1)

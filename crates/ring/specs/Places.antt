@@ -1,4 +1,4 @@
--- The first start state; the places on the ring, each taken once; the start state at the left. Assumes nothing.
+-- The places on the ring, each taken once; the start state at the left. Assumes nothing.
 use mathlib.Core.Path.{_≡_, refl, sym, ap, _∙_, subst}
 use mathlib.Core.Bool.{true, false}
 use mathlib.Core.List.{List, [], _∷_}
@@ -15,45 +15,13 @@ use lib.Ieee.Exact.{HasValue}
 use lib.Ieee.Fits.{up-pos, down-pos}
 use lib.Ieee.Back.{round-whole}
 use lib.Ieee.Scale.{round-same}
-use Rattle.laws.specs.Cases.{by-bool, by-lt}
+use Rattle.laws.specs.Cases.{by-lt}
 use Rattle.laws.specs.Flat.{table}
 use Rattle.laws.specs.Loops as Loops
 use Rattle.float.specs.Constants.{f0, f1, π, τ}
 use Rattle.float.specs.Ops.{_⊕_, _⊗_, _⊘_, neg, count}
 use Rattle.float.specs.Standins.{sin, cos, reduced, series}
-use Rattle.ring.specs.Ring.{isStart, startFrom, startIndex, radius, place, angle, cosAt, sinAt, around, ringed, circularXs, circularYs}
-
--- ---- the start state
-
--- the search from state k on finds k + j, where j is the first start state of the list, or 0
-start-at : (k j : ℕ) (l : List ℕ) → j < length l → isStart (getD l j 0) ≡ true → ((i : ℕ) → i < j → isStart (getD l i 0) ≡ false) → startFrom k l ≡ k + j
-unfolding startFrom
-start-at k j [] h e none = absurd (omega arith)
-start-at k zero (f ∷ l) h e none = rw (e, add-zero)
-start-at k (suc j) (f ∷ l) h e none =
-    rw (none 0 (omega arith)) (start-at (suc k) j l (omega arith) e (λ i m. none (suc i) (omega arith)) ∙ suc-add k j ∙ sym (add-suc k j))
-
--- a start state with none before it is the one found
-pub start-first : (j : ℕ) (l : List ℕ) → j < length l → isStart (getD l j 0) ≡ true → ((i : ℕ) → i < j → isStart (getD l i 0) ≡ false) → startIndex l ≡ j
-start-first j l h e none = start-at 0 j l h e none ∙ omega arith
-
-start-nowhere : (k : ℕ) (l : List ℕ) → ((i : ℕ) → i < length l → isStart (getD l i 0) ≡ false) → startFrom k l ≡ 0
-unfolding startFrom
-start-nowhere k [] none = refl
-start-nowhere k (f ∷ l) none = rw (none 0 (omega arith)) (start-nowhere (suc k) l (λ i h. none (suc i) (omega arith)))
-
--- "or 0"
-pub start-none : (l : List ℕ) → ((i : ℕ) → i < length l → isStart (getD l i 0) ≡ false) → startIndex l ≡ 0
-start-none l none = start-nowhere 0 l none
-
-start-within : (k n : ℕ) (l : List ℕ) → 0 < n → k + length l ≤ n → startFrom k l < n
-unfolding startFrom
-start-within k n [] p h = p
-start-within k n (f ∷ l) p h = by-bool (isStart f) (λ e. rw e (omega arith)) (λ e. rw e (start-within (suc k) n l p (omega arith)))
-
--- it is a state
-pub start-below : (l : List ℕ) → 0 < length l → startIndex l < length l
-start-below l h = start-within 0 (length l) l h (omega arith)
+use Rattle.ring.specs.Ring.{radius, place, angle, cosAt, sinAt, around, ringed, circularXs, circularYs}
 
 -- ---- places
 

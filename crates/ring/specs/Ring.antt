@@ -1,7 +1,7 @@
 -- The ring: "Circular: one state at 0, 0", else the states evenly on a circle in their order, the start state at the left. y points down.
-use mathlib.Core.Bool.{Bool, cond}
+use mathlib.Core.Bool.{cond}
 use mathlib.Core.List.{List, [], _∷_}
-use Prim.Native.Nat.{ℕ, suc, _+_, _-_, _%_}
+use Prim.Native.Nat.{ℕ, _+_, _-_, _%_}
 use lib.Dec.{eqb}
 use lib.Ieee.{Float}
 use Rattle.laws.specs.Loops.{over}
@@ -9,20 +9,6 @@ use Rattle.laws.specs.Flat.{table}
 use Rattle.float.specs.Constants.{f0, f2, f20, f22, f24, f150, π, τ}
 use Rattle.float.specs.Ops.{_⊕_, _⊗_, _⊘_, count}
 use Rattle.float.specs.Standins.{max, clamp, sin, cos}
-
--- ---- the start state
-
--- "bit 0 start" of a state's flags
-abbrev pub isStart : ℕ → Bool
-isStart flag = eqb (flag % 2) 1
-
--- "the first start state or 0"; the first of the list is state k
-unfoldable pub startFrom : ℕ → List ℕ → ℕ
-startFrom k [] = 0
-startFrom k (flag ∷ flags) = let later = startFrom (suc k) flags in cond (isStart flag) k later
-
-abbrev pub startIndex : List ℕ → ℕ
-startIndex flags = startFrom 0 flags
 
 -- ---- the widest, or the tallest, label block of the graph
 

@@ -12,25 +12,6 @@ const NODE_RADIUS: f64 = 22.0;
 
 const CIRCLE_GAP: f64 = 150.0;
 
-// Whether bit 0 of a state's flags is set.
-pub fn is_start(flag: u8) -> bool
-    ensures { λ r. ⌜ r ≡ S.isStart flag ⌝ }
-{
-    flag % 2 == 1
-}
-
-// The first start state, or 0.
-pub fn start_index(flags: &[u8]) -> usize
-    ensures { λ r. ⌜ r ≡ S.startIndex (now (flags .entry)) ⌝ }
-{
-    for i in 0..flags.len() {
-        if is_start(flags[i]) {
-            return i;
-        }
-    }
-    0
-}
-
 // The largest of the widths, or of the heights, of the label blocks.
 pub fn largest(sizes: &[f64]) -> f64
     ensures { λ r. ⌜ r ≡ S.largest (now (sizes .entry)) ⌝ }

@@ -1,6 +1,5 @@
--- What is laid before the turns, what they gather, and the centres and arrays that they work in. Assumes nothing.
-use mathlib.Core.Path.{_≡_, refl, sym, ap, ap₂, _∙_, subst}
-use mathlib.Core.Bool.{true, false}
+-- What the turns gather, and the centres and arrays that they work in. Assumes nothing.
+use mathlib.Core.Path.{_≡_, sym, ap, ap₂, _∙_, subst}
 use mathlib.Core.List.{List, flatMap}
 use Prim.Native.Nat.{ℕ, _+_, _*_, _≤_}
 use native.Mathlib.Omega.{arith}
@@ -8,34 +7,23 @@ use lib.ListN.{length, take}
 use lib.Seq.{length-take-le}
 use lib.Ieee.{Float}
 use Rattle.laws.specs.Put.{put}
-use Rattle.free.specs.Centres.{centres}
+use Rattle.shape.specs.Centres.{centres}
 use Rattle.records.specs.Records.{fields}
 use Rattle.records.specs.Back.{length-records}
-use Rattle.routing.specs.Routing.{Frame, Size, beyond, records}
+use Rattle.routing.specs.Routing.{Size, records}
 use Rattle.routing.specs.Passes.{frameBy}
 use Rattle.routing.specs.Frames.{orZeros}
-use Rattle.lay.specs.declared.Laid.{Laid}
-use Rattle.lay.specs.declared.Laid.the-variants as Laid
-use Rattle.lay.specs.Lay.{Slices, Laying, LaidAll}
-use Rattle.route.specs.declared.Answer.the-variants as Answer
-use Rattle.route.specs.Geometry.{frameAt, frame-centred, answer, numbers}
+use Rattle.lay.specs.Lay.{Slices, Laying}
+use Rattle.route.specs.Geometry.{frameAt, frame-centred, count, numbers}
 use Rattle.route.specs.Joins.{loops-at, first-drawn, all-gathered}
 use Rattle.passes.specs.Steps.{LoopsAt, rimBy, gatheredFrom, drawnBy}
 
--- ---- what is laid before the turns
-
-pub laid-of : (f : Frame) (l : Laid) (t : Slices) → LaidAll f l t → (m : ℕ) → l ≡ Laid.Traces m → (beyond f ≡ false) × Laying f m t
-laid-of f l t h m e = subst (λ (x : Laid). LaidAll f x t) e h
-
-pub beyond-of : (f : Frame) (sizes : List Size) (l : Laid) (t : Slices) (records : List Float) → LaidAll f l t → l ≡ Laid.Beyond
-    → (Answer.Beyond ≡ answer f sizes) × (records ≡ put records 0 (numbers f sizes))
-unfolding put
-beyond-of f sizes l t records h e = let b : beyond f ≡ true = subst (λ (x : Laid). LaidAll f x t) e h in rw b (refl, refl)
+-- ---- what the turns gather
 
 module _ (flags : List ℕ) (xs ys : List Float) (sources targets : List ℕ) (sizes : List Size) (m : ℕ) (t : Slices) (n : length targets ≡ length sources)
-    (o : (beyond (frameBy flags xs ys sources targets) ≡ false) × Laying (frameBy flags xs ys sources targets) m t) where
+    (o : Laying (frameBy flags xs ys sources targets) m t) where
   pub loops-in : length flags ≡ length xs → LoopsAt (t .kinds) sources (length xs)
-  loops-in e = subst (LoopsAt (t .kinds) sources) e (loops-at flags xs ys sources targets sizes m t n (o .0) (o .1))
+  loops-in e = subst (LoopsAt (t .kinds) sources) e (loops-at flags xs ys sources targets sizes m t n o)
 
   -- what the run gathers
   abbrev all : List Float → List Float → List Float
@@ -43,16 +31,16 @@ module _ (flags : List ℕ) (xs ys : List Float) (sources targets : List ℕ) (s
 
   all-is : (boxes d : List Float) → 20 * length sources ≤ length d → all boxes d ≡ flatMap fields (records (frameBy flags xs ys sources targets) sizes)
   all-is boxes d h =
-      ap (gatheredFrom (rimBy flags sources targets (t .leaves) (t .reaches)) (centres xs ys) sources (t .kinds) (t .slots) sizes) (first-drawn flags xs ys sources targets sizes m t n (o .0) (o .1) boxes d)
-      ∙ all-gathered flags xs ys sources targets sizes m t n (o .0) (o .1) d h
+      ap (gatheredFrom (rimBy flags sources targets (t .leaves) (t .reaches)) (centres xs ys) sources (t .kinds) (t .slots) sizes) (first-drawn flags xs ys sources targets sizes m t n o boxes d)
+      ∙ all-gathered flags xs ys sources targets sizes m t n o d h
 
   pub drawn-of : (boxes d l l′ : List Float) (r : ℕ) → 20 * length sources ≤ length d → 20 * r ≡ length (all boxes d) → l′ ≡ put l 0 (all boxes d)
-      → (Answer.Drawn r ≡ answer (frameBy flags xs ys sources targets) sizes) × (l′ ≡ put l 0 (numbers (frameBy flags xs ys sources targets) sizes))
+      → (r ≡ count (frameBy flags xs ys sources targets) sizes) × (l′ ≡ put l 0 (numbers (frameBy flags xs ys sources targets) sizes))
   drawn-of boxes d l l′ r h e f =
       let g = records (frameBy flags xs ys sources targets) sizes in
       let q : 20 * r ≡ 20 * length g = e ∙ ap length (all-is boxes d h) ∙ length-records g in
       let k : r ≡ length g = omega arith in
-      rw (o .0) (ap Answer.Drawn k, f ∙ ap (put l 0) (all-is boxes d h))
+      (k, f ∙ ap (put l 0) (all-is boxes d h))
 
 -- ---- the centres in their slices
 

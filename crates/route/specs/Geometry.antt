@@ -1,33 +1,30 @@
--- `geometry`: what is drawn for a graph at given centres, as the answer and as the numbers of the records.
+-- `geometry`: what is drawn for a graph at given centres, as the numbers of the records.
 use mathlib.Core.Path.{_≡_, sym, ap, _∙_}
-use mathlib.Core.Bool.{cond}
-use mathlib.Core.List.{List, [], map, flatMap}
+use mathlib.Core.List.{List, map, flatMap}
 use Prim.Native.Nat.{ℕ}
 use lib.ListN.{length}
 use lib.Ieee.{Float}
 use Rattle.laws.specs.Flat.{table}
 use Rattle.laws.specs.Zip.{zip}
 use Rattle.shape.specs.declared.«V».{«V»}
-use Rattle.sheet.specs.Sheet.{Graph}
+use Rattle.sheet.specs.Sheet.{Graph, flagsOf}
 use Rattle.records.specs.Records.{fields}
-use Rattle.routing.specs.Routing.{Frame, Size, beyond, records}
+use Rattle.routing.specs.Routing.{Frame, Size, records}
 use Rattle.routing.specs.Passes.{endsBy, frameBy}
 use Rattle.routing.specs.Sheets.{centreAt, frameOf}
 use Rattle.routing.specs.Frames.{orZeros, centres-table, frame-sheet}
-use Rattle.route.specs.declared.Answer.{Answer}
-use Rattle.route.specs.declared.Answer.the-variants as Answer
 
 -- "Centres missing or not finite count as 0."
 abbrev pub frameAt : List ℕ → List Float → List Float → List ℕ → List ℕ → Frame
 frameAt flags xs ys sources targets = record { flags = flags; centres = table (centreAt xs ys) 0 (length flags); arrows = zip endsBy sources targets }
 
--- Beyond for "a two-way pair whose first free bow exceeds 10^9", else how many records
-abbrev pub answer : Frame → List Size → Answer
-answer f sizes = cond (beyond f) Answer.Beyond (Answer.Drawn (length (records f sizes)))
+-- how many records there are
+abbrev pub count : Frame → List Size → ℕ
+count f sizes = length (records f sizes)
 
--- the numbers of the records, in arrow order, twenty each
+-- their numbers, in arrow order, twenty each
 abbrev pub numbers : Frame → List Size → List Float
-numbers f sizes = cond (beyond f) [] (flatMap fields (records f sizes))
+numbers f sizes = flatMap fields (records f sizes)
 
 -- ---- the frame as the slices hold it
 
@@ -38,5 +35,5 @@ frame-centred flags xs ys sources targets =
 
 -- and of a sheet's graph
 pub frame-graph : (g : Graph) (xs ys : List Float)
-    → frameAt (g .states) xs ys (map (λ a. a .source) (g .arrows)) (map (λ a. a .target) (g .arrows)) ≡ frameOf g xs ys
-frame-graph g xs ys = sym (frame-centred (g .states) xs ys (map (λ a. a .source) (g .arrows)) (map (λ a. a .target) (g .arrows))) ∙ frame-sheet g xs ys
+    → frameAt (flagsOf g) xs ys (map (λ a. a .source) (g .arrows)) (map (λ a. a .target) (g .arrows)) ≡ frameOf g xs ys
+frame-graph g xs ys = sym (frame-centred (flagsOf g) xs ys (map (λ a. a .source) (g .arrows)) (map (λ a. a .target) (g .arrows))) ∙ frame-sheet g xs ys

@@ -1,4 +1,4 @@
--- Where no arrow is beyond: the passes over the slices are the passes over the arrows, and what is gathered there is the records. Assumes nothing.
+-- The passes over the slices are the passes over the arrows, and what is gathered there is the records. Assumes nothing.
 use mathlib.Core.Path.{_≡_, refl, sym, ap, ap₂, _∙_}
 use mathlib.Core.Bool.{Bool, true, false, not, cond, _&&_}
 use mathlib.Core.List.{List, [], _∷_, _++_, flatMap}
@@ -15,14 +15,14 @@ use Rattle.laws.specs.Flat.{part, table}
 use Rattle.laws.specs.Loops.{turns, up, up-over}
 use Rattle.laws.specs.Zip.{zip-at}
 use Rattle.trace.specs.Traces.{Trace}
-use Rattle.free.specs.Centres.{centre, centres}
+use Rattle.shape.specs.Centres.{centre, centres}
 use Rattle.bow.specs.declared.Routed.{Routed}
 use Rattle.records.specs.Records.{fields}
 use Rattle.place.specs.Scene.{sceneOf}
 use Rattle.place.specs.Turn.{placed}
 use Rattle.looped.specs.Looped.{looped, loopOf}
-use Rattle.routing.specs.Routing.{Frame, Ends, Size, Numbered, numbered, isKept, isLoop, isArc, beyond, firstScene, rim, loopTurn, turnOf, records}
-use Rattle.routing.specs.Passes.{endsBy, frameBy, isCrossing, routeOf, kindOf, Drawn, drawnOf, turned, passed, slotsOf, gathered}
+use Rattle.routing.specs.Routing.{Frame, Ends, Size, Numbered, numbered, isKept, isLoop, isArc, routeOf, firstScene, rim, loopTurn, turnOf, records}
+use Rattle.routing.specs.Passes.{endsBy, frameBy, isCrossing, kindOf, Drawn, drawnOf, turned, passed, slotsOf, gathered}
 use Rattle.routing.specs.Numbers.{numberedBy, noEnds, numberedAt}
 use Rattle.routing.specs.Turns.{sizeFor, withLoop, withLabel, turned-loop, turned-label, turned-other}
 use Rattle.routing.specs.Rim.{rim-angles}
@@ -89,7 +89,7 @@ kind-crossing f a p e = go (isKept f a) (isLoop a) (isArc (routeOf f a)) e
 
 -- ---- the passes
 module _ (flags : List ℕ) (xs ys : List Float) (sources targets : List ℕ) (sizes : List Size) (m : ℕ) (t : Slices) (n : length targets ≡ length sources)
-    (o : beyond (frameBy flags xs ys sources targets) ≡ false) (l : Laying (frameBy flags xs ys sources targets) m t) where
+    (l : Laying (frameBy flags xs ys sources targets) m t) where
   abbrev frame : Frame
   frame = frameBy flags xs ys sources targets
 
@@ -108,7 +108,7 @@ module _ (flags : List ℕ) (xs ys : List Float) (sources targets : List ℕ) (s
   rim-at : (k : ℕ) → rimBy flags sources targets (t .leaves) (t .reaches) k ≡ rim frame k
   rim-at k =
       ap₂ (λ (a b : List Float). rimBy flags sources targets a b k) (l .leaves) (l .reaches)
-      ∙ sym (rim-angles flags xs ys sources targets k n o)
+      ∙ sym (rim-angles flags xs ys sources targets k n)
 
   loop-at : (d : Drawn) (j : ℕ) → j < length (frame .arrows)
       → looped (d .scene) (loopFor (rimBy flags sources targets (t .leaves) (t .reaches)) (centres xs ys) sources sizes j)
@@ -160,7 +160,7 @@ module _ (flags : List ℕ) (xs ys : List Float) (sources targets : List ℕ) (s
       gather-all _
       ∙ ap (λ (c : Drawn). gathered frame (c .slots))
       (label-pass 1 _ ∙ ap (passed frame sizes 2) (label-pass 0 _ ∙ ap (passed frame sizes 1) (loop-pass (drawnOf (firstScene frame) d))))
-      ∙ passes-gathered frame sizes d o (omega (arith, many-arrows flags xs ys sources targets n))
+      ∙ passes-gathered frame sizes d (omega (arith, many-arrows flags xs ys sources targets n))
 
   -- the scene before any label
   pub first-drawn : (boxes d : List Float) → drawnBy xs ys 0 boxes m (t .traces) d ≡ drawnOf (firstScene frame) d

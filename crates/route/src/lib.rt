@@ -1,5 +1,4 @@
 // `geometry`: the drawing of a graph at given centres, from its flags, arrow ends and label sizes.
-use lay::Laid;
 ghost use mathlib.Core.Path.{_≡_};
 ghost use Prim.Native.Nat.{_+_, _*_, _≤_};
 ghost use lib.ListN.{length};
@@ -8,13 +7,7 @@ ghost use Rattle.routing.specs.Passes.{frameBy, sizesBy};
 ghost use Rattle.passes.specs.Steps as S;
 ghost use Rattle.route.specs.Geometry as G;
 
-// How many records are drawn, or a two-way pair whose first free bow exceeds 10^9.
-pub enum Answer {
-    Drawn(usize),
-    Beyond,
-}
-
-// The drawing at these centres, in slices to work in.
+// The drawing at these centres, in slices to work in; how many records it has.
 fn draw(
     flags: &[u8],
     sources: &[usize],
@@ -31,11 +24,11 @@ fn draw(
     traces: &mut [f64],
     drawn: &mut [f64],
     records: &mut [f64],
-) -> Answer
+) -> usize
     requires { ⌜ S.States (now flags) (now xs) (now ys) × S.Arrows (now sources) (now targets) (now leaves) (now reaches) × S.Turns (length (now sources)) (now kinds) (now widths) (now heights) (now drawn) × (20 * length (now sources) ≤ length (now slots)) × (12 * length (now sources) ≤ length (now boxes)) × (40 * (2 * length (now sources) + length (now xs)) ≤ length (now traces)) × (20 * length (now sources) ≤ length (now records)) ⌝ }
-    ensures { λ r. ⌜ (r ≡ G.answer (frameBy (now (flags .entry)) (now (xs .entry)) (now (ys .entry)) (now (sources .entry)) (now (targets .entry))) (sizesBy (now (widths .entry)) (now (heights .entry)))) × (now (records .exit) ≡ put (now (records .entry)) 0 (G.numbers (frameBy (now (flags .entry)) (now (xs .entry)) (now (ys .entry)) (now (sources .entry)) (now (targets .entry))) (sizesBy (now (widths .entry)) (now (heights .entry))))) ⌝ }
+    ensures { λ r. ⌜ (r ≡ G.count (frameBy (now (flags .entry)) (now (xs .entry)) (now (ys .entry)) (now (sources .entry)) (now (targets .entry))) (sizesBy (now (widths .entry)) (now (heights .entry)))) × (now (records .exit) ≡ put (now (records .entry)) 0 (G.numbers (frameBy (now (flags .entry)) (now (xs .entry)) (now (ys .entry)) (now (sources .entry)) (now (targets .entry))) (sizesBy (now (widths .entry)) (now (heights .entry))))) ⌝ }
 {
-    let l = lay::lay(
+    let nt = lay::lay(
         xs,
         ys,
         flags,
@@ -47,10 +40,7 @@ fn draw(
         slots,
         traces,
     );
-    let Laid::Traces(nt) = l else {
-        return Answer::Beyond;
-    };
-    Answer::Drawn(passes::run(
+    passes::run(
         flags,
         xs,
         ys,
@@ -67,7 +57,7 @@ fn draw(
         nt,
         drawn,
         records,
-    ))
+    )
 }
 
 // The same at centres of which those that are missing or not finite count as 0.
@@ -89,9 +79,9 @@ fn draw_at(
     traces: &mut [f64],
     drawn: &mut [f64],
     records: &mut [f64],
-) -> Answer
+) -> usize
     requires { ⌜ S.States (now flags) (now cx) (now cy) × S.Arrows (now sources) (now targets) (now leaves) (now reaches) × S.Turns (length (now sources)) (now kinds) (now widths) (now heights) (now drawn) × (20 * length (now sources) ≤ length (now slots)) × (12 * length (now sources) ≤ length (now boxes)) × (40 * (2 * length (now sources) + length (now cx)) ≤ length (now traces)) × (20 * length (now sources) ≤ length (now records)) ⌝ }
-    ensures { λ r. ⌜ (r ≡ G.answer (G.frameAt (now (flags .entry)) (now (xs .entry)) (now (ys .entry)) (now (sources .entry)) (now (targets .entry))) (sizesBy (now (widths .entry)) (now (heights .entry)))) × (now (records .exit) ≡ put (now (records .entry)) 0 (G.numbers (G.frameAt (now (flags .entry)) (now (xs .entry)) (now (ys .entry)) (now (sources .entry)) (now (targets .entry))) (sizesBy (now (widths .entry)) (now (heights .entry))))) ⌝ }
+    ensures { λ r. ⌜ (r ≡ G.count (G.frameAt (now (flags .entry)) (now (xs .entry)) (now (ys .entry)) (now (sources .entry)) (now (targets .entry))) (sizesBy (now (widths .entry)) (now (heights .entry)))) × (now (records .exit) ≡ put (now (records .entry)) 0 (G.numbers (G.frameAt (now (flags .entry)) (now (xs .entry)) (now (ys .entry)) (now (sources .entry)) (now (targets .entry))) (sizesBy (now (widths .entry)) (now (heights .entry))))) ⌝ }
 {
     lay::centred(xs, cx);
     lay::centred(ys, cy);
@@ -131,9 +121,9 @@ fn draw_little(
     leaves: &mut [f64],
     reaches: &mut [f64],
     records: &mut [f64],
-) -> Answer
+) -> usize
     requires { ⌜ S.States (now flags) (now cx) (now cy) × S.Arrows (now sources) (now targets) (now leaves) (now reaches) × (length (now kinds) ≡ length (now sources)) × (length (now widths) ≡ length (now sources)) × (length (now heights) ≡ length (now sources)) × (20 * length (now sources) ≤ length (now records)) × (length (now flags) ≤ 32) × (length (now sources) ≤ 32) ⌝ }
-    ensures { λ r. ⌜ (r ≡ G.answer (G.frameAt (now (flags .entry)) (now (xs .entry)) (now (ys .entry)) (now (sources .entry)) (now (targets .entry))) (sizesBy (now (widths .entry)) (now (heights .entry)))) × (now (records .exit) ≡ put (now (records .entry)) 0 (G.numbers (G.frameAt (now (flags .entry)) (now (xs .entry)) (now (ys .entry)) (now (sources .entry)) (now (targets .entry))) (sizesBy (now (widths .entry)) (now (heights .entry))))) ⌝ }
+    ensures { λ r. ⌜ (r ≡ G.count (G.frameAt (now (flags .entry)) (now (xs .entry)) (now (ys .entry)) (now (sources .entry)) (now (targets .entry))) (sizesBy (now (widths .entry)) (now (heights .entry)))) × (now (records .exit) ≡ put (now (records .entry)) 0 (G.numbers (G.frameAt (now (flags .entry)) (now (xs .entry)) (now (ys .entry)) (now (sources .entry)) (now (targets .entry))) (sizesBy (now (widths .entry)) (now (heights .entry))))) ⌝ }
 {
     let mut slots = [0.0f64; 640];
     let mut boxes = [0.0f64; 384];
@@ -175,9 +165,9 @@ fn draw_full(
     leaves: &mut [f64],
     reaches: &mut [f64],
     records: &mut [f64],
-) -> Answer
+) -> usize
     requires { ⌜ S.States (now flags) (now cx) (now cy) × S.Arrows (now sources) (now targets) (now leaves) (now reaches) × (length (now kinds) ≡ length (now sources)) × (length (now widths) ≡ length (now sources)) × (length (now heights) ≡ length (now sources)) × (20 * length (now sources) ≤ length (now records)) ⌝ }
-    ensures { λ r. ⌜ (r ≡ G.answer (G.frameAt (now (flags .entry)) (now (xs .entry)) (now (ys .entry)) (now (sources .entry)) (now (targets .entry))) (sizesBy (now (widths .entry)) (now (heights .entry)))) × (now (records .exit) ≡ put (now (records .entry)) 0 (G.numbers (G.frameAt (now (flags .entry)) (now (xs .entry)) (now (ys .entry)) (now (sources .entry)) (now (targets .entry))) (sizesBy (now (widths .entry)) (now (heights .entry))))) ⌝ }
+    ensures { λ r. ⌜ (r ≡ G.count (G.frameAt (now (flags .entry)) (now (xs .entry)) (now (ys .entry)) (now (sources .entry)) (now (targets .entry))) (sizesBy (now (widths .entry)) (now (heights .entry)))) × (now (records .exit) ≡ put (now (records .entry)) 0 (G.numbers (G.frameAt (now (flags .entry)) (now (xs .entry)) (now (ys .entry)) (now (sources .entry)) (now (targets .entry))) (sizesBy (now (widths .entry)) (now (heights .entry))))) ⌝ }
 {
     let mut slots = [0.0f64; 5120];
     let mut boxes = [0.0f64; 3072];
@@ -219,9 +209,9 @@ fn draw_sized(
     leaves: &mut [f64],
     reaches: &mut [f64],
     records: &mut [f64],
-) -> Answer
+) -> usize
     requires { ⌜ S.States (now flags) (now cx) (now cy) × S.Arrows (now sources) (now targets) (now leaves) (now reaches) × (length (now kinds) ≡ length (now sources)) × (length (now widths) ≡ length (now sources)) × (length (now heights) ≡ length (now sources)) × (20 * length (now sources) ≤ length (now records)) ⌝ }
-    ensures { λ r. ⌜ (r ≡ G.answer (G.frameAt (now (flags .entry)) (now (xs .entry)) (now (ys .entry)) (now (sources .entry)) (now (targets .entry))) (sizesBy (now (widths .entry)) (now (heights .entry)))) × (now (records .exit) ≡ put (now (records .entry)) 0 (G.numbers (G.frameAt (now (flags .entry)) (now (xs .entry)) (now (ys .entry)) (now (sources .entry)) (now (targets .entry))) (sizesBy (now (widths .entry)) (now (heights .entry))))) ⌝ }
+    ensures { λ r. ⌜ (r ≡ G.count (G.frameAt (now (flags .entry)) (now (xs .entry)) (now (ys .entry)) (now (sources .entry)) (now (targets .entry))) (sizesBy (now (widths .entry)) (now (heights .entry)))) × (now (records .exit) ≡ put (now (records .entry)) 0 (G.numbers (G.frameAt (now (flags .entry)) (now (xs .entry)) (now (ys .entry)) (now (sources .entry)) (now (targets .entry))) (sizesBy (now (widths .entry)) (now (heights .entry))))) ⌝ }
 {
     if flags.len() <= 32 {
         if sources.len() <= 32 {
@@ -259,7 +249,7 @@ fn draw_sized(
     )
 }
 
-// The drawing of a graph at given centres: for each arrow of the records its twenty numbers, in arrow order.
+// The drawing of a graph at given centres: for each arrow of the records its twenty numbers, in arrow order; how many records there are.
 pub fn geometry(
     flags: &[u8],
     sources: &[usize],
@@ -269,9 +259,9 @@ pub fn geometry(
     xs: &[f64],
     ys: &[f64],
     records: &mut [f64],
-) -> Answer
+) -> usize
     requires { ⌜ (length (now flags) ≤ 64) × (length (now sources) ≤ 256) × (length (now targets) ≡ length (now sources)) × (length (now widths) ≡ length (now sources)) × (length (now heights) ≡ length (now sources)) × (20 * length (now sources) ≤ length (now records)) ⌝ }
-    ensures { λ r. ⌜ (r ≡ G.answer (G.frameAt (now (flags .entry)) (now (xs .entry)) (now (ys .entry)) (now (sources .entry)) (now (targets .entry))) (sizesBy (now (widths .entry)) (now (heights .entry)))) × (now (records .exit) ≡ put (now (records .entry)) 0 (G.numbers (G.frameAt (now (flags .entry)) (now (xs .entry)) (now (ys .entry)) (now (sources .entry)) (now (targets .entry))) (sizesBy (now (widths .entry)) (now (heights .entry))))) ⌝ }
+    ensures { λ r. ⌜ (r ≡ G.count (G.frameAt (now (flags .entry)) (now (xs .entry)) (now (ys .entry)) (now (sources .entry)) (now (targets .entry))) (sizesBy (now (widths .entry)) (now (heights .entry)))) × (now (records .exit) ≡ put (now (records .entry)) 0 (G.numbers (G.frameAt (now (flags .entry)) (now (xs .entry)) (now (ys .entry)) (now (sources .entry)) (now (targets .entry))) (sizesBy (now (widths .entry)) (now (heights .entry))))) ⌝ }
 {
     let mut cx = [0.0f64; 64];
     let mut cy = [0.0f64; 64];

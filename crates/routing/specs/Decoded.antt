@@ -13,7 +13,7 @@ use Rattle.laws.specs.Put.{put}
 use Rattle.spot.specs.declared.Geometry.{Geometry}
 use Rattle.records.specs.Records.{fields, decodeRecords}
 use Rattle.records.specs.Back.{Small, decode-records}
-use Rattle.routing.specs.Routing.{Frame, Ends, Size, numberedFrom, numbered, isKept, kept, beyond, drawing, drawnFor, records}
+use Rattle.routing.specs.Routing.{Frame, Ends, Size, numberedFrom, numbered, isKept, kept, drawing, drawnFor, records}
 use Rattle.routing.specs.Numbers.{numberedBy}
 use Rattle.routing.specs.Demand.{recordFor}
 use Rattle.routing.specs.Slots.{isEdge, records-each, records-length}
@@ -31,9 +31,9 @@ unfolding numberedFrom
 from-length n [] = refl
 from-length n (e ∷ es) = ap suc (from-length (suc n) es)
 
-pub records-most : (f : Frame) (sizes : List Size) → beyond f ≡ false → length (records f sizes) ≤ length (f .arrows)
+pub records-most : (f : Frame) (sizes : List Size) → length (records f sizes) ≤ length (f .arrows)
 unfolding kept
-records-most f sizes h = omega (arith, records-length f sizes h, filter-length (isKept f) (numbered f), from-length 0 (f .arrows))
+records-most f sizes = omega (arith, records-length f sizes, filter-length (isKept f) (numbered f), from-length 0 (f .arrows))
 
 -- ---- every record's number is below the number of arrows
 

@@ -17,7 +17,7 @@ use Rattle.laws.specs.Zip.{zip, zip-at}
 use Rattle.shape.specs.declared.«V».{«V»}
 use Rattle.shape.specs.declared.Curve.{Curve}
 use Rattle.shape.specs.Curves.{end}
-use Rattle.free.specs.Centres.{centre}
+use Rattle.shape.specs.Centres.{centre}
 use Rattle.bow.specs.declared.Routed.{Routed}
 use Rattle.bow.specs.declared.Shape.{Shape}
 use Rattle.bow.specs.declared.Shape.the-variants as Shape
@@ -27,11 +27,10 @@ use Rattle.spot.specs.Labels.{labelled}
 use Rattle.place.specs.Scene.{Scene}
 use Rattle.rim.specs.Lengths.{directions-some}
 use Rattle.looped.specs.Looped.{loopAt, loopRouted, direction}
-use Rattle.routing.specs.Passes.{routedOf, routeOf}
 use Rattle.routing.specs.Lists.{filter-flat, flat-same, flat-filter, filter-some, filter-only, At, find}
 use Rattle.routing.specs.Numbers.{numberedBy, noEnds, numberedAt, isNumber, number-one}
 use Rattle.routing.specs.Slots.{isEdge, isTurn, itemFor, own-turn, own-none, edges-drawn, drawn-edge, drawn-once, records-each}
-use Rattle.routing.specs.Routing.{Frame, isLoop, loopTurn, beyond, numbered, isKept, drawnFor, Numbered, records, Size, none, Item, loop, label, edgeOf, Route, Step, stepOf, order, steps, listedBy, rim, more, cost, drawnStep, drawnBy, after, firstScene, taken, sceneAt, drawing}
+use Rattle.routing.specs.Routing.{Frame, isLoop, joined, routeOf, loopTurn, numbered, isKept, drawnFor, Numbered, records, Size, none, Item, loop, label, edgeOf, Route, Step, stepOf, order, steps, listedBy, rim, more, cost, drawnStep, drawnBy, after, firstScene, taken, sceneAt, drawing}
 
 -- ---- a turn lists one place at least
 
@@ -168,30 +167,30 @@ drawn-at f sizes t d h =
 drawing-length : (f : Frame) (sizes : List Size) → length (drawing f sizes) ≡ length (order f)
 drawing-length f sizes = sym (length-map (drawing f sizes) (λ g. g .edge)) ∙ ap length (edges-drawn f sizes) ∙ length-map (order f) edgeOf
 
-module _ (f : Frame) (none-beyond : beyond f ≡ false) where
+module _ (f : Frame) where
   -- the arrow of a turn is one of the arrows, and kept
   turn-number : (t : ℕ) → t < length (order f) → edgeAt f t < length (f .arrows)
   turn-number t h =
       by-lt (edgeAt f t) (length (f .arrows)) (λ l. l)
-      (λ l. absurd (omega (arith, filter-some (isTurn (edgeAt f t)) (order f) t noItem h (eq-eqb (edgeAt f t) (edgeAt f t) refl), ap length (own-none f (edgeAt f t) none-beyond l))))
+      (λ l. absurd (omega (arith, filter-some (isTurn (edgeAt f t)) (order f) t noItem h (eq-eqb (edgeAt f t) (edgeAt f t) refl), ap length (own-none f (edgeAt f t) l))))
 
   turn-kept : (t : ℕ) → t < length (order f) → isKept f (numberedAt f (edgeAt f t)) ≡ true
   turn-kept t h =
       by-bool (isKept f (numberedAt f (edgeAt f t))) (λ c. c)
       (λ c.
-      let none : filter (isTurn (edgeAt f t)) (order f) ≡ [] = rw c at (own-turn f (edgeAt f t) none-beyond (turn-number t h)) in
+      let none : filter (isTurn (edgeAt f t)) (order f) ≡ [] = rw c at (own-turn f (edgeAt f t) (turn-number t h)) in
       absurd (omega (arith, filter-some (isTurn (edgeAt f t)) (order f) t noItem h (eq-eqb (edgeAt f t) (edgeAt f t) refl), ap length none)))
 
   -- "Each arrow of the records has one turn": each kept arrow, at a place in the order of the turns
   pub kept-turn : (k : ℕ) → k < length (f .arrows) → isKept f (numberedAt f k) ≡ true → At (order f) noItem (itemFor f (numberedAt f k))
-  kept-turn k h e = find (isTurn k) (order f) noItem (itemFor f (numberedAt f k)) [] (rw e at (own-turn f k none-beyond h))
+  kept-turn k h e = find (isTurn k) (order f) noItem (itemFor f (numberedAt f k)) [] (rw e at (own-turn f k h))
 
   -- the record of a turn's arrow is what is drawn at that turn
   record-turn : (sizes : List Size) (t : ℕ) (d : Geometry) → t < length (order f) → recordFor f sizes (edgeAt f t) ≡ getD (drawing f sizes) t d ∷ []
   record-turn sizes t d h =
       let k : ℕ = edgeAt f t in
       let n : k < length (f .arrows) = turn-number t h in
-      let once : map (λ g. g .edge) (filter (isEdge k) (drawing f sizes)) ≡ k ∷ [] = rw (turn-kept t h) at (drawn-once f sizes k none-beyond n) in
+      let once : map (λ g. g .edge) (filter (isEdge k) (drawing f sizes)) ≡ k ∷ [] = rw (turn-kept t h) at (drawn-once f sizes k n) in
       let own : isEdge k (getD (drawing f sizes) t d) ≡ true =
       eq-eqb _ _ (ap (λ (g : Geometry). g .edge) (drawn-at f sizes t d h) ∙ drawn-edge f (turnAt f t) (sizeAt f sizes noItem t) (placeAt f sizes t)) in
       record-drawn f sizes k n
@@ -236,7 +235,7 @@ pub label-stroke : (f : Frame) (r : Route) (size : Size) (j : ℕ) → strokeOf 
 unfolding labelled
 label-stroke f r size j = refl
 
-module _ (f : Frame) (none-beyond : beyond f ≡ false) where
+module _ (f : Frame) where
   pub records-cheapest : (sizes : List Size) (t : ℕ) → t < length (order f) → Cheapest f sizes t
   records-cheapest sizes t h =
       record {
@@ -244,7 +243,7 @@ module _ (f : Frame) (none-beyond : beyond f ≡ false) where
         least =
             subst (λ (s : Step). FirstLeast (cost f (sceneAt f sizes t) s) (listedBy f (s .item)) (placeAt f sizes t)) (step-is f sizes t)
             (cheapest f sizes (stepOf sizes noItem) t (omega (arith, steps-length f sizes)));
-        held = record-held f none-beyond sizes t h;
+        held = record-held f sizes t h;
       }
 
   -- (2) where the sizes agree at a turn and at all before it, the record is the same
@@ -253,23 +252,23 @@ module _ (f : Frame) (none-beyond : beyond f ≡ false) where
   records-prefix sizes sizes′ t h e =
       let d : Geometry = drawnPlace f sizes t 0 in
       let same : take (suc t) (drawing f sizes) ≡ take (suc t) (drawing f sizes′) = prefix f sizes sizes′ noItem (suc t) (λ j l. e j (omega arith)) in
-      record-turn f none-beyond sizes t d h
+      record-turn f sizes t d h
       ∙ ap (λ (g : Geometry). g ∷ [])
       (sym (getD-take (suc t) (drawing f sizes) t d (omega arith)) ∙ ap (λ (l : List Geometry). getD l t d) same ∙ getD-take (suc t) (drawing f sizes′) t d (omega arith))
-      ∙ sym (record-turn f none-beyond sizes′ t d h)
+      ∙ sym (record-turn f sizes′ t d h)
 
   -- (3) whatever the sizes, an arrow between different states has the curve, tip and tip angle of its route
   pub records-stroke : (sizes : List Size) (k : ℕ) → k < length (f .arrows) → isLoop (numberedAt f k) ≡ false
-      → map strokeOf (recordFor f sizes k) ≡ cond (isKept f (numberedAt f k)) (strokeBy (routedOf f (numberedAt f k)) ∷ []) []
+      → map strokeOf (recordFor f sizes k) ≡ cond (isKept f (numberedAt f k)) (strokeBy (joined f (numberedAt f k)) ∷ []) []
   records-stroke sizes k h e =
       by-bool (isKept f (numberedAt f k))
       (λ c.
-      let at : At (order f) noItem (itemFor f (numberedAt f k)) = kept-turn f none-beyond k h c in
+      let at : At (order f) noItem (itemFor f (numberedAt f k)) = kept-turn f k h c in
       let turn : turnAt f (at .place) ≡ label (routeOf f (numberedAt f k)) =
       at .there ∙ ap (λ (b : Bool). cond b (loop (numberedAt f k)) (label (routeOf f (numberedAt f k)))) e in
       rw c
       (ap (λ (i : Item). map strokeOf (recordFor f sizes (edgeOf i))) (sym turn)
-      ∙ ap (map strokeOf) (record-held f none-beyond sizes (at .place) (at .inside))
+      ∙ ap (map strokeOf) (record-held f sizes (at .place) (at .inside))
       ∙ ap (λ (i : Item). strokeOf (drawnBy f i (sizeAt f sizes noItem (at .place)) (placeAt f sizes (at .place))) ∷ []) turn
       ∙ ap (λ (s : Stroke). s ∷ []) (label-stroke f (routeOf f (numberedAt f k)) (sizeAt f sizes noItem (at .place)) (placeAt f sizes (at .place)))))
       (λ c.

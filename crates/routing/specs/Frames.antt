@@ -1,16 +1,16 @@
 -- The frame and the sizes of a sheet's graph, as the slices hold them. Assumes nothing.
-use mathlib.Core.Path.{_≡_, refl, ap, ap₂}
+use mathlib.Core.Path.{_≡_, refl, ap, ap₂, _∙_}
 use mathlib.Core.List.{List, [], _∷_, map}
 use Prim.Native.Nat.{ℕ, zero, suc}
-use lib.ListN.{length, getD}
+use lib.ListN.{length, getD, length-map}
 use lib.Ieee.{Float}
 use Rattle.laws.specs.Flat.{table}
 use Rattle.laws.specs.Zip.{zip}
 use Rattle.float.specs.Constants.{f0}
 use Rattle.shape.specs.declared.«V».{«V»}
 use Rattle.shape.specs.Plane.{vec}
-use Rattle.free.specs.Centres.{centres}
-use Rattle.sheet.specs.Sheet.{Arrow, Graph}
+use Rattle.shape.specs.Centres.{centres}
+use Rattle.sheet.specs.Sheet.{Arrow, Graph, flagsOf}
 use Rattle.label.specs.Label.{blockWidth, blockHeight}
 use Rattle.routing.specs.Routing.{Ends, Size}
 use Rattle.routing.specs.Passes.{endsBy, frameBy, sizesBy}
@@ -40,10 +40,11 @@ ends-zip [] = refl
 ends-zip (a ∷ l) = ap (λ (r : List Ends). endsOf a ∷ r) (ends-zip l)
 
 pub frame-sheet : (g : Graph) (xs ys : List Float)
-    → frameBy (g .states) (orZeros xs (length (g .states))) (orZeros ys (length (g .states))) (map (λ a. a .source) (g .arrows)) (map (λ a. a .target) (g .arrows)) ≡ frameOf g xs ys
+    → frameBy (flagsOf g) (orZeros xs (length (flagsOf g))) (orZeros ys (length (flagsOf g))) (map (λ a. a .source) (g .arrows)) (map (λ a. a .target) (g .arrows)) ≡ frameOf g xs ys
 unfolding frameOf
 frame-sheet g xs ys =
-    ap₂ (λ (cs : List «V») (es : List Ends). record { flags = g .states; centres = cs; arrows = es }) (centres-table xs ys (length (g .states))) (ends-zip (g .arrows))
+    ap₂ (λ (cs : List «V») (es : List Ends). record { flags = flagsOf g; centres = cs; arrows = es })
+    (centres-table xs ys (length (flagsOf g)) ∙ ap (table (centreAt xs ys) 0) (length-map (g .states) (λ a. a .flags))) (ends-zip (g .arrows))
 
 sizes-zip : (l : List Arrow) → zip Passes.sizeBy (map (λ a. blockWidth (a .lines)) l) (map (λ a. blockHeight (length (a .lines))) l) ≡ map sizeOf l
 unfolding zip

@@ -1,4 +1,4 @@
--- Lists of lists joined, and how map, filter, counting and folds go through them. Assumes nothing.
+-- Lists of lists joined, and how map, filter and folds go through them. Assumes nothing.
 use mathlib.Core.Path.{_≡_, refl, sym, ap, ap₂, _∙_}
 use mathlib.Core.Bool.{Bool, true, false, cond, _&&_}
 use mathlib.Core.List.{List, [], _∷_, _++_, map, flatMap, append-assoc}
@@ -7,7 +7,6 @@ use native.Mathlib.Nat.{zero-add, not-suc-le-zero}
 use native.Mathlib.Omega.{arith}
 use lib.ListN.{length, getD}
 use Rattle.laws.specs.Cases.{by-bool}
-use Rattle.laws.specs.Counting.{number}
 use Rattle.laws.specs.Filter.{filter, filter-yes, filter-no, filter-join}
 use Rattle.laws.specs.Loops.{over, over-join}
 
@@ -43,19 +42,6 @@ module _ {A B : Type 0} where
   over-flat h s g [] = refl
   over-flat h s g (a ∷ l) = over-join h s (g a) (flatMap g l) ∙ over-flat h (over h s (g a)) g l
 
-  -- two ways that agree where a test fails, over a list of which none passes it
-  pub flat-agree : (bad : A → Bool) (g h : A → List B) (l : List A) → number bad l ≡ 0 → ((a : A) → bad a ≡ false → g a ≡ h a) → flatMap g l ≡ flatMap h l
-  unfolding flatMap number
-  flat-agree bad g h [] n e = refl
-  flat-agree bad g h (a ∷ l) n e =
-      by-bool (bad a) (λ t. absurd (some t)) (λ t. ap₂ (λ (x y : List B). x ++ y) (e a t) (flat-agree bad g h l (rest t) e))
-    where
-      some : bad a ≡ true → ⊥
-      some t = let m : 1 + number bad l ≡ 0 = rw t at n in omega arith
-
-      rest : bad a ≡ false → number bad l ≡ 0
-      rest t = let m : 0 + number bad l ≡ 0 = rw t at n in omega arith
-
   pub flat-same : (g h : A → List B) (l : List A) → ((a : A) → g a ≡ h a) → flatMap g l ≡ flatMap h l
   unfolding flatMap
   flat-same g h [] e = refl
@@ -71,11 +57,6 @@ module _ {A B C : Type 0} where
   unfolding flatMap
   flat-flat h g [] = refl
   flat-flat h g (a ∷ l) = flat-join h (g a) (flatMap g l) ∙ ap (λ (r : List C). flatMap h (g a) ++ r) (flat-flat h g l)
-
-pub number-filter : {A : Type 0} (p q : A → Bool) (l : List A) → number p (filter q l) ≡ number (λ a. q a && p a) l
-unfolding number filter
-number-filter p q [] = refl
-number-filter p q (a ∷ l) = by-bool (q a) (λ t. rw t (ap (λ (n : ℕ). cond (p a) 1 0 + n) (number-filter p q l))) (λ t. rw (t, zero-add) (number-filter p q l))
 
 module _ {A B : Type 0} where
   pub filter-map : (p : B → Bool) (h : A → B) (l : List A) → filter p (map h l) ≡ map h (filter (λ a. p (h a)) l)

@@ -12,19 +12,13 @@ use Rattle.laws.specs.Put.{put}
 use Rattle.laws.specs.Run as Run
 use Rattle.laws.specs.Zip.{zip}
 use Rattle.float.specs.Constants.{f0}
-use Rattle.shape.specs.Plane.{vec}
-use Rattle.shape.specs.declared.Curve.the-variants.{Line}
 use Rattle.trace.specs.Traces.{Trace}
-use Rattle.free.specs.Centres.{centre, centres}
-use Rattle.bow.specs.declared.Routed.{Routed}
-use Rattle.bow.specs.declared.Joined.{Joined}
-use Rattle.bow.specs.declared.Joined.the-variants.{Arrow, Beyond}
-use Rattle.bow.specs.declared.Shape.the-variants as Shape
+use Rattle.shape.specs.Centres.{centre, centres}
 use Rattle.rim.specs.Rims.{leaveAngle, reachAngle}
 use Rattle.spot.specs.declared.Geometry.{Geometry}
 use Rattle.records.specs.Records.{fields}
 use Rattle.place.specs.Scene.{Scene}
-use Rattle.routing.specs.Routing.{Frame, Ends, Size, Numbered, Route, Item, loop, label, Step, numbered, kept, isKept, isLoop, joined, isArc, routeTrace, edgeOf, stepOf, more, cost, after, drawnStep, drawing}
+use Rattle.routing.specs.Routing.{Frame, Ends, Size, Numbered, Item, loop, label, Step, numbered, kept, isKept, isLoop, joined, routeOf, isArc, routeTrace, edgeOf, stepOf, more, cost, after, drawnStep, drawing}
 
 -- ---- a frame and sizes from the slices that hold them
 
@@ -45,30 +39,16 @@ sizesBy widths heights = zip sizeBy widths heights
 abbrev pub isCrossing : Frame → Numbered → Bool
 isCrossing f a = isKept f a && not (isLoop a)
 
--- in place of a curve that no arrow has
-abbrev pub noRouted : Routed
-noRouted = record { curve = Line (vec f0 f0) (vec f0 f0); «tip_angle» = f0; shape = Shape.Line }
-
-abbrev pub routedBy : Joined → Routed
-routedBy (Arrow r) = r
-routedBy Beyond = noRouted
-
-unfoldable pub routedOf : Frame → Numbered → Routed
-routedOf f a = routedBy (joined f a)
-
-abbrev pub routeOf : Frame → Numbered → Route
-routeOf f a = record { from = a; routed = routedOf f a }
-
 -- 0 left out, 1 a loop, 2 an arc, 3 straight
 unfoldable pub kindOf : Frame → Numbered → ℕ
 kindOf f a = cond (isKept f a) (cond (isLoop a) 1 (cond (isArc (routeOf f a)) 2 3)) 0
 
 -- the angles at which an arrow between different states leaves its first and reaches its second; 0 for others
 unfoldable pub leaveOf : Frame → Numbered → Float
-leaveOf f a = cond (isCrossing f a) (leaveAngle (routedOf f a .curve) (centre (f .centres) (a .ends .source))) f0
+leaveOf f a = cond (isCrossing f a) (leaveAngle (joined f a .curve) (centre (f .centres) (a .ends .source))) f0
 
 unfoldable pub reachOf : Frame → Numbered → Float
-reachOf f a = cond (isCrossing f a) (reachAngle (routedOf f a .curve) (centre (f .centres) (a .ends .target))) f0
+reachOf f a = cond (isCrossing f a) (reachAngle (joined f a .curve) (centre (f .centres) (a .ends .target))) f0
 
 -- the trace that it has before any label
 unfoldable pub tracesOf : Frame → Numbered → List Trace

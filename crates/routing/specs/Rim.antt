@@ -1,6 +1,6 @@
--- Where no arrow is beyond, the rim of a state is what the code finds from the angles of all arrows. Assumes nothing.
+-- The rim of a state is what the code finds from the angles of all arrows. Assumes nothing.
 use mathlib.Core.Path.{_≡_, refl, sym, ap, ap₂, _∙_}
-use mathlib.Core.Bool.{false, cond}
+use mathlib.Core.Bool.{cond}
 use mathlib.Core.List.{List, [], _∷_, _++_, map, flatMap, append-nil}
 use Prim.Native.Nat.{ℕ, zero, suc}
 use native.Mathlib.Omega.{arith}
@@ -13,11 +13,12 @@ use Rattle.laws.specs.Filter.{filter}
 use Rattle.laws.specs.Flat.{table}
 use Rattle.laws.specs.Zip.{zip}
 use Rattle.shape.specs.declared.«V».{«V»}
-use Rattle.free.specs.Centres.{centre}
+use Rattle.shape.specs.Centres.{centre}
 use Rattle.rim.specs.Rims.{leaveAngle, reachAngle, joins, angleAt, meets, arrowAngles, startMark, rimAngles, endsAt, allEnds}
 use Rattle.rim.specs.Rims as Rims
-use Rattle.routing.specs.Routing.{Frame, Ends, Numbered, numberedFrom, numbered, beyond, Route, isStart, leaving, reaching, rim}
-use Rattle.routing.specs.Passes.{endsBy, frameBy, isCrossing, routedOf, routeOf, leaveOf, reachOf}
+use Rattle.sheet.specs.Meaning.{isStart}
+use Rattle.routing.specs.Routing.{Frame, Ends, Numbered, numberedFrom, numbered, joined, Route, routeOf, leaving, reaching, rim}
+use Rattle.routing.specs.Passes.{endsBy, frameBy, isCrossing, leaveOf, reachOf}
 use Rattle.routing.specs.Lists.{flat-same, flat-filter, flat-flat, filter-map, flat-map}
 use Rattle.routing.specs.Order.{routesOf, routes-each}
 
@@ -61,18 +62,17 @@ one-meets f k a =
     (λ t. rw t
     (append-nil (routeMeets f k (routeOf f a))
     ∙ ap₂ (λ (x y : List Float). x ++ y)
-    (at-state k (a .ends .source) (f .centres) (leaveAngle (routedOf f a .curve)))
-    (at-state k (a .ends .target) (f .centres) (reachAngle (routedOf f a .curve)))))
+    (at-state k (a .ends .source) (f .centres) (leaveAngle (joined f a .curve)))
+    (at-state k (a .ends .target) (f .centres) (reachAngle (joined f a .curve)))))
     (λ t. rw t)
 
 -- ---- all
 
-pub rim-met : (f : Frame) (k : ℕ) → beyond f ≡ false
-    → rim f k ≡ rimAngles (length (f .flags)) k (isStart (getD (f .flags) k 0)) (map (metBy f) (numbered f))
+pub rim-met : (f : Frame) (k : ℕ) → rim f k ≡ rimAngles (length (f .flags)) k (isStart (getD (f .flags) k 0)) (map (metBy f) (numbered f))
 unfolding rim rimAngles arrowAngles
-rim-met f k h =
+rim-met f k =
     ap (λ (l : List Float). l ++ startMark (isStart (getD (f .flags) k 0)))
-    (ap (flatMap (routeMeets f k)) (routes-each f h)
+    (ap (flatMap (routeMeets f k)) (routes-each f)
     ∙ flat-flat (routeMeets f k) (routesOf f) (numbered f)
     ∙ flat-same _ _ (numbered f) (one-meets f k)
     ∙ sym
@@ -82,12 +82,11 @@ rim-met f k h =
 
 -- the rim of state k, from the arrows' ends and angles in four lists
 pub rim-angles : (flags : List ℕ) (xs ys : List Float) (sources targets : List ℕ) (k : ℕ) → length targets ≡ length sources
-    → beyond (frameBy flags xs ys sources targets) ≡ false
     → rim (frameBy flags xs ys sources targets) k
     ≡ rimAngles (length flags) k (isStart (getD flags k 0))
     (allEnds sources targets
     (map (leaveOf (frameBy flags xs ys sources targets)) (numbered (frameBy flags xs ys sources targets)))
     (map (reachOf (frameBy flags xs ys sources targets)) (numbered (frameBy flags xs ys sources targets))))
-rim-angles flags xs ys sources targets k n h =
-    rim-met (frameBy flags xs ys sources targets) k h
+rim-angles flags xs ys sources targets k n =
+    rim-met (frameBy flags xs ys sources targets) k
     ∙ ap (rimAngles (length flags) k (isStart (getD flags k 0))) (sym (ends-each (frameBy flags xs ys sources targets) 0 sources targets n))

@@ -1,12 +1,11 @@
 -- Routing as a plain run over graph and centres alone: document 01, 'Turns, places and costs'.
-use mathlib.Core.Bool.{Bool, true, false, not, cond, _&&_}
+use mathlib.Core.Bool.{Bool, true, false, not, cond}
 use mathlib.Core.List.{List, [], _∷_, _++_, map, flatMap}
-use Prim.Native.Nat.{ℕ, suc, _-_, _%_}
+use Prim.Native.Nat.{ℕ, suc, _-_}
 use lib.Dec.{ltb, eqb}
 use lib.ListN.{length, getD}
 use lib.Ieee.{Float}
 use Rattle.laws.specs.Filter.{filter}
-use Rattle.laws.specs.Counting.{number}
 use Rattle.laws.specs.Zip.{zip}
 use Rattle.laws.specs.Run as Run
 use Rattle.float.specs.Constants.{f0, f22, f28, π}
@@ -16,10 +15,9 @@ use Rattle.shape.specs.declared.Curve.the-variants.{Line}
 use Rattle.shape.specs.Plane.{vec, sub, angle}
 use Rattle.shape.specs.Curves.{start, end}
 use Rattle.trace.specs.Traces.{Trace, nobody, arrow, traceOf}
-use Rattle.free.specs.Centres.{centre}
+use Rattle.shape.specs.Centres.{centre}
+use Rattle.sheet.specs.Meaning.{isStart, endsBelow}
 use Rattle.bow.specs.declared.Routed.{Routed}
-use Rattle.bow.specs.declared.Joined.{Joined}
-use Rattle.bow.specs.declared.Joined.the-variants.{Arrow, Beyond}
 use Rattle.bow.specs.declared.Shape.{Shape}
 use Rattle.bow.specs.declared.Shape.the-variants as Shape
 use Rattle.bow.specs.Bend.{leads}
@@ -67,7 +65,7 @@ numbered f = numberedFrom 0 (f .arrows)
 
 -- "An arrow with an end not below the number of states is accepted and left out of the records"
 abbrev pub isKept : Frame → Numbered → Bool
-isKept f a = ltb (a .ends .source) (length (f .flags)) && ltb (a .ends .target) (length (f .flags))
+isKept f a = endsBelow (length (f .flags)) (a .ends .source) (a .ends .target)
 
 -- "A loop's ends are the same state"
 abbrev pub isLoop : Numbered → Bool
@@ -87,34 +85,21 @@ crossing f = filter (λ a. not (isLoop a)) (kept f)
 abbrev pub isPaired : Frame → Numbered → Bool
 isPaired f a = leads (map (λ e. e .source) (f .arrows)) (map (λ e. e .target) (f .arrows)) (a .ends .target) (a .ends .source)
 
-unfoldable pub joined : Frame → Numbered → Joined
+unfoldable pub joined : Frame → Numbered → Routed
 joined f a = between (f .centres) (a .ends .source) (a .ends .target) (isPaired f a)
-
--- "a two-way pair whose first free bow exceeds 10^9"
-abbrev pub isBeyond : Joined → Bool
-isBeyond (Arrow r) = false
-isBeyond Beyond = true
-
-unfoldable pub beyond : Frame → Bool
-beyond f = ltb 0 (number (λ a. isBeyond (joined f a)) (crossing f))
 
 -- an arrow with its curve, in arrow order
 pub record Route : Type 0 where
   pub from : Numbered
   pub routed : Routed
 
-abbrev pub routeBy : Numbered → Joined → List Route
-routeBy a (Arrow r) = record { from = a; routed = r } ∷ []
-routeBy a Beyond = []
+abbrev pub routeOf : Frame → Numbered → Route
+routeOf f a = record { from = a; routed = joined f a }
 
 unfoldable pub routes : Frame → List Route
-routes f = flatMap (λ a. routeBy a (joined f a)) (crossing f)
+routes f = map (routeOf f) (crossing f)
 
 -- ---- the first scene: "the states and traces that `geometry` has before any label"
-
--- bit 0 of the flags is the start
-abbrev pub isStart : ℕ → Bool
-isStart flag = eqb (flag % 2) 1
 
 -- the start arrow ends on the rim, from the left, 28 long
 abbrev pub startCurve : «V» → Curve

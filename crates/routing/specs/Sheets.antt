@@ -13,10 +13,12 @@ use Rattle.laws.specs.Loops.{over}
 use Rattle.float.specs.Constants.{f0}
 use Rattle.shape.specs.declared.«V».{«V»}
 use Rattle.shape.specs.Plane.{vec}
-use Rattle.sheet.specs.Sheet.{Arrow, Graph}
+use Rattle.sheet.specs.Sheet.{State, Arrow, Graph, flagsOf}
+use Rattle.sheet.specs.Meaning.{endsBelow}
+use Rattle.sheet.specs.Meaning as Meaning
 use Rattle.label.specs.Label.{blockWidth, blockHeight}
 use Rattle.spot.specs.declared.Geometry.{Geometry}
-use Rattle.routing.specs.Routing.{Ends, Frame, isKept, isLoop, beyond, Size, none, Item, edgeOf, order, drawing, records}
+use Rattle.routing.specs.Routing.{Ends, Frame, isKept, isLoop, Size, none, Item, edgeOf, order, drawing, records}
 use Rattle.routing.specs.Lists.{At}
 use Rattle.routing.specs.Numbers.{numberedAt}
 use Rattle.routing.specs.Slots.{itemFor}
@@ -42,7 +44,7 @@ abbrev pub sizeOf : Arrow → Size
 sizeOf a = sizeBy (a .lines)
 
 unfoldable pub frameOf : Graph → List Float → List Float → Frame
-frameOf g xs ys = record { flags = g .states; centres = table (centreAt xs ys) 0 (length (g .states)); arrows = map endsOf (g .arrows) }
+frameOf g xs ys = record { flags = flagsOf g; centres = table (centreAt xs ys) 0 (length (g .states)); arrows = map endsOf (g .arrows) }
 
 abbrev pub sizesOf : Graph → List Size
 sizesOf g = map sizeOf (g .arrows)
@@ -55,16 +57,28 @@ drawingOf g xs ys = drawing (frameOf g xs ys) (sizesOf g)
 abbrev pub recordsOf : Graph → List Float → List Float → List Geometry
 recordsOf g xs ys = records (frameOf g xs ys) (sizesOf g)
 
+-- past the last state
+abbrev pub noState : State
+noState = record { flags = 0 }
+
 -- past the last arrow
 abbrev pub noArrow : Arrow
 noArrow = record { source = 0; target = 0; lines = [] }
 
 -- "Two sheets have the same states if they have as many, with equal byte 1 at each number; the same arrow ends, if they have as many arrows, with equal from and to at each number."
 pub record SameFrame (g h : Graph) : Type 0 where
-  pub states : g .states ≡ h .states
+  pub states : length (g .states) ≡ length (h .states)
+  pub flags : (k : ℕ) → k < length (g .states) → getD (g .states) k noState .flags ≡ getD (h .states) k noState .flags
   pub many : length (g .arrows) ≡ length (h .arrows)
   pub sources : (k : ℕ) → k < length (g .arrows) → getD (g .arrows) k noArrow .source ≡ getD (h .arrows) k noArrow .source
   pub targets : (k : ℕ) → k < length (g .arrows) → getD (g .arrows) k noArrow .target ≡ getD (h .arrows) k noArrow .target
+
+same-flags : (l m : List State) → length l ≡ length m → ((k : ℕ) → k < length l → getD l k noState .flags ≡ getD m k noState .flags)
+    → map (λ a. a .flags) l ≡ map (λ a. a .flags) m
+same-flags [] [] n e = refl
+same-flags [] (b ∷ m) n e = absurd (omega arith)
+same-flags (a ∷ l) [] n e = absurd (omega arith)
+same-flags (a ∷ l) (b ∷ m) n e = ap₂ (λ (x : ℕ) (r : List ℕ). x ∷ r) (e 0 (omega arith)) (same-flags l m (omega arith) (λ k h. e (suc k) (omega arith)))
 
 same-ends : (l m : List Arrow) → length l ≡ length m → ((k : ℕ) → k < length l → getD l k noArrow .source ≡ getD m k noArrow .source)
     → ((k : ℕ) → k < length l → getD l k noArrow .target ≡ getD m k noArrow .target) → map endsOf l ≡ map endsOf m
@@ -79,8 +93,9 @@ same-ends (a ∷ l) (b ∷ m) n s t =
 pub same-frame : (g h : Graph) (xs ys : List Float) → SameFrame g h → frameOf g xs ys ≡ frameOf h xs ys
 unfolding frameOf
 same-frame g h xs ys e =
-    ap₂ (λ (flags : List ℕ) (arrows : List Ends). record { flags = flags; centres = table (centreAt xs ys) 0 (length flags); arrows = arrows })
-    (e .states) (same-ends (g .arrows) (h .arrows) (e .many) (e .sources) (e .targets))
+    ap₂ (λ (flags : List ℕ) (arrows : List Ends). record { flags = flags; centres = table (centreAt xs ys) 0 (length (g .states)); arrows = arrows })
+    (same-flags (g .states) (h .states) (e .states) (e .flags)) (same-ends (g .arrows) (h .arrows) (e .many) (e .sources) (e .targets))
+    ∙ ap (λ (n : ℕ). record { flags = flagsOf h; centres = table (centreAt xs ys) 0 n; arrows = map endsOf (h .arrows) }) (e .states)
 
 -- the lines of the arrow of turn j
 abbrev pub linesAt : Graph → List Float → List Float → Item → ℕ → List (List ℕ)
@@ -142,25 +157,29 @@ module _ (g : Graph) (xs ys : List Float) (k : ℕ) where
   unfolding frameOf
   arrow-ends = List·getD-map endsOf (g .arrows) k noArrow
 
-  arrow-kept : arrowAt g k .source < length (g .states) → arrowAt g k .target < length (g .states) → isKept (frameOf g xs ys) (numberedAt (frameOf g xs ys) k) ≡ true
+  -- the frame keeps what the graph keeps
+  pub kept-same : isKept (frameOf g xs ys) (numberedAt (frameOf g xs ys) k) ≡ Meaning.isKept g (arrowAt g k)
   unfolding frameOf
+  kept-same = ap₂ (λ (n : ℕ) (e : Ends). endsBelow n (e .source) (e .target)) (length-map (g .states) (λ a. a .flags)) arrow-ends
+
+  arrow-kept : arrowAt g k .source < length (g .states) → arrowAt g k .target < length (g .states) → isKept (frameOf g xs ys) (numberedAt (frameOf g xs ys) k) ≡ true
   arrow-kept a b =
-      ap (λ (e : Ends). ltb (e .source) (length (g .states)) && ltb (e .target) (length (g .states))) arrow-ends
+      kept-same
       ∙ ap₂ (λ (x y : Bool). x && y) (lt-ltb (arrowAt g k .source) (length (g .states)) a) (lt-ltb (arrowAt g k .target) (length (g .states)) b)
 
   arrow-apart : (arrowAt g k .source ≡ arrowAt g k .target → ⊥) → isLoop (numberedAt (frameOf g xs ys) k) ≡ false
   arrow-apart o = ap (λ (e : Ends). eqb (e .source) (e .target)) arrow-ends ∙ ne-eqb (arrowAt g k .source) (arrowAt g k .target) o
 
--- for every graph and all centres at which no two-way pair is refused
-pub demand3 : (g : Graph) (xs ys : List Float) → beyond (frameOf g xs ys) ≡ false → Demand3 g xs ys
-demand3 g xs ys none =
+-- for every graph and all centres
+pub demand3 : (g : Graph) (xs ys : List Float) → Demand3 g xs ys
+demand3 g xs ys =
     let f : Frame = frameOf g xs ys in
     record {
-      turn = λ k h a b. kept-turn f none k (arrow-inside g xs ys k h) (arrow-kept g xs ys k a b);
-      cheapest = λ t h. records-cheapest f none (sizesOf g) t h;
+      turn = λ k h a b. kept-turn f k (arrow-inside g xs ys k h) (arrow-kept g xs ys k a b);
+      cheapest = λ t h. records-cheapest f (sizesOf g) t h;
       turns = λ h e. ap order (same-frame g h xs ys e);
       prefix = λ h e t l a.
-          records-prefix f none (sizesOf g) (sizesOf h) t l (λ j i. sizes-agree g h xs ys noItem j e (a j i))
+          records-prefix f (sizesOf g) (sizesOf h) t l (λ j i. sizes-agree g h xs ys noItem j e (a j i))
           ∙ ap (λ (z : Frame). recordFor z (sizesOf h) (edgeAt f t)) (same-frame g h xs ys e);
-      curves = λ h e k l o. Demand.curves f none (sizesOf g) (sizesOf h) k (arrow-inside g xs ys k l) (arrow-apart g xs ys k o) ∙ ap (λ (z : Frame). map strokeOf (recordFor z (sizesOf h) k)) (same-frame g h xs ys e);
+      curves = λ h e k l o. Demand.curves f (sizesOf g) (sizesOf h) k (arrow-inside g xs ys k l) (arrow-apart g xs ys k o) ∙ ap (λ (z : Frame). map strokeOf (recordFor z (sizesOf h) k)) (same-frame g h xs ys e);
     }

@@ -21,8 +21,8 @@ use Rattle.records.specs.Records.{fields}
 use Rattle.records.specs.Flats.{part-kept}
 use Rattle.place.specs.Scene.{Scene}
 use Rattle.looped.specs.Looped.{loopAt}
-use Rattle.routing.specs.Routing.{Frame, Size, Numbered, numbered, isKept, isLoop, kept, beyond, firstScene, Item, loop, label, edgeOf, isArc, order, Step, stepOf, steps, drawnBy, more, cost, after, drawnStep, drawing, drawnFor, records}
-use Rattle.routing.specs.Passes.{routeOf, kindOf, itemsOf, Drawn, drawnOf, store, takenAt, played, turned, passed, slotsOf, gathered}
+use Rattle.routing.specs.Routing.{Frame, Size, Numbered, numbered, isKept, isLoop, kept, routeOf, firstScene, Item, loop, label, edgeOf, isArc, order, Step, stepOf, steps, drawnBy, more, cost, after, drawnStep, drawing, drawnFor, records}
+use Rattle.routing.specs.Passes.{kindOf, itemsOf, Drawn, drawnOf, store, takenAt, played, turned, passed, slotsOf, gathered}
 use Rattle.routing.specs.Lists.{map-join, map-flat, map-flat-one, over-flat, filter-flat, flat-same, flat-filter, flat-flat, filter-map, map-map}
 use Rattle.routing.specs.Numbers.{numberedAt, isNumber, number-one, number-none, flat-numbered}
 use Rattle.routing.specs.Order.{order-passes}
@@ -35,14 +35,14 @@ pass-run f sizes p d =
     sym (over-flat (played f) d (λ a. map (stepOf sizes) (itemsOf f p a)) (numbered f))
     ∙ ap (over (played f) d) (sym (map-flat (stepOf sizes) (itemsOf f p) (numbered f)))
 
-pub run-passes : (f : Frame) (sizes : List Size) (d : Drawn) → beyond f ≡ false
+pub run-passes : (f : Frame) (sizes : List Size) (d : Drawn)
     → passed f sizes 2 (passed f sizes 1 (passed f sizes 0 d)) ≡ over (played f) d (steps f sizes)
-run-passes f sizes d h =
+run-passes f sizes d =
     let turns : ℕ → List Step = λ p. map (stepOf sizes) (flatMap (itemsOf f p) (numbered f)) in
     pass-run f sizes 2 (passed f sizes 1 (passed f sizes 0 d))
     ∙ ap (λ (c : Drawn). over (played f) c (turns 2)) (pass-run f sizes 1 (passed f sizes 0 d) ∙ ap (λ (c : Drawn). over (played f) c (turns 1)) (pass-run f sizes 0 d))
     ∙ sym
-    (ap (λ (l : List Item). over (played f) d (map (stepOf sizes) l)) (order-passes f h)
+    (ap (λ (l : List Item). over (played f) d (map (stepOf sizes) l)) (order-passes f)
     ∙ ap (over (played f) d) (map-join (stepOf sizes) (flatMap (itemsOf f 0) (numbered f) ++ flatMap (itemsOf f 1) (numbered f)) (flatMap (itemsOf f 2) (numbered f)))
     ∙ over-join (played f) d (map (stepOf sizes) (flatMap (itemsOf f 0) (numbered f) ++ flatMap (itemsOf f 1) (numbered f))) (turns 2)
     ∙ ap (λ (l : List Step). over (played f) (over (played f) d l) (turns 2)) (map-join (stepOf sizes) (flatMap (itemsOf f 0) (numbered f)) (flatMap (itemsOf f 1) (numbered f)))
@@ -55,10 +55,10 @@ slots-run f s l [] = refl
 slots-run f s l (t ∷ ts) = slots-run f (after f s t (takenAt f s t)) (store l (drawnStep f t (takenAt f s t))) ts
 
 -- after the three passes, each drawing is stored in its slot, in the order of the turns
-pub passes : (f : Frame) (sizes : List Size) (l : List Float) → beyond f ≡ false
+pub passes : (f : Frame) (sizes : List Size) (l : List Float)
     → passed f sizes 2 (passed f sizes 1 (passed f sizes 0 (drawnOf (firstScene f) l))) .slots ≡ over store l (drawing f sizes)
 unfolding drawing
-passes f sizes l h = ap (λ (d : Drawn). d .slots) (run-passes f sizes (drawnOf (firstScene f) l) h) ∙ slots-run f (firstScene f) l (steps f sizes)
+passes f sizes l = ap (λ (d : Drawn). d .slots) (run-passes f sizes (drawnOf (firstScene f) l)) ∙ slots-run f (firstScene f) l (steps f sizes)
 
 -- ---- each kept arrow is drawn once
 
@@ -121,25 +121,25 @@ one-turn f a = go (isKept f a) (isLoop a) (isArc (routeOf f a))
     go true false false = refl
     go false l c = refl
 
-own-passes : (f : Frame) (k : ℕ) → beyond f ≡ false
+own-passes : (f : Frame) (k : ℕ)
     → filter (isTurn k) (order f) ≡ filter (isTurn k) (flatMap (itemsOf f 0) (numbered f)) ++ filter (isTurn k) (flatMap (itemsOf f 1) (numbered f))
     ++ filter (isTurn k) (flatMap (itemsOf f 2) (numbered f))
-own-passes f k h =
-    ap (filter (isTurn k)) (order-passes f h)
+own-passes f k =
+    ap (filter (isTurn k)) (order-passes f)
     ∙ filter-join (isTurn k) (flatMap (itemsOf f 0) (numbered f) ++ flatMap (itemsOf f 1) (numbered f)) (flatMap (itemsOf f 2) (numbered f))
     ∙ ap (λ (l : List Item). l ++ filter (isTurn k) (flatMap (itemsOf f 2) (numbered f)))
     (filter-join (isTurn k) (flatMap (itemsOf f 0) (numbered f)) (flatMap (itemsOf f 1) (numbered f)))
 
 -- "Each arrow of the records has one turn; a left-out arrow has none"
-pub own-turn : (f : Frame) (k : ℕ) → beyond f ≡ false → k < length (f .arrows)
+pub own-turn : (f : Frame) (k : ℕ) → k < length (f .arrows)
     → filter (isTurn k) (order f) ≡ cond (isKept f (numberedAt f k)) (itemFor f (numberedAt f k) ∷ []) []
-own-turn f k h l =
-    own-passes f k h
+own-turn f k l =
+    own-passes f k
     ∙ ap₂ (λ (x y : List Item). x ++ y) (ap₂ (λ (x y : List Item). x ++ y) (pass-items f 0 k l) (pass-items f 1 k l)) (pass-items f 2 k l)
     ∙ one-turn f (numberedAt f k)
 
-pub own-none : (f : Frame) (k : ℕ) → beyond f ≡ false → length (f .arrows) ≤ k → filter (isTurn k) (order f) ≡ []
-own-none f k h l = own-passes f k h ∙ ap₂ (λ (x y : List Item). x ++ y) (ap₂ (λ (x y : List Item). x ++ y) (none 0) (none 1)) (none 2)
+pub own-none : (f : Frame) (k : ℕ) → length (f .arrows) ≤ k → filter (isTurn k) (order f) ≡ []
+own-none f k l = own-passes f k ∙ ap₂ (λ (x y : List Item). x ++ y) (ap₂ (λ (x y : List Item). x ++ y) (none 0) (none 1)) (none 2)
   where
     none : (p : ℕ) → filter (isTurn k) (flatMap (itemsOf f p) (numbered f)) ≡ []
     none p = own-pass f p k ∙ ap (flatMap (itemsOf f p)) (number-none f k l) ∙ unfold flatMap in refl
@@ -149,10 +149,10 @@ pub edges-own : (f : Frame) (sizes : List Size) (k : ℕ) → map (λ g. g .edge
 edges-own f sizes k =
     sym (filter-map (λ e. eqb e k) (λ g. g .edge) (drawing f sizes)) ∙ ap (filter (λ e. eqb e k)) (edges-drawn f sizes) ∙ filter-map (λ e. eqb e k) edgeOf (order f)
 
-pub drawn-once : (f : Frame) (sizes : List Size) (k : ℕ) → beyond f ≡ false → k < length (f .arrows)
+pub drawn-once : (f : Frame) (sizes : List Size) (k : ℕ) → k < length (f .arrows)
     → map (λ g. g .edge) (drawnFor (drawing f sizes) (numberedAt f k)) ≡ cond (isKept f (numberedAt f k)) (k ∷ []) []
-drawn-once f sizes k h l =
-    edges-own f sizes k ∙ ap (map edgeOf) (own-turn f k h l) ∙ go (isKept f (numberedAt f k)) (isLoop (numberedAt f k))
+drawn-once f sizes k l =
+    edges-own f sizes k ∙ ap (map edgeOf) (own-turn f k l) ∙ go (isKept f (numberedAt f k)) (isLoop (numberedAt f k))
   where
     go : (b c : Bool) → map edgeOf (cond b (cond c (loop (numberedAt f k)) (label (routeOf f (numberedAt f k))) ∷ []) []) ≡ cond b (k ∷ []) []
     go true true = refl
@@ -166,12 +166,12 @@ pub records-each : (f : Frame) (sizes : List Size) → records f sizes ≡ flatM
 unfolding records kept
 records-each f sizes = flat-filter (drawnFor (drawing f sizes)) (isKept f) (numbered f)
 
-pub records-edges : (f : Frame) (sizes : List Size) → beyond f ≡ false → map (λ g. g .edge) (records f sizes) ≡ map (λ a. a .edge) (kept f)
-records-edges f sizes h =
+pub records-edges : (f : Frame) (sizes : List Size) → map (λ g. g .edge) (records f sizes) ≡ map (λ a. a .edge) (kept f)
+records-edges f sizes =
     ap (map (λ g. g .edge)) (records-each f sizes)
     ∙ map-flat (λ g. g .edge) (λ a. cond (isKept f a) (drawnFor (drawing f sizes) a) []) (numbered f)
     ∙ flat-numbered _ (λ a. cond (isKept f a) (a .edge ∷ []) []) f
-    (λ k l. go k (isKept f (numberedAt f k)) (drawnFor (drawing f sizes) (numberedAt f k)) (drawn-once f sizes k h l))
+    (λ k l. go k (isKept f (numberedAt f k)) (drawnFor (drawing f sizes) (numberedAt f k)) (drawn-once f sizes k l))
     ∙ sym (flat-filter (λ a. a .edge ∷ []) (isKept f) (numbered f))
     ∙ sym (map-flat-one (λ a. a .edge) (filter (isKept f) (numbered f)))
     ∙ unfold kept in refl
@@ -180,8 +180,8 @@ records-edges f sizes h =
     go k true gs e = e
     go k false gs e = refl
 
-pub records-length : (f : Frame) (sizes : List Size) → beyond f ≡ false → length (records f sizes) ≡ length (kept f)
-records-length f sizes h = sym (length-map (records f sizes) (λ g. g .edge)) ∙ ap length (records-edges f sizes h) ∙ length-map (kept f) (λ a. a .edge)
+pub records-length : (f : Frame) (sizes : List Size) → length (records f sizes) ≡ length (kept f)
+records-length f sizes = sym (length-map (records f sizes) (λ g. g .edge)) ∙ ap length (records-edges f sizes) ∙ length-map (kept f) (λ a. a .edge)
 
 -- ---- the slots hold the records
 
@@ -212,13 +212,13 @@ slot-one k l [] e = absurd (omega (arith, ap length e))
 slot-one k l (g ∷ []) e = refl
 slot-one k l (g ∷ h ∷ gs) e = absurd (omega (arith, ap length e))
 
-pub slots-gathered : (f : Frame) (sizes : List Size) (l : List Float) → beyond f ≡ false → 20 * length (f .arrows) ≤ length l
+pub slots-gathered : (f : Frame) (sizes : List Size) (l : List Float) → 20 * length (f .arrows) ≤ length l
     → gathered f (over store l (drawing f sizes)) ≡ flatMap fields (records f sizes)
 unfolding gathered slotsOf kindOf flatMap
-slots-gathered f sizes l h room =
+slots-gathered f sizes l room =
     flat-numbered _ (λ a. flatMap fields (cond (isKept f a) (drawnFor (drawing f sizes) a) [])) f
     (λ k i. go k (isKept f (numberedAt f k)) (isLoop (numberedAt f k)) (isArc (routeOf f (numberedAt f k))) (drawnFor (drawing f sizes) (numberedAt f k))
-    (slot-last k l (drawing f sizes) (omega arith)) (drawn-once f sizes k h i))
+    (slot-last k l (drawing f sizes) (omega arith)) (drawn-once f sizes k i))
     ∙ sym (flat-flat fields (λ a. cond (isKept f a) (drawnFor (drawing f sizes) a) []) (numbered f))
     ∙ ap (flatMap fields) (sym (records-each f sizes))
   where
@@ -231,9 +231,9 @@ slots-gathered f sizes l h room =
     go k false c d gs e n = refl
 
 -- what the three passes leave, gathered: the records
-pub passes-gathered : (f : Frame) (sizes : List Size) (l : List Float) → beyond f ≡ false → 20 * length (f .arrows) ≤ length l
+pub passes-gathered : (f : Frame) (sizes : List Size) (l : List Float) → 20 * length (f .arrows) ≤ length l
     → gathered f (passed f sizes 2 (passed f sizes 1 (passed f sizes 0 (drawnOf (firstScene f) l))) .slots) ≡ flatMap fields (records f sizes)
-passes-gathered f sizes l h room = ap (gathered f) (passes f sizes l h) ∙ slots-gathered f sizes l h room
+passes-gathered f sizes l room = ap (gathered f) (passes f sizes l) ∙ slots-gathered f sizes l room
 
 -- ---- the other slots stay
 

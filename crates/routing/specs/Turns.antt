@@ -11,9 +11,9 @@ use Rattle.spot.specs.declared.Geometry.{Geometry}
 use Rattle.place.specs.Scene.{Scene, withBox, withTrace}
 use Rattle.place.specs.Turn as Place
 use Rattle.looped.specs.Looped.{traceBy, directionCost, loopTaken, looped}
-use Rattle.routing.specs.Routing.{Frame, Size, none, Numbered, Route, Item, loop, label, Step, stepOf, loopTurn, labelTurn, listedBy, drawnStep}
+use Rattle.routing.specs.Routing.{Frame, Size, none, Numbered, Route, routeOf, Item, loop, label, Step, stepOf, loopTurn, labelTurn, listedBy, drawnStep}
 use Rattle.routing.specs.Demand.{listed-some, sized}
-use Rattle.routing.specs.Passes.{routeOf, kindOf, itemOf, itemsOf, Drawn, drawnOf, store, takenAt, played, turned}
+use Rattle.routing.specs.Passes.{kindOf, itemOf, itemsOf, Drawn, drawnOf, store, takenAt, played, turned}
 
 -- the size of the label of arrow k
 abbrev pub sizeFor : List Size → ℕ → Size

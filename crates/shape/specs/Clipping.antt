@@ -20,7 +20,7 @@ nothing = record { enter = f0; leave = f0; ok = false }
 -- p < 0: the segment enters at r = q / p; nothing is left where r exceeds high, else low is raised to r where r is above it.
 -- p > 0: it leaves at r; nothing is left where r is below low, else high is lowered to r where r is below it.
 -- p = 0: nothing is left where q < 0.
--- A NaN rate, which no routed drawing has, is none of the three: that side cuts nothing, as in the Rust.
+-- A NaN rate is none of the three: that side cuts nothing, as in the Rust. That no routed drawing has one is not proved.
 unfoldable pub test : Float → Float → Float → Float → Clip
 test p q low high =
     let r = q ⊘ p in

@@ -1,6 +1,9 @@
 // Points, boxes and curves of f64 by value; clipping and crossing. Each operation rounds once, in the order written.
 ghost use mathlib.Core.Path.{_≡_};
+ghost use Prim.Native.Nat.{_<_};
+ghost use lib.ListN.{length};
 ghost use Rattle.shape.specs.Plane as S;
+ghost use Rattle.shape.specs.Centres as P;
 ghost use Rattle.shape.specs.Curves as C;
 ghost use Rattle.shape.specs.Clipping as L;
 ghost use Rattle.shape.specs.Steps as T;
@@ -315,4 +318,13 @@ pub fn segments_cross(a: V, b: V, c: V, d: V) -> bool
         return orient(a, b, c) * orient(a, b, d) < 0.0;
     }
     false
+}
+
+// The centre of state k.
+pub fn centre(xs: &[f64], ys: &[f64], k: usize) -> V
+    requires { ⌜ length (now ys) ≡ length (now xs) ⌝ }
+    requires { ⌜ k < length (now xs) ⌝ }
+    ensures { λ r. ⌜ r ≡ P.centre (P.centres (now (xs .entry)) (now (ys .entry))) k ⌝ }
+{
+    V::new(xs[k], ys[k])
 }

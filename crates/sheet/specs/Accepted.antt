@@ -7,14 +7,14 @@ use native.Mathlib.Omega.{arith}
 use lib.Dec.{ltb, eqb}
 use lib.ListN.{length, getD, take, drop, length-take, length-drop}
 use Rattle.laws.specs.Loops.{anyUp}
+use Rattle.laws.specs.Refusals.{Clear}
 use borrow.Author.Tests.{ltb-false, le-ltb, eqb-true, not-false}
 use Rattle.text.specs.Utf8.{wellFormed}
 use Rattle.sheet.specs.Sheet.{count, kindOf, byteOne, piece, Arrow, Graph, meaning}
-use Rattle.sheet.specs.Refusals.{any, wrongLength, wrongVersion, someSet, wrongRecord, wrongBytes, wrongChains, longLine, largeArrow, overLimits, illLine, illArrow, illFormed, mainScreen, checkOf}
+use Rattle.sheet.specs.Refusals.{any, wrongLength, someSet, wrongRecord, wrongBytes, longLine, largeArrow, overLimits, illLine, illArrow, illFormed, refusals, mainScreen, checkOf}
 use Rattle.sheet.specs.Any.{or-left, or-right, or-none, none-at, none-all, none-up}
-use Rattle.sheet.specs.Order.{Verdict, by-1, by-2, by-3, by-4, by-5, by-6, by-none, verdict, verdict-is}
-use Rattle.sheet.specs.declared.Checked.{Checked}
-use Rattle.sheet.specs.declared.Checked.the-variants.{Accepted, Refused}
+use Rattle.sheet.specs.Order.{accepted-exactly}
+use Rattle.sheet.specs.declared.Checked.the-variants.{Accepted}
 use Rattle.sheet.specs.declared.Limits.{Limits}
 
 right-length : (s : List ℕ) → wrongLength s ≡ false → length s ≡ 16 * (1 + count s)
@@ -31,34 +31,6 @@ few s e =
     let a : length s ≤ 65536 = ltb-false 65536 (length s) (or-left (ltb 65536 (length s)) (not (eqb (length s) (16 * (1 + count s)))) over) in
     let b : length s ≡ 16 * (1 + count s) = right-length s e in
     omega arith
-
--- no refusal's cause holds
-pub record Sound (m : Limits) (s : List ℕ) : Type 0 where
-  pub sized : wrongLength s ≡ false
-  pub versioned : wrongVersion s ≡ false
-  pub bytes : wrongBytes s ≡ false
-  pub chains : wrongChains s ≡ false
-  pub limits : overLimits m (meaning s) ≡ false
-  pub formed : illFormed (meaning s) ≡ false
-
-clash : {C : Type 0} (n : ℕ) → Refused n ≡ Accepted → C
-clash {C} n e = let z : _≡_ {A = ℕ} 0 1 = cc in absurd (omega arith)
-
-sound-by : {m : Limits} {s : List ℕ} {c : Checked} → c ≡ Accepted → Verdict m s c → Sound m s
-sound-by q (by-1 a) = clash 1 q
-sound-by q (by-2 a b) = clash 2 q
-sound-by q (by-4 a b c) = clash 4 q
-sound-by q (by-3 a b c d) = clash 3 q
-sound-by q (by-5 a b c d e) = clash 5 q
-sound-by q (by-6 a b c d e f) = clash 6 q
-sound-by q (by-none a b c d e f) = record { sized = a; versioned = b; bytes = c; chains = d; limits = e; formed = f }
-
-pub sound : (m : Limits) (s : List ℕ) → checkOf m s ≡ Accepted → Sound m s
-sound m s q = sound-by q (verdict m s)
-
--- A sheet is accepted exactly when none of the six causes holds.
-pub accepted-exactly : (m : Limits) (s : List ℕ) → (checkOf m s ≡ Accepted → Sound m s) × (Sound m s → checkOf m s ≡ Accepted)
-accepted-exactly m s = (sound m s, λ o. sym (verdict-is (by-none (o .sized) (o .versioned) (o .bytes) (o .chains) (o .limits) (o .formed))))
 
 -- arrow k of a graph, and its line j; empty ones past the end
 abbrev pub noArrow : Arrow
@@ -134,7 +106,7 @@ module _ (m : Limits) (g : Graph) (w : Within m g) where
 
 -- An accepted sheet is within the limits, and its lines are well-formed.
 pub within : (m : Limits) (s : List ℕ) → checkOf m s ≡ Accepted → Within m (meaning s)
-within m s q = graph-within m (meaning s) (sound m s q .limits) (sound m s q .formed)
+within m s q = let c : Clear (refusals m s) = accepted-exactly m s .0 q in graph-within m (meaning s) (c .none 5) (c .none 6)
 
 -- At the main screen: at most 64 states, 256 arrows, 8 lines an arrow and 96 bytes a line.
 pub record Shown (g : Graph) : Type 0 where

@@ -9,7 +9,7 @@ use lib.ListN.{length, getD, replicate}
 use borrow.Author.Tests.{eqb-false}
 use Rattle.laws.specs.Loops.{anyFor, anyUp, over}
 use Rattle.laws.specs.Refusals.{decide}
-use Rattle.sheet.specs.Sheet.{kindOf, byteOne, next, fromOf, toOf, firstLine, firstText, piece, chainBy, metLine, metArrow, met, lineOf, linesFrom, Arrow, Graph, arrowOf, statesOf, arrowsOf, meaning}
+use Rattle.sheet.specs.Sheet.{kindOf, byteOne, next, fromOf, toOf, firstLine, firstText, piece, chainBy, metLine, metArrow, met, lineOf, linesFrom, State, Arrow, Graph, arrowOf, statesOf, arrowsOf, meaning}
 use Rattle.sheet.specs.Refusals.{any, repeats, isSet, wrongRecord, wrongBytes, indices, wrongChains, largeArrow, overLimits, illArrow, illFormed, mainScreen, checkOf}
 use Rattle.sheet.specs.Renumber.{Renumbered}
 use Rattle.sheet.specs.declared.Checked.{Checked}
@@ -121,7 +121,7 @@ worked = tt
 
 -- ---- meanings
 abbrev pub smallGraph : Graph
-smallGraph = record { states = 1 ∷ 0 ∷ []; arrows = record { source = 0; target = 1; lines = (97 ∷ []) ∷ [] } ∷ [] }
+smallGraph = record { states = record { flags = 1 } ∷ record { flags = 0 } ∷ []; arrows = record { source = 0; target = 1; lines = (97 ∷ []) ∷ [] } ∷ [] }
 
 pub small-means : meaning small ≡ smallGraph
 unfolding statesOf arrowsOf arrowOf linesFrom lineOf chainBy flatMap

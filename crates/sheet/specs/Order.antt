@@ -1,66 +1,50 @@
 -- The order of the refusals: a sheet gets exactly one answer, each number only under its own cause, and whenever no cause before it holds. Assumes nothing.
-use mathlib.Core.Path.{_≡_, ap, _∙_}
-use mathlib.Core.Bool.{true, false}
-use mathlib.Core.List.{List}
+use mathlib.Core.Path.{_≡_, refl, sym, ap, _∙_}
+use mathlib.Core.List.{List, [], _∷_, _++_}
 use Prim.Native.Nat.{ℕ}
-use Rattle.laws.specs.Cases.{by-bool}
-use Rattle.laws.specs.Refusals.{decide, decide-map}
-use Rattle.sheet.specs.Sheet.{meaning}
-use Rattle.sheet.specs.Refusals.{wrongLength, wrongVersion, wrongBytes, wrongChains, overLimits, illFormed, refusals, checkOf}
+use native.Mathlib.Omega.{arith}
+use Rattle.laws.specs.Filter.{filter}
+use Rattle.laws.specs.Refusals.{Refusal, decide, decide-join, decide-map, numbersIn, orderBut, Clear, First, given-exactly, answered-exactly}
+use Rattle.sheet.specs.Refusals.{refusals, checkOf}
 use Rattle.sheet.specs.declared.Checked.{Checked}
 use Rattle.sheet.specs.declared.Checked.the-variants.{Accepted, Refused}
 use Rattle.sheet.specs.declared.Limits.{Limits}
 
--- which answer a sheet gets, and why
-pub data Verdict (m : Limits) (s : List ℕ) : Checked → Type 0 where
-  by-1 : wrongLength s ≡ true → Verdict m s (Refused 1)
-  by-2 : wrongLength s ≡ false → wrongVersion s ≡ true → Verdict m s (Refused 2)
-  by-4 : wrongLength s ≡ false → wrongVersion s ≡ false → wrongBytes s ≡ true → Verdict m s (Refused 4)
-  by-3 : wrongLength s ≡ false → wrongVersion s ≡ false → wrongBytes s ≡ false → wrongChains s ≡ true → Verdict m s (Refused 3)
-  by-5 : wrongLength s ≡ false → wrongVersion s ≡ false → wrongBytes s ≡ false → wrongChains s ≡ false → overLimits m (meaning s) ≡ true → Verdict m s (Refused 5)
-  by-6 : wrongLength s ≡ false → wrongVersion s ≡ false → wrongBytes s ≡ false → wrongChains s ≡ false → overLimits m (meaning s) ≡ false → illFormed (meaning s) ≡ true
-      → Verdict m s (Refused 6)
-  by-none : wrongLength s ≡ false → wrongVersion s ≡ false → wrongBytes s ≡ false → wrongChains s ≡ false → overLimits m (meaning s) ≡ false → illFormed (meaning s) ≡ false
-      → Verdict m s Accepted
+-- "Order: 11, 1, 2, 4, 3, 5, 6, 8, 9, 10, 7": a sheet alone has those of them that are neither of a layout kind, of centres, nor of an output
+pub sheet-order : (m : Limits) (s : List ℕ) → numbersIn (refusals m s) ≡ orderBut (11 ∷ 8 ∷ 9 ∷ 10 ∷ 7 ∷ [])
+unfolding filter
+sheet-order m s = refl
 
--- Whoever knows why knows the answer.
-pub verdict-is : {m : Limits} {s : List ℕ} {c : Checked} → Verdict m s c → c ≡ checkOf m s
-unfolding checkOf decide
-verdict-is (by-1 a) = rw a
-verdict-is (by-2 a b) = rw (a, b)
-verdict-is (by-4 a b c) = rw (a, b, c)
-verdict-is (by-3 a b c d) = rw (a, b, c, d)
-verdict-is (by-5 a b c d e) = rw (a, b, c, d, e)
-verdict-is (by-6 a b c d e f) = rw (a, b, c, d, e, f)
-verdict-is (by-none a b c d e f) = rw (a, b, c, d, e, f)
+same : (m n : ℕ) → Refused m ≡ Refused n → m ≡ n
+same m n e = cc
 
-moved : {m : Limits} {s : List ℕ} {c d : Checked} → c ≡ d → Verdict m s c → Verdict m s d
-moved {m} {s} e v = rw e at v
+apart : (n : ℕ) → Refused n ≡ Accepted → ⊥
+apart n e = let z : _≡_ {A = ℕ} 0 1 = cc in omega arith
 
--- Each sheet's answer has its reason.
-pub verdict : (m : Limits) (s : List ℕ) → Verdict m s (checkOf m s)
-verdict m s =
-    by-bool (wrongLength s) (λ a. told (by-1 a))
-    (λ a. by-bool (wrongVersion s) (λ b. told (by-2 a b))
-    (λ b. by-bool (wrongBytes s) (λ c. told (by-4 a b c))
-    (λ c. by-bool (wrongChains s) (λ d. told (by-3 a b c d))
-    (λ d. by-bool (overLimits m (meaning s)) (λ e. told (by-5 a b c d e))
-    (λ e. by-bool (illFormed (meaning s)) (λ f. told (by-6 a b c d e f)) (λ f. told (by-none a b c d e f)))))))
-  where
-    told : {c : Checked} → Verdict m s c → Verdict m s (checkOf m s)
-    told v = moved (verdict-is v) v
+module _ (m : Limits) (s : List ℕ) where
+  -- A sheet is refused by a number exactly where its cause is the first that holds.
+  pub refused-exactly : (n : ℕ) → (checkOf m s ≡ Refused n → First (refusals m s) n) × (First (refusals m s) n → checkOf m s ≡ Refused n)
+  unfolding checkOf
+  refused-exactly n = given-exactly Refused Accepted same apart (refusals m s) n
+
+  -- A sheet is accepted exactly where no cause holds.
+  pub accepted-exactly : (checkOf m s ≡ Accepted → Clear (refusals m s)) × (Clear (refusals m s) → checkOf m s ≡ Accepted)
+  unfolding checkOf
+  accepted-exactly = answered-exactly Refused Accepted same apart (refusals m s)
 
 -- ---- for calls that refuse more after a sheet is accepted
 -- a refused sheet refuses the call with its number, and an accepted one leaves the rest to decide
-module _ {A : Type 0} (m : Limits) (s : List ℕ) (refuse : ℕ → A) (answer : A) where
+module _ {A : Type 0} (m : Limits) (s : List ℕ) (qs : List Refusal) (refuse : ℕ → A) (answer : A) where
   abbrev carried : Checked → A
-  carried Accepted = answer
+  carried Accepted = decide qs refuse answer
   carried (Refused n) = refuse n
 
-  pub decide-refused : (n : ℕ) → Refused n ≡ checkOf m s → refuse n ≡ decide (refusals m s) refuse answer
+  checked : carried (checkOf m s) ≡ decide (refusals m s ++ qs) refuse answer
   unfolding checkOf
-  decide-refused n e = ap carried e ∙ decide-map carried (refusals m s) Refused Accepted
+  checked = decide-map carried (refusals m s) Refused Accepted ∙ sym (decide-join (refusals m s) qs refuse answer)
 
-  pub decide-accepted : Accepted ≡ checkOf m s → answer ≡ decide (refusals m s) refuse answer
-  unfolding checkOf
-  decide-accepted e = ap carried e ∙ decide-map carried (refusals m s) Refused Accepted
+  pub check-refused : (n : ℕ) → Refused n ≡ checkOf m s → refuse n ≡ decide (refusals m s ++ qs) refuse answer
+  check-refused n e = ap carried e ∙ checked
+
+  pub check-accepted : Accepted ≡ checkOf m s → decide qs refuse answer ≡ decide (refusals m s ++ qs) refuse answer
+  check-accepted e = ap carried e ∙ checked

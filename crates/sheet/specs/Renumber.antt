@@ -8,7 +8,7 @@ use native.Mathlib.Omega.{arith}
 use lib.Dec.{ltb, eqb}
 use borrow.Author.Tests.{ltb-false, eqb-true, eqb-false, ne-eqb, eq-eqb, not-false}
 use Rattle.laws.specs.Cases.{by-bool}
-use Rattle.sheet.specs.Sheet.{count, kindOf, byteOne, next, fromOf, toOf, firstState, firstArrow, firstLine, firstText, piece, chainBy, chain, stateChain, arrowChain, lineChain, textChain, Met, meet, metAlone, metLine, metArrow, met, Arrow, Graph, lineOf, linesFrom, arrowOf, statesOf, arrowsOf, meaning}
+use Rattle.sheet.specs.Sheet.{count, kindOf, byteOne, next, fromOf, toOf, firstState, firstArrow, firstLine, firstText, piece, chainBy, chain, stateChain, arrowChain, lineChain, textChain, Met, meet, metAlone, metLine, metArrow, met, State, Arrow, Graph, lineOf, linesFrom, arrowOf, stateOf, statesOf, arrowsOf, meaning}
 use Rattle.sheet.specs.Refusals.{any, isAbove, isOther, wrongChains}
 use Rattle.sheet.specs.Any.{not-both, or-left, or-right, or-none, any-head, any-rest, any-join, any-narrower, any-flat}
 use Rattle.sheet.specs.Once.{chain-nonzero, right-inside, right-kinds}
@@ -156,11 +156,11 @@ module _ (new : ℕ → ℕ) (s t : List ℕ) (r : Renumbered new s t) where
   unfolding statesOf
   states-same e =
       let g = states-right s e in
-      ap (map (byteOne t)) (chain-is 1 (metAlone 1) (firstState s) (firstState t) (alone-right s 1) g (r .states))
-      ∙ map-along new (passes (metAlone 1)) (byteOne t) (byteOne s) (stateChain s) (all-pass (metAlone 1) (firstState s) g)
+      ap (map (stateOf t)) (chain-is 1 (metAlone 1) (firstState s) (firstState t) (alone-right s 1) g (r .states))
+      ∙ map-along new (passes (metAlone 1)) (stateOf t) (stateOf s) (stateChain s) (all-pass (metAlone 1) (firstState s) g)
       (λ x b.
       let v = alone-right s 1 x (or-right (eqb 0 x) (any (isWrong s) (metAlone 1 x)) b) in
-      r .flags x (some-one (metAlone 1) x b) (in-count s 1 x v) (of-kind s 1 x v))
+      ap (λ (n : ℕ). record { flags = n }) (r .flags x (some-one (metAlone 1) x b) (in-count s 1 x v) (of-kind s 1 x v)))
 
   arrows-same : wrongChains s ≡ false → arrowsOf t ≡ arrowsOf s
   unfolding arrowsOf
@@ -172,4 +172,4 @@ module _ (new : ℕ → ℕ) (s t : List ℕ) (r : Renumbered new s t) where
 
   -- A sheet that passes the test of refusal 3, and is renumbered, means what it meant.
   pub meaning-same : wrongChains s ≡ false → meaning t ≡ meaning s
-  meaning-same e = ap₂ (λ (a : List ℕ) (b : List Arrow). record { states = a; arrows = b }) (states-same e) (arrows-same e)
+  meaning-same e = ap₂ (λ (a : List State) (b : List Arrow). record { states = a; arrows = b }) (states-same e) (arrows-same e)

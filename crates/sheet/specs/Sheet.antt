@@ -104,13 +104,17 @@ met s = flatMap (metAlone 1) (stateChain s) ++ flatMap (metArrow s) (arrowChain 
 
 -- ---- meaning: 'States and arrows are numbered from 0 in chain order.'
 
+-- Kind 1, state, byte 1: 'bit 0 start, bit 1 final'.
+pub record State : Type 0 where
+  pub flags : ℕ
+
 pub record Arrow : Type 0 where
   pub source : ℕ
   pub target : ℕ
   pub lines : List (List ℕ)
 
 pub record Graph : Type 0 where
-  pub states : List ℕ
+  pub states : List State
   pub arrows : List Arrow
 
 -- 'A line's text is its pieces joined.'
@@ -124,8 +128,11 @@ linesFrom s i = map (lineOf s) (chain s i)
 unfoldable pub arrowOf : List ℕ → ℕ → Arrow
 arrowOf s k = record { source = fromOf s k; target = toOf s k; lines = linesFrom s (firstLine s k) }
 
-unfoldable pub statesOf : List ℕ → List ℕ
-statesOf s = map (byteOne s) (stateChain s)
+abbrev pub stateOf : List ℕ → ℕ → State
+stateOf s k = record { flags = byteOne s k }
+
+unfoldable pub statesOf : List ℕ → List State
+statesOf s = map (stateOf s) (stateChain s)
 
 unfoldable pub arrowsOf : List ℕ → List Arrow
 arrowsOf s = map (arrowOf s) (arrowChain s)
@@ -133,3 +140,7 @@ arrowsOf s = map (arrowOf s) (arrowChain s)
 -- What a sheet means: the flag byte of each state, and of each arrow its ends and its lines.
 abbrev pub meaning : List ℕ → Graph
 meaning s = record { states = statesOf s; arrows = arrowsOf s }
+
+-- The flag bytes, in the order of the states: all of the states that routing and layout take.
+abbrev pub flagsOf : Graph → List ℕ
+flagsOf g = map (λ a. a .flags) (g .states)

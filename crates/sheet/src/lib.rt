@@ -3,6 +3,7 @@ ghost use mathlib.Core.Path.{_≡_};
 ghost use Prim.Native.Nat.{_+_, _*_, _<_, _≤_};
 ghost use Rattle.laws.specs.Loops.{anyUp};
 ghost use Rattle.sheet.specs.Sheet as S;
+ghost use Rattle.sheet.specs.Meaning as M;
 ghost use Rattle.sheet.specs.Refusals as R;
 
 // The most that a screen shows.
@@ -16,6 +17,18 @@ pub struct Limits {
 pub enum Checked {
     Accepted,
     Refused(u8),
+}
+
+// Document 01's capacities.
+pub fn main_screen() -> Limits
+    ensures { λ r. ⌜ r ≡ R.mainScreen ⌝ }
+{
+    Limits {
+        states: 64,
+        arrows: 256,
+        lines: 8,
+        bytes: 96,
+    }
 }
 
 // The byte at i, 0 past the end.
@@ -143,4 +156,23 @@ pub fn wrong_bytes(s: &[u8]) -> bool
         return true;
     }
     some_wrong(s, word_at(s, 2))
+}
+
+// Whether bit 0 of a state's flags is set.
+pub fn is_start(flag: u8) -> bool
+    ensures { λ r. ⌜ r ≡ M.isStart flag ⌝ }
+{
+    flag % 2 == 1
+}
+
+// The first start state, or 0.
+pub fn start_index(flags: &[u8]) -> usize
+    ensures { λ r. ⌜ r ≡ M.startIndex (now (flags .entry)) ⌝ }
+{
+    for i in 0..flags.len() {
+        if is_start(flags[i]) {
+            return i;
+        }
+    }
+    0
 }

@@ -1,5 +1,4 @@
 pub mod Shown
-pub mod Clears
-pub mod Edges
+pub mod Found
 pub mod Proof
 pub mod Measured

@@ -1,7 +1,7 @@
 -- A listing shows what routing gives at its layout's centres. Assumes nothing.
 use mathlib.Core.Path.{_≡_, refl, sym, ap, ap₂, _∙_}
 use mathlib.Core.Bool.{Bool, true, false, not, _&&_, _||_}
-use mathlib.Core.List.{List, [], _∷_, _++_}
+use mathlib.Core.List.{List, [], _∷_, _++_, map, flatMap}
 use Prim.Native.Nat.{ℕ, _+_, _*_, _/_, _≤_}
 use native.Mathlib.Nat.{zero-add}
 use native.Mathlib.Omega.{arith}
@@ -10,58 +10,57 @@ use lib.ListN.{length, getD, take, drop, length-map}
 use lib.Seq.{take-at}
 use lib.Ieee.{Float}
 use Rattle.laws.specs.Put.{put, put-eq}
+use Rattle.laws.specs.Refusals.{Clear, clear-none, without, clear-from, clear-decides}
 use Rattle.laws.specs.Zip.{zip-length}
-use Rattle.sheet.specs.Sheet.{meaning}
+use Rattle.sheet.specs.Sheet.{meaning, flagsOf}
 use Rattle.sheet.specs.Refusals.{refusals}
 use Rattle.sheet.specs.Any.{or-left, or-right, or-none}
-use Rattle.sheet.specs.Accepted.{Shown, accepted-exactly, shown}
+use Rattle.sheet.specs.Order.{accepted-exactly}
+use Rattle.sheet.specs.Accepted.{Shown, shown}
 use Rattle.shape.specs.declared.«V».{«V»}
 use Rattle.shape.specs.Plane.{vec}
-use Rattle.free.specs.Centres.{centres}
-use Rattle.svg.specs.Paths.{curveText, pointWritable}
+use Rattle.shape.specs.Centres.{centres}
+use Rattle.svg.specs.Paths.{curvePath, curveText, pathWritable}
 use Rattle.spot.specs.declared.Geometry.{Geometry}
 use Rattle.records.specs.Records.{decodeGeometry, decodeRecords}
 use Rattle.records.specs.Back.{length-records}
 use Rattle.records.specs.Flats.{records-at}
-use Rattle.routing.specs.Routing.{beyond}
+use Rattle.beyond.specs.Beyond.{beyond}
 use Rattle.routing.specs.Sheets.{frameOf, sizesOf, endsOf}
 use Rattle.routing.specs.Decoded.{records-decoded}
-use Rattle.lines.specs.Every.{every}
-use Rattle.lines.specs.Lines.{pathsText, pathsWritable, pathOk, recordOk, statesOk, recordsOk, startsOk, listText, listWritable, statesFrom}
+use Rattle.lines.specs.Every.{every, and-first, and-second}
+use Rattle.lines.specs.Each.{every-join, every-all}
+use Rattle.lines.specs.Lines.{pathsOf, pathsText, pathsWritable, statesFrom, starts, fieldWritable, fieldsWritable, lineWritable, linesWritable, sizeLine, stateLine, edgeLine, recordLines, startLine, listLines, listText, listWritable}
 use Rattle.draw.specs.Drawn.{farCentre}
-use Rattle.layout.specs.Layout.{Layout, planOf, layoutBeyond}
+use Rattle.layout.specs.Layout.{Layout, planOf, lastKind}
+use Rattle.plan.specs.Measured.{layoutBeyond}
 use Rattle.layout.specs.Alike.{layout-whole}
 use Rattle.diagram.specs.Calls.{number, values, mainScreen, short, onto, drawnOf, numbersOf, routeRefusals, route, recordsAfter, layoutFor, layoutRefusals, layout, xsAfter, ysAfter, listing, listingWritable, listRefusals, list, listAfter}
-use Rattle.diagram.specs.Decided.{Clear, clear-decides, answered-clear}
+use Rattle.diagram.specs.Decided.{answered-clear}
 use Rattle.demand.specs.Demand.{Call, Answered, recordsLeft, recordAt, pathAt, lineAt}
 use Rattle.demand.specs.Proof.{drawn, stands, path-is}
 use Rattle.shown.specs.Shown.{Lent, Listed, LaidOut, xsLeft, ysLeft, routed, recordsRead, outLeft, lineOf, edgeOf, arrowAt, Shows, Enough, ListingShows}
 use Rattle.shown.specs.Shown as Shown
-use Rattle.shown.specs.Clears.{clear-none, clear-more, clear-rest, clear-join, clear-front}
-use Rattle.shown.specs.Edges.{edge-at}
+use Rattle.shown.specs.Found.{edge-at}
 
 -- ---- a listing whose numbers may be written has paths that may be written
 
-and-first : (a b : Bool) → (a && b) ≡ true → a ≡ true
-and-first true b e = refl
-and-first false b e = e
-
-and-second : (a b : Bool) → (a && b) ≡ true → b ≡ true
-and-second true b e = e
-and-second false b e = absurd (no e)
-  where
-    no : false ≡ true → ⊥
-    no q = let z : _≡_ {A = ℕ} 0 1 = cc in omega arith
-
-paths-ok : (gs : List Geometry) → every recordOk gs ≡ true → every pathOk gs ≡ true
-unfolding every recordOk
+paths-ok : (gs : List Geometry) → every (λ g. linesWritable (recordLines g)) gs ≡ true → pathsWritable gs ≡ true
+unfolding pathsWritable pathsOf linesWritable lineWritable fieldsWritable fieldWritable every
 paths-ok [] e = refl
 paths-ok (g ∷ gs) e =
-    ap₂ (λ (a b : Bool). a && b) (and-first (pathOk g) _ (and-first (recordOk g) (every recordOk gs) e)) (paths-ok gs (and-second (recordOk g) (every recordOk gs) e))
+    let one = linesWritable (recordLines g) in
+    let more = every (λ g. linesWritable (recordLines g)) gs in
+    ap₂ (λ (a b : Bool). a && b) (and-first (pathWritable (curvePath (g .curve))) true (and-first (lineWritable (edgeLine g)) _ (and-first one more e))) (paths-ok gs (and-second one more e))
 
 list-paths : (w h : Float) (cs : List «V») (flags : List ℕ) (gs : List Geometry) → listWritable w h cs flags gs ≡ true → pathsWritable gs ≡ true
-unfolding listWritable recordsOk pathsWritable
-list-paths w h cs flags gs e = paths-ok gs (and-first (recordsOk gs) _ (and-second (statesOk (statesFrom 0 cs)) _ (and-second (pointWritable (vec w h)) (statesOk (statesFrom 0 cs) && (recordsOk gs && startsOk flags (statesFrom 0 cs))) e)))
+unfolding listWritable listLines linesWritable every
+list-paths w h cs flags gs e =
+    let front = map stateLine (statesFrom 0 cs) in
+    let last = map startLine (starts flags (statesFrom 0 cs)) in
+    let behind : every lineWritable (flatMap recordLines gs ++ last) ≡ true =
+    and-second (every lineWritable front) _ (sym (every-join lineWritable front (flatMap recordLines gs ++ last)) ∙ and-second (lineWritable (sizeLine w h)) _ e) in
+    paths-ok gs (sym (every-all lineWritable recordLines gs) ∙ and-first _ (every lineWritable last) (sym (every-join lineWritable (flatMap recordLines gs) last) ∙ behind))
 
 -- ---- records are read back
 
@@ -69,24 +68,17 @@ module _ (r : Call) (a : Answered r) where
   few-arrows : length (frameOf (meaning (r .sheet)) (r .xs) (r .ys) .arrows) ≤ 65536
   unfolding frameOf
   few-arrows =
-      let c : Clear (refusals mainScreen (r .sheet)) = clear-front (refusals mainScreen (r .sheet)) _ (stands r a .0) in
-      let g : Shown (meaning (r .sheet)) = shown (r .sheet) (accepted-exactly mainScreen (r .sheet) .1 (record {
-        sized = c .none 0 (omega arith);
-        versioned = c .none 1 (omega arith);
-        bytes = c .none 2 (omega arith);
-        chains = c .none 3 (omega arith);
-        limits = c .none 4 (omega arith);
-        formed = c .none 5 (omega arith);
-      })) in
+      let c : Clear (refusals mainScreen (r .sheet)) = clear-from (refusals mainScreen (r .sheet)) [] _ clear-none (stands r a .0) refl in
+      let g : Shown (meaning (r .sheet)) = shown (r .sheet) (accepted-exactly mainScreen (r .sheet) .1 c) in
       omega (arith, g .arrows, length-map (meaning (r .sheet) .arrows) endsOf)
 
-  numbers-many : a .numbers ≡ 20 * length (drawn r)
+  pub numbers-many : a .numbers ≡ 20 * length (drawn r)
   numbers-many = ap (λ (p : ℕ × ℕ). p .0) (stands r a .1) ∙ length-records (drawn r)
 
   room : length (numbersOf (drawn r)) ≤ length (r .records)
-  room = ltb-false (length (r .records)) (length (numbersOf (drawn r))) (or-left (short (length (r .records)) (numbersOf (drawn r))) _ (stands r a .0 .none 9 (omega arith)))
+  room = ltb-false (length (r .records)) (length (numbersOf (drawn r))) (or-left (short (length (r .records)) (numbersOf (drawn r))) _ (stands r a .0 .none 7))
 
-  read-back : recordsRead r a ≡ drawn r
+  pub read-back : recordsRead r a ≡ drawn r
   unfolding recordsAfter
   read-back =
       let n : a .numbers / 20 ≡ length (drawn r) = omega (arith, numbers-many) in
@@ -96,7 +88,7 @@ module _ (r : Call) (a : Answered r) where
       ap₂ decodeRecords n e
       ∙ records-decoded (frameOf (meaning (r .sheet)) (r .xs) (r .ys)) (sizesOf (meaning (r .sheet))) (r .records) few-arrows (omega (arith, room, length-records (drawn r)))
 
-  record-read : (k : ℕ) (d : Geometry) → 20 * k + 20 ≤ a .numbers → getD (recordsRead r a) k d ≡ decodeGeometry (recordAt r k)
+  pub record-read : (k : ℕ) (d : Geometry) → 20 * k + 20 ≤ a .numbers → getD (recordsRead r a) k d ≡ decodeGeometry (recordAt r k)
   record-read k d h = records-at decodeGeometry 20 (a .numbers / 20) (recordsLeft r) k d (omega arith)
 
 -- ---- what `layout` leaves
@@ -114,10 +106,10 @@ module _ (c : Lent) (l : LaidOut c) where
   many = ap (λ (t : ℕ × Float × Float). t .0) (laying .1)
 
   xs-many : length (its .xs) ≡ l .states
-  xs-many = layout-whole (c .kind) (planOf (meaning (c .sheet))) .0 ∙ sym many
+  xs-many = layout-whole (c .kind) (meaning (c .sheet)) (ltb-false lastKind (c .kind) (laying .0 .none 11)) .0 ∙ sym many
 
   ys-many : length (its .ys) ≡ l .states
-  ys-many = layout-whole (c .kind) (planOf (meaning (c .sheet))) .1 ∙ sym many
+  ys-many = layout-whole (c .kind) (meaning (c .sheet)) (ltb-false lastKind (c .kind) (laying .0 .none 11)) .1 ∙ sym many
 
   xs-are : xsLeft c l ≡ its .xs
   unfolding xsAfter
@@ -131,7 +123,7 @@ module _ (c : Lent) (l : LaidOut c) where
       ap (take (l .states)) (clear-decides (λ (n : ℕ). c .ys) (onto (its .ys) (c .ys)) (layoutRefusals (c .sheet) (c .kind) (length (c .xs)) (length (c .ys))) (laying .0))
       ∙ take-at (its .ys) (drop (length (its .ys)) (c .ys)) (l .states) ys-many
 
-  centres-many : length (centres (xsLeft c l) (ysLeft c l)) ≡ l .states
+  pub centres-many : length (centres (xsLeft c l) (ysLeft c l)) ≡ l .states
   centres-many = ap₂ (λ (xs ys : List Float). length (centres xs ys)) xs-are ys-are ∙ zip-length vec (its .xs) (its .ys) (ys-many ∙ sym xs-many) ∙ xs-many
 
 -- ---- where `list` answers
@@ -154,25 +146,22 @@ module _ (c : Lent) (a : Listed c) where
   unfolding list
   heard = answered-clear (listRefusals (c .sheet) (c .kind) (length (c .out))) (length (listing (c .sheet) (c .kind))) (a .bytes) (sym (a .answer))
 
-  sheet-clear : Clear (refusals mainScreen (c .sheet))
-  sheet-clear = clear-front (refusals mainScreen (c .sheet)) _ (clear-rest _ _ (heard .0))
-
   not-refused : refused ≡ false
-  not-refused = or-left refused (beyond (frameOf (meaning (c .sheet)) (plan .xs) (plan .ys))) (heard .0 .none 8 (omega arith))
+  not-refused = or-left refused (beyond (frameOf (meaning (c .sheet)) (plan .xs) (plan .ys))) (heard .0 .none 9)
 
   not-far : far ≡ false
-  not-far = ap (λ (b : Bool). not b && far) (sym not-refused) ∙ heard .0 .none 7 (omega arith)
+  not-far = ap (λ (b : Bool). not b && far) (sym not-refused) ∙ heard .0 .none 8
 
   writable : not (pathsWritable gs) ≡ false
   writable =
       ap not
-      (list-paths (plan .width) (plan .height) (centres (plan .xs) (plan .ys)) (meaning (c .sheet) .states) gs
-      (not-false (listingWritable (c .sheet) (c .kind)) (heard .0 .none 9 (omega arith))))
+      (list-paths (plan .width) (plan .height) (centres (plan .xs) (plan .ys)) (flagsOf (meaning (c .sheet))) gs
+      (not-false (listingWritable (c .sheet) (c .kind)) (heard .0 .none 10)))
 
   lays : length (meaning (c .sheet) .states) ≤ length (c .xs) → length (meaning (c .sheet) .states) ≤ length (c .ys) → LaidOut c
   unfolding layout
   lays h i =
-      let k = layout-whole (c .kind) (planOf (meaning (c .sheet))) in
+      let k = layout-whole (c .kind) (meaning (c .sheet)) (ltb-false lastKind (c .kind) (heard .0 .none 11)) in
       let o : (short (length (c .xs)) (plan .xs) || short (length (c .ys)) (plan .ys)) ≡ false =
       or-none _ _ (le-ltb (length (c .xs)) (length (plan .xs)) (omega (arith, k .0))) (le-ltb (length (c .ys)) (length (plan .ys)) (omega (arith, k .1))) in
       record {
@@ -181,16 +170,16 @@ module _ (c : Lent) (a : Listed c) where
         height = plan .height;
         answer =
             clear-decides number _ (layoutRefusals (c .sheet) (c .kind) (length (c .xs)) (length (c .ys)))
-            (clear-more _ _ (heard .0 .none 0 (omega arith)) (clear-join (refusals mainScreen (c .sheet)) _ sheet-clear (clear-more _ _ not-refused (clear-more _ _ o clear-none))));
+            (clear-from _ _ _ (without 9 not-refused (without 7 o clear-none)) (heard .0) refl);
       }
 
   routes-at : (n m : ℕ) → length (numbersOf gs) ≤ n → length (pathsText gs) ≤ m → route (c .sheet) (plan .xs) (plan .ys) n m ≡ values (length (numbersOf gs), length (pathsText gs))
   unfolding route
   routes-at n m h i =
       let o : (short n (numbersOf gs) || short m (pathsText gs)) ≡ false = or-none _ _ (le-ltb n (length (numbersOf gs)) h) (le-ltb m (length (pathsText gs)) i) in
-      let pairs : beyond (frameOf (meaning (c .sheet)) (plan .xs) (plan .ys)) ≡ false = or-right refused _ (heard .0 .none 8 (omega arith)) in
+      let pairs : beyond (frameOf (meaning (c .sheet)) (plan .xs) (plan .ys)) ≡ false = or-right refused _ (heard .0 .none 9) in
       clear-decides number _ (routeRefusals (c .sheet) (plan .xs) (plan .ys) n m)
-      (clear-join (refusals mainScreen (c .sheet)) _ sheet-clear (clear-more _ _ not-far (clear-more _ _ pairs (clear-more _ _ writable (clear-more _ _ o clear-none)))))
+      (clear-from _ _ _ (without 8 not-far (without 9 pairs (without 10 writable (without 7 o clear-none)))) (heard .0) refl)
 
   module _ (l : LaidOut c) where
     routes : Enough (routed c l)
@@ -204,12 +193,21 @@ module _ (c : Lent) (a : Listed c) where
       read : recordsRead (routed c l) r ≡ gs
       read = read-back (routed c l) r ∙ ap₂ (drawnOf (c .sheet)) (xs-are c l) (ys-are c l)
 
+      -- whatever is made of the size, the centres, the flags and the records
+      module _ {A : Type 0} (f : Float → Float → List «V» → List ℕ → List Geometry → A) where
+        pub same-listed : f (l .width) (l .height) (centres (xsLeft c l) (ysLeft c l)) (flagsOf (meaning (c .sheet))) (recordsRead (routed c l) r)
+            ≡ f (plan .width) (plan .height) (centres (plan .xs) (plan .ys)) (flagsOf (meaning (c .sheet))) gs
+        same-listed =
+            let flags = flagsOf (meaning (c .sheet)) in
+            ap₂ (λ (w h : Float). f w h (centres (xsLeft c l) (ysLeft c l)) flags (recordsRead (routed c l) r)) (ap (λ (t : ℕ × Float × Float). t .1) (laying c l .1)) (ap (λ (t : ℕ × Float × Float). t .2) (laying c l .1))
+            ∙ ap₂ (λ (xs ys : List Float). f (plan .width) (plan .height) (centres xs ys) flags (recordsRead (routed c l) r)) (xs-are c l) (ys-are c l)
+            ∙ ap (f (plan .width) (plan .height) (centres (plan .xs) (plan .ys)) flags) read
+
       same-text : Shown.shown c l r ≡ listing (c .sheet) (c .kind)
-      same-text =
-          let flags = meaning (c .sheet) .states in
-          ap₂ (λ (w h : Float). listText w h (centres (xsLeft c l) (ysLeft c l)) flags (recordsRead (routed c l) r)) (ap (λ (t : ℕ × Float × Float). t .1) (laying c l .1)) (ap (λ (t : ℕ × Float × Float). t .2) (laying c l .1))
-          ∙ ap₂ (λ (xs ys : List Float). listText (plan .width) (plan .height) (centres xs ys) flags (recordsRead (routed c l) r)) (xs-are c l) (ys-are c l)
-          ∙ ap (listText (plan .width) (plan .height) (centres (plan .xs) (plan .ys)) flags) read
+      same-text = same-listed listText
+
+      pub all-writable : listWritable (l .width) (l .height) (centres (xsLeft c l) (ysLeft c l)) (flagsOf (meaning (c .sheet))) (recordsRead (routed c l) r) ≡ true
+      all-writable = same-listed listWritable ∙ not-false (listingWritable (c .sheet) (c .kind)) (heard .0 .none 10)
 
       text : outLeft c ≡ onto (Shown.shown c l r) (c .out)
       unfolding listAfter
@@ -235,7 +233,7 @@ module _ (c : Lent) (a : Listed c) where
         edge =
             let t : List ℕ = Shown.shown c l r in
             ap₂ (λ (n : ℕ) (o : List ℕ). lineAt (lineOf n k) o) (sym (centres-many c l)) text
-            ∙ edge-at (l .width) (l .height) (centres (xsLeft c l) (ysLeft c l)) (meaning (c .sheet) .states) (recordsRead (routed c l) r) (drop (length t) (c .out)) k other
+            ∙ edge-at (l .width) (l .height) (centres (xsLeft c l) (ysLeft c l)) (flagsOf (meaning (c .sheet))) (recordsRead (routed c l) r) (drop (length t) (c .out)) (sizeLine (l .width) (l .height)) k other
             (omega (arith, numbers-many (routed c l) r, ap length (read-back (routed c l) r)))
             ∙ ap₂ edgeOf arrow path
 

@@ -1,16 +1,16 @@
 -- Document 01, 'Turns, places and costs': "A listing shows what routing gives at its layout's centres." On what `list`, `layout` and `route` answer and leave in the slices they are lent.
 -- Here is what it says; `listing-shows` of Proof proves it.
 use mathlib.Core.Path.{_≡_}
-use mathlib.Core.List.{List, [], _∷_, _++_}
+use mathlib.Core.List.{List, [], _∷_}
 use Prim.Native.Nat.{ℕ, _+_, _*_, _/_, _≤_}
 use lib.ListN.{length, getD, take}
 use lib.Ieee.{Float, nan}
-use Rattle.sheet.specs.Sheet.{meaning}
+use Rattle.sheet.specs.Sheet.{meaning, flagsOf}
 use Rattle.trace.specs.Form.{wholeOf}
-use Rattle.free.specs.Centres.{centres}
+use Rattle.shape.specs.Centres.{centres}
 use Rattle.spot.specs.declared.Geometry.{Geometry}
 use Rattle.records.specs.Records.{decodeRecords}
-use Rattle.lines.specs.Lines.{titled, listText}
+use Rattle.lines.specs.Lines.{textLine, wholeField, wordField, bodyText, listText}
 use Rattle.diagram.specs.Calls.{values, onto, route, layout, xsAfter, ysAfter, list, listAfter}
 use Rattle.demand.specs.Demand.{Call, Answered, recordsLeft, recordAt, pathAt, lineAt}
 
@@ -57,7 +57,7 @@ recordsRead r a = decodeRecords (a .numbers / 20) (recordsLeft r)
 
 -- the listing's text, of the size and centres that `layout` gives, the sheet's flag bytes for the starts, and the records that `route` gives
 abbrev pub shown : (c : Lent) (l : LaidOut c) → Answered (routed c l) → List ℕ
-shown c l r = listText (l .width) (l .height) (centres (xsLeft c l) (ysLeft c l)) (meaning (c .sheet) .states) (recordsRead (routed c l) r)
+shown c l r = listText (l .width) (l .height) (centres (xsLeft c l) (ysLeft c l)) (flagsOf (meaning (c .sheet))) (recordsRead (routed c l) r)
 
 -- the slice lent to `list`, afterwards
 abbrev pub outLeft : Lent → List ℕ
@@ -69,7 +69,7 @@ lineOf states k = 1 + states + 4 * k
 
 -- the line `edge`: "arrow, path"
 abbrev pub edgeOf : ℕ → List ℕ → List ℕ
-edgeOf arrow path = titled (101 ∷ 100 ∷ 103 ∷ 101 ∷ []) arrow ++ (32 ∷ path)
+edgeOf arrow path = bodyText (textLine "edge" (wholeField arrow ∷ wordField path ∷ []))
 
 -- "arrow number", the first of record k's twenty
 abbrev pub arrowAt : Call → ℕ → ℕ

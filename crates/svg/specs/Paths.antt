@@ -2,6 +2,7 @@
 use mathlib.Core.Bool.{Bool, true, _&&_}
 use mathlib.Core.List.{List, [], _∷_, _++_}
 use Prim.Native.Nat.{ℕ}
+use Prim.Native.Char.{code}
 use lib.Ieee.{Float}
 use Rattle.float.specs.Ops.{neg}
 use Rattle.float.specs.Constants.{f9, f3-5}
@@ -19,21 +20,20 @@ pub record Command (A : Type 0) : Type 0 where
   pub points : List A
 
 module _ {A : Type 0} where
-  -- `M`, `L`, `Q`, `C` and `Z`
   abbrev pub moveTo : A → Command A
-  moveTo p = record { letter = 77; points = p ∷ [] }
+  moveTo p = record { letter = code "M"; points = p ∷ [] }
 
   abbrev pub lineTo : A → Command A
-  lineTo p = record { letter = 76; points = p ∷ [] }
+  lineTo p = record { letter = code "L"; points = p ∷ [] }
 
   abbrev pub quadTo : A → A → Command A
-  quadTo c p = record { letter = 81; points = c ∷ p ∷ [] }
+  quadTo c p = record { letter = code "Q"; points = c ∷ p ∷ [] }
 
   abbrev pub cubicTo : A → A → A → Command A
-  cubicTo c d p = record { letter = 67; points = c ∷ d ∷ p ∷ [] }
+  cubicTo c d p = record { letter = code "C"; points = c ∷ d ∷ p ∷ [] }
 
   abbrev pub closePath : Command A
-  closePath = record { letter = 90; points = [] }
+  closePath = record { letter = code "Z"; points = [] }
 
 -- "A curve is a line, a quadratic or a cubic, carrying its own points"
 abbrev pub curvePath : Curve → List (Command «V»)

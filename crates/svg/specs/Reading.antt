@@ -1,7 +1,8 @@
--- A path's text, read by the grammar, gives back its commands and its points in hundredths, and there is nothing before and nothing after. Assumes nothing.
+-- The text of every curve and of every arrowhead is read by the grammar as its commands with the hundredths of its coordinates, and nothing is left over.
+-- Assumes nothing.
 use mathlib.Core.Path.{_≡_, refl, sym, ap, _∙_}
 use mathlib.Core.Bool.{Bool, true, false, cond, _||_}
-use mathlib.Core.List.{List, [], _∷_, _++_, append-assoc, map}
+use mathlib.Core.List.{List, [], _∷_, _++_, append-assoc, map, flatMap}
 use mathlib.Core.Option.{Option, none, some, bind}
 use Prim.Native.Nat.{ℕ, zero, suc, _+_, _≤_, _<_}
 use native.Mathlib.Omega.{arith}
@@ -9,22 +10,25 @@ use lib.Dec.{eqb, leb}
 use lib.ListN.{length, length-append}
 use lib.Ieee.{Float}
 use borrow.Author.Tests.{leb-true, ne-eqb}
-use Rattle.number.specs.Number.{Hundredths, hundredths, numText}
-use Rattle.number.specs.Reading.{Read, readNumber, Ends, Begins, num-back, num-begins}
+use Rattle.number.specs.Number.{hundredths, numText}
+use Rattle.number.specs.Rounded.{writable-rounded}
+use Rattle.number.specs.Reading.{Begins, num-begins, leading, following}
 use Rattle.shape.specs.declared.«V».{«V»}
 use Rattle.shape.specs.declared.Curve.{Curve}
 use Rattle.shape.specs.declared.Curve.the-variants.{Line, Quad, Cubic}
-use Rattle.svg.specs.Paths.{Command, curvePath, headPath, headOf, pointText, pointsText, commandText, moreText, pathText, curveText, headText}
-use Rattle.svg.specs.Grammar.{isSpace, skip, Point, point, readPair, readPairs, pairsAfter, readCommand, readCommands, opened, readPath}
+use Rattle.svg.specs.Paths.{Command, moveTo, lineTo, quadTo, cubicTo, closePath, curvePath, headPath, headOf, pointText, pointsText, commandText, moreText, pathText, curveText, headText}
+use Rattle.svg.specs.Grammar.{isSpace, skip, Numeral, Segment, segment, Reader, orElse, comma, pastCommaWsp, _then_, sequenceBy, sequence, sign, someDigits, pointDigits, plainNumber, signedNumber, coordinate, coordinatePair, coordinatePairDouble, coordinatePairTriplet, lettered, closepath, moveto, firstOf, drawtoCommand, drawtoCommands, svgPath}
+use Rattle.svg.specs.Numbers.{numeralOf, Stops, num-read, worth}
+use Rattle.svg.specs.Reads.{coordinates, SameNumbers, SameCommands, ReadsAs, Paths}
 
--- ---- points and commands in hundredths
-abbrev pub pointOf : «V» → Point
-pointOf p = point (hundredths (p .x)) (hundredths (p .y))
+-- ---- what a point and a command are read as
+abbrev pub numeralsOf : «V» → List Numeral
+numeralsOf p = numeralOf (hundredths (p .x)) ∷ numeralOf (hundredths (p .y)) ∷ []
 
-abbrev pub inHundredths : Command «V» → Command Point
-inHundredths c = record { letter = c .letter; points = map pointOf (c .points) }
+abbrev pub segmentOf : Command «V» → Segment
+segmentOf c = segment (c .letter) (flatMap numeralsOf (c .points))
 
--- ---- white space
+-- ---- white space and commas
 no-space : (b : ℕ) → leb 45 b ≡ true → isSpace b ≡ false
 no-space b h =
     let l : 45 ≤ b = leb-true 45 b h in
@@ -35,109 +39,229 @@ unfolding skip
 skip-none [] h = absurd h
 skip-none (b ∷ l) h = rw (no-space b h)
 
--- ---- a point
-pair-read : (l : List ℕ) (a b : Read) → readNumber (skip l) ≡ some a → readNumber (skip (a .rest)) ≡ some b → readPair l ≡ some (point (a .number) (b .number), b .rest)
-unfolding readPair bind
-pair-read l a b e f = rw (e, f)
+comma-none : (l : List ℕ) → Begins l → comma l ≡ l
+unfolding comma
+comma-none [] h = absurd h
+comma-none (b ∷ l) h = let k : 45 ≤ b = leb-true 45 b h in rw (ne-eqb b 44 (λ e. omega arith))
 
--- a blank and a number
-number-back : (v : Float) (rest : List ℕ) → Ends rest → readNumber (skip (32 ∷ numText v ++ rest)) ≡ some (record { number = hundredths v; rest = rest })
-unfolding skip
-number-back v rest h = ap readNumber (skip-none (numText v ++ rest) (num-begins v rest)) ∙ num-back v rest h
+gap-none : (l : List ℕ) → Begins l → pastCommaWsp (32 ∷ l) ≡ l
+unfolding pastCommaWsp skip
+gap-none l h = ap (λ (m : List ℕ). skip (comma m)) (skip-none l h) ∙ ap skip (comma-none l h) ∙ skip-none l h
 
-pair-back : (p : «V») (rest : List ℕ) → Ends rest → readPair (pointText p ++ rest) ≡ some (pointOf p, rest)
-unfolding pointText
-pair-back p rest h =
-    let after = 32 ∷ numText (p .y) ++ rest in
-    ap readPair (ap (λ (l : List ℕ). 32 ∷ l) (append-assoc (numText (p .x)) (32 ∷ numText (p .y)) rest))
-    ∙ pair-read (32 ∷ numText (p .x) ++ after) (record { number = hundredths (p .x); rest = after }) (record { number = hundredths (p .y); rest = rest })
-    (number-back (p .x) after (refl, refl)) (number-back (p .y) rest h)
+-- ---- p, comma_wsp?, q; and a sequence of one
+module _ (p q : Reader) where
+  then-read : (l m rest : List ℕ) (ns ks : List Numeral) → p l ≡ some (ns, m) → q (pastCommaWsp m) ≡ some (ks, rest) → (p then q) l ≡ some (ns ++ ks, rest)
+  unfolding _then_ bind
+  then-read l m rest ns ks e f = rw (e, f)
 
--- ---- points
-points-end : (ps : List «V») (rest : List ℕ) → Ends rest → Ends (pointsText ps ++ rest)
+  then-none : (l : List ℕ) → p l ≡ none → (p then q) l ≡ none
+  unfolding _then_ bind
+  then-none l e = rw e
+
+module _ (p : Reader) where
+  sequence-none : (f : ℕ) (l : List ℕ) → p l ≡ none → sequenceBy p f l ≡ none
+  unfolding sequenceBy bind
+  sequence-none zero l e = refl
+  sequence-none (suc f) l e = rw e
+
+  sequence-one : (l rest : List ℕ) (ns : List Numeral) → p l ≡ some (ns, rest) → p (pastCommaWsp rest) ≡ none → sequence p l ≡ some (ns, rest)
+  unfolding sequence sequenceBy bind orElse
+  sequence-one l rest ns e f = rw (e, sequence-none (length l) (pastCommaWsp rest) f)
+
+-- ---- a point with a text behind it, less the blank before it
+abbrev pairText : «V» → List ℕ → List ℕ
+pairText p rest = numText (p .x) ++ (32 ∷ (numText (p .y) ++ rest))
+
+-- points with a text behind them
+abbrev pointsIn : List «V» → List ℕ → List ℕ
+pointsIn [] rest = rest
+pointsIn (p ∷ ps) rest = 32 ∷ pairText p (pointsIn ps rest)
+
+points-in : (ps : List «V») (rest : List ℕ) → pointsText ps ++ rest ≡ pointsIn ps rest
 unfolding pointsText pointText
-points-end [] rest h = h
-points-end (p ∷ ps) rest h = (refl, refl)
+points-in [] rest = refl
+points-in (p ∷ ps) rest =
+    ap (λ (l : List ℕ). 32 ∷ l)
+    (append-assoc (numText (p .x) ++ (32 ∷ numText (p .y))) (pointsText ps) rest
+    ∙ append-assoc (numText (p .x)) (32 ∷ numText (p .y)) (pointsText ps ++ rest)
+    ∙ ap (λ (l : List ℕ). pairText p l) (points-in ps rest))
 
-pairs-read : (n : ℕ) (l m : List ℕ) (p : Point) (ps : List Point) (rest : List ℕ) → readPair l ≡ some (p, m) → readPairs n m ≡ some (ps, rest) → readPairs (suc n) l ≡ some (p ∷ ps, rest)
-unfolding readPairs bind
-pairs-read n l m p ps rest e f = rw (e, f)
+pair-begins : (p : «V») (rest : List ℕ) → Begins (pairText p rest)
+pair-begins p rest = num-begins (p .x) (32 ∷ (numText (p .y) ++ rest))
 
-pairs-back : (ps : List «V») (rest : List ℕ) → Ends rest → readPairs (length ps) (pointsText ps ++ rest) ≡ some (map pointOf ps, rest)
-unfolding pointsText readPairs
-pairs-back [] rest h = refl
-pairs-back (p ∷ ps) rest h =
-    ap (readPairs (suc (length ps))) (append-assoc (pointText p) (pointsText ps) rest)
-    ∙ pairs-read (length ps) (pointText p ++ (pointsText ps ++ rest)) (pointsText ps ++ rest) (pointOf p) (map pointOf ps) rest (pair-back p (pointsText ps ++ rest) (points-end ps rest h)) (pairs-back ps rest h)
+pair-read : (p : «V») (rest : List ℕ) → Stops rest → coordinatePair (pairText p rest) ≡ some (numeralsOf p, rest)
+pair-read p rest s =
+    then-read coordinate coordinate (pairText p rest) (32 ∷ (numText (p .y) ++ rest)) rest (numeralOf (hundredths (p .x)) ∷ []) (numeralOf (hundredths (p .y)) ∷ [])
+    (num-read (p .x) (32 ∷ (numText (p .y) ++ rest)) (refl, refl, refl))
+    (ap coordinate (gap-none (numText (p .y) ++ rest) (num-begins (p .y) rest)) ∙ num-read (p .y) rest s)
+
+-- a pair, and what reads on from the next
+pair-then : (q : Reader) (p r : «V») (l rest : List ℕ) (ks : List Numeral) → q (pairText r l) ≡ some (ks, rest) → (coordinatePair then q) (pairText p (32 ∷ pairText r l)) ≡ some (numeralsOf p ++ ks, rest)
+pair-then q p r l rest ks e =
+    then-read coordinatePair q (pairText p (32 ∷ pairText r l)) (32 ∷ pairText r l) rest (numeralsOf p) ks
+    (pair-read p (32 ∷ pairText r l) (refl, refl, refl))
+    (ap q (gap-none (pairText r l) (pair-begins r l)) ∙ e)
+
+double-read : (p r : «V») (rest : List ℕ) → Stops rest → coordinatePairDouble (pairText p (32 ∷ pairText r rest)) ≡ some (numeralsOf p ++ numeralsOf r, rest)
+double-read p r rest s = pair-then coordinatePair p r rest rest (numeralsOf r) (pair-read r rest s)
+
+triplet-read : (p q r : «V») (rest : List ℕ) → Stops rest → coordinatePairTriplet (pairText p (32 ∷ pairText q (32 ∷ pairText r rest))) ≡ some (numeralsOf p ++ (numeralsOf q ++ numeralsOf r), rest)
+triplet-read p q r rest s = pair-then coordinatePairDouble p q (32 ∷ pairText r rest) rest (numeralsOf q ++ numeralsOf r) (double-read q r rest s)
 
 -- ---- commands
 
--- as many points as the grammar has after the letter
-abbrev Formed : Command «V» → Type 0
-Formed c = (pairsAfter (c .letter) ≡ some (length (c .points))) × (isSpace (c .letter) ≡ false)
+-- a text that ends a number and with which no number begins
+abbrev Over : List ℕ → Type 0
+Over rest = Stops rest × (coordinate (pastCommaWsp rest) ≡ none)
 
-abbrev AllFormed : List (Command «V») → Type 0
-AllFormed [] = Unit {0}
-AllFormed (c ∷ cs) = Formed c × AllFormed cs
+-- the arguments of a letter: one group of pairs
+group-read : (p : Reader) (a : «V») (l rest : List ℕ) (ns : List Numeral) → p (pairText a l) ≡ some (ns, rest) → p (pastCommaWsp rest) ≡ none → sequence p (skip (32 ∷ pairText a l)) ≡ some (ns, rest)
+unfolding skip
+group-read p a l rest ns e f = ap (sequence p) (skip-none (pairText a l) (pair-begins a l)) ∙ sequence-one p (pairText a l) rest ns e f
 
-command-read : (b n : ℕ) (l rest : List ℕ) (ps : List Point) → pairsAfter b ≡ some n → readPairs n l ≡ some (ps, rest) → readCommand (b ∷ l) ≡ some (record { letter = b; points = ps }, rest)
-unfolding readCommand bind
-command-read b n l rest ps e f = rw (e, f)
+module _ (l rest : List ℕ) (ns : List Numeral) where
+  move-read : sequence coordinatePair (skip l) ≡ some (ns, rest) → moveto (77 ∷ l) ≡ some (segment 77 ns, rest)
+  unfolding lettered bind
+  move-read e = rw e
 
-command-back : (c : Command «V») (rest : List ℕ) → Formed c → Ends rest → readCommand (commandText c ++ rest) ≡ some (inHundredths c, rest)
-command-back c rest h k = command-read (c .letter) (length (c .points)) (pointsText (c .points) ++ rest) rest (map pointOf (c .points)) (h .0) (pairs-back (c .points) rest k)
+  line-read : sequence coordinatePair (skip l) ≡ some (ns, rest) → drawtoCommand (76 ∷ l) ≡ some (segment 76 ns, rest)
+  unfolding drawtoCommand firstOf lettered closepath orElse bind
+  line-read e = rw e
 
-more-ends : (cs : List (Command «V»)) → Ends (moreText cs)
-unfolding moreText
-more-ends [] = tt
-more-ends (c ∷ cs) = (refl, refl)
+  quad-read : sequence coordinatePairDouble (skip l) ≡ some (ns, rest) → drawtoCommand (81 ∷ l) ≡ some (segment 81 ns, rest)
+  unfolding drawtoCommand firstOf lettered closepath orElse bind
+  quad-read e = rw e
 
-commands-read : (f b : ℕ) (l rest : List ℕ) (c : Command Point) (cs : List (Command Point)) → skip l ≡ b ∷ rest → (m : List ℕ) → readCommand (b ∷ rest) ≡ some (c, m) → readCommands f m ≡ some cs → readCommands (suc f) l ≡ some (c ∷ cs)
-unfolding readCommands bind
-commands-read f b l rest c cs e m g h = rw (e, ne-eqb (suc (length rest)) 0 (λ (z : suc (length rest) ≡ 0). omega arith), g, h)
+  cubic-read : sequence coordinatePairTriplet (skip l) ≡ some (ns, rest) → drawtoCommand (67 ∷ l) ≡ some (segment 67 ns, rest)
+  unfolding drawtoCommand firstOf lettered closepath orElse bind
+  cubic-read e = rw e
+
+close-read : (rest : List ℕ) → drawtoCommand (90 ∷ rest) ≡ some (segment 90 [], rest)
+unfolding drawtoCommand firstOf lettered closepath orElse bind
+close-read rest = refl
+
+-- what is proved of each command that may follow: it reads, with whatever ends it left; its letter begins no number and is no white space
+record Good (c : Command «V») : Type 0 where
+  reads : (rest : List ℕ) → Over rest → drawtoCommand (commandText c ++ rest) ≡ some (segmentOf c, rest)
+  starts : (l : List ℕ) → coordinate (pastCommaWsp (32 ∷ c .letter ∷ l)) ≡ none
+  letter : isSpace (c .letter) ≡ false
+
+abbrev AllGood : List (Command «V») → Type 0
+AllGood [] = Unit {0}
+AllGood (c ∷ cs) = Good c × AllGood cs
+
+first-read : (p : «V») (rest : List ℕ) → Over rest → moveto (commandText (moveTo p) ++ rest) ≡ some (segmentOf (moveTo p), rest)
+unfolding flatMap
+first-read p rest o =
+    ap (λ (l : List ℕ). moveto (77 ∷ l)) (points-in (p ∷ []) rest)
+    ∙ move-read (32 ∷ pairText p rest) rest (numeralsOf p) (group-read coordinatePair p rest rest (numeralsOf p) (pair-read p rest (o .0)) (then-none coordinate coordinate (pastCommaWsp rest) (o .1)))
+
+line-good : (p : «V») → Good (lineTo p)
+unfolding flatMap pastCommaWsp comma skip coordinate sign signedNumber plainNumber pointDigits someDigits leading following orElse bind
+line-good p = record {
+  reads = λ rest o.
+      ap (λ (l : List ℕ). drawtoCommand (76 ∷ l)) (points-in (p ∷ []) rest)
+      ∙ line-read (32 ∷ pairText p rest) rest (numeralsOf p) (group-read coordinatePair p rest rest (numeralsOf p) (pair-read p rest (o .0)) (then-none coordinate coordinate (pastCommaWsp rest) (o .1)));
+  starts = λ l. refl;
+  letter = refl;
+}
+
+quad-good : (c p : «V») → Good (quadTo c p)
+unfolding flatMap pastCommaWsp comma skip coordinate sign signedNumber plainNumber pointDigits someDigits leading following orElse bind
+quad-good c p = record {
+  reads = λ rest o.
+      ap (λ (l : List ℕ). drawtoCommand (81 ∷ l)) (points-in (c ∷ p ∷ []) rest)
+      ∙ quad-read (32 ∷ pairText c (32 ∷ pairText p rest)) rest (numeralsOf c ++ numeralsOf p)
+      (group-read coordinatePairDouble c (32 ∷ pairText p rest) rest (numeralsOf c ++ numeralsOf p) (double-read c p rest (o .0))
+      (then-none coordinatePair coordinatePair (pastCommaWsp rest) (then-none coordinate coordinate (pastCommaWsp rest) (o .1))));
+  starts = λ l. refl;
+  letter = refl;
+}
+
+cubic-good : (c d p : «V») → Good (cubicTo c d p)
+unfolding flatMap pastCommaWsp comma skip coordinate sign signedNumber plainNumber pointDigits someDigits leading following orElse bind
+cubic-good c d p = record {
+  reads = λ rest o.
+      ap (λ (l : List ℕ). drawtoCommand (67 ∷ l)) (points-in (c ∷ d ∷ p ∷ []) rest)
+      ∙ cubic-read (32 ∷ pairText c (32 ∷ pairText d (32 ∷ pairText p rest))) rest (numeralsOf c ++ (numeralsOf d ++ numeralsOf p))
+      (group-read coordinatePairTriplet c (32 ∷ pairText d (32 ∷ pairText p rest)) rest (numeralsOf c ++ (numeralsOf d ++ numeralsOf p)) (triplet-read c d p rest (o .0))
+      (then-none coordinatePair coordinatePairDouble (pastCommaWsp rest) (then-none coordinate coordinate (pastCommaWsp rest) (o .1))));
+  starts = λ l. refl;
+  letter = refl;
+}
+
+close-good : Good closePath
+unfolding flatMap pointsText pastCommaWsp comma skip coordinate sign signedNumber plainNumber pointDigits someDigits leading following orElse bind
+close-good = record { reads = λ rest o. close-read rest; starts = λ l. refl; letter = refl }
+
+-- ---- whole paths
+more-over : (cs : List (Command «V»)) → AllGood cs → Over (moreText cs)
+unfolding moreText pastCommaWsp comma skip coordinate sign signedNumber plainNumber pointDigits someDigits leading following orElse bind
+more-over [] h = (tt, refl)
+more-over (c ∷ cs) h = ((refl, refl, refl), h .0 .starts (pointsText (c .points) ++ moreText cs))
+
+commands-read : (f b : ℕ) (l rest m : List ℕ) (c : Segment) (cs : List Segment) → skip l ≡ b ∷ rest → drawtoCommand (b ∷ rest) ≡ some (c, m) → drawtoCommands f m ≡ some cs → drawtoCommands (suc f) l ≡ some (c ∷ cs)
+unfolding drawtoCommands bind
+commands-read f b l rest m c cs e g h = rw (e, ne-eqb (suc (length rest)) 0 (λ (z : suc (length rest) ≡ 0). omega arith), g, h)
 
 letter-first : (c : Command «V») (l : List ℕ) → isSpace (c .letter) ≡ false → skip (32 ∷ commandText c ++ l) ≡ c .letter ∷ pointsText (c .points) ++ l
 unfolding skip
 letter-first c l h = rw h
 
-more-back : (f : ℕ) (cs : List (Command «V»)) → AllFormed cs → length cs < f → readCommands f (moreText cs) ≡ some (map inHundredths cs)
-unfolding readCommands moreText skip
-more-back zero cs h l = absurd (omega arith)
-more-back (suc f) [] h l = refl
-more-back (suc f) (c ∷ cs) h l =
-    unfold moreText in (commands-read f (c .letter) (32 ∷ commandText c ++ moreText cs) (pointsText (c .points) ++ moreText cs) (inHundredths c) (map inHundredths cs) (letter-first c (moreText cs) (h .0 .1)) (moreText cs) (command-back c (moreText cs) (h .0) (more-ends cs)) (more-back f cs (h .1) (omega arith)))
+more-read : (f : ℕ) (cs : List (Command «V»)) → AllGood cs → length cs < f → drawtoCommands f (moreText cs) ≡ some (map segmentOf cs)
+unfolding drawtoCommands moreText skip
+more-read zero cs h l = absurd (omega arith)
+more-read (suc f) [] h l = refl
+more-read (suc f) (c ∷ cs) h l =
+    unfold moreText in (commands-read f (c .letter) (32 ∷ commandText c ++ moreText cs) (pointsText (c .points) ++ moreText cs) (moreText cs) (segmentOf c) (map segmentOf cs) (letter-first c (moreText cs) (h .0 .letter)) (h .0 .reads (moreText cs) (more-over cs (h .1))) (more-read f cs (h .1) (omega arith)))
 
--- ---- whole paths
 more-length : (cs : List (Command «V»)) → length cs ≤ length (moreText cs)
 unfolding moreText
 more-length [] = omega arith
 more-length (c ∷ cs) = rw (length-append (pointsText (c .points)) (moreText cs)) (omega (arith, more-length cs))
 
-path-read : (l : List ℕ) (c : Command Point) (cs : List (Command Point)) → readCommands (suc (length l)) l ≡ some (c ∷ cs) → c .letter ≡ 77 → readPath l ≡ some (c ∷ cs)
-unfolding readPath bind
-path-read l c cs e h = rw (e, h)
+begun : (l m : List ℕ) (c : Segment) (cs : List Segment) → moveto (77 ∷ l) ≡ some (c, m) → drawtoCommands (suc (length m)) m ≡ some cs → svgPath (77 ∷ l) ≡ some (c ∷ cs)
+unfolding svgPath skip bind
+begun l m c cs e f = rw (ne-eqb (suc (length l)) 0 (λ (z : suc (length l) ≡ 0). omega arith), e, f)
 
-first-letter : (c : Command «V») (l : List ℕ) → isSpace (c .letter) ≡ false → skip (commandText c ++ l) ≡ c .letter ∷ pointsText (c .points) ++ l
-unfolding skip
-first-letter c l h = rw h
-
-path-back : (c : Command «V») (cs : List (Command «V»)) → AllFormed (c ∷ cs) → c .letter ≡ 77 → readPath (pathText (c ∷ cs)) ≡ some (map inHundredths (c ∷ cs))
+path-read : (p : «V») (cs : List (Command «V»)) → AllGood cs → svgPath (pathText (moveTo p ∷ cs)) ≡ some (map segmentOf (moveTo p ∷ cs))
 unfolding pathText
-path-back c cs h e =
-    let l = commandText c ++ moreText cs in
-    let n : length cs < length l = rw (length-append (pointsText (c .points)) (moreText cs)) (omega (arith, more-length cs)) in
-    path-read l (inHundredths c) (map inHundredths cs)
-    (commands-read (length l) (c .letter) l (pointsText (c .points) ++ moreText cs) (inHundredths c) (map inHundredths cs) (first-letter c (moreText cs) (h .0 .1)) (moreText cs) (command-back c (moreText cs) (h .0) (more-ends cs)) (more-back (length l) cs (h .1) n))
-    e
+path-read p cs h =
+    begun (pointsText (p ∷ []) ++ moreText cs) (moreText cs) (segmentOf (moveTo p)) (map segmentOf cs)
+    (first-read p (moreText cs) (more-over cs h)) (more-read (suc (length (moreText cs))) cs h (omega (arith, more-length cs)))
 
--- The text of any curve is read as its commands with its points.
-pub curve-back : (k : Curve) → readPath (curveText k) ≡ some (map inHundredths (curvePath k))
+-- The text of any curve is read as its commands with its coordinates.
+pub curve-read : (k : Curve) → svgPath (curveText k) ≡ some (map segmentOf (curvePath k))
 unfolding curveText
-curve-back (Line a b) = path-back _ _ ((refl, refl), ((refl, refl), tt)) refl
-curve-back (Quad a c b) = path-back _ _ ((refl, refl), ((refl, refl), tt)) refl
-curve-back (Cubic a c d b) = path-back _ _ ((refl, refl), ((refl, refl), tt)) refl
+curve-read (Line a b) = path-read a (lineTo b ∷ []) (line-good b, tt)
+curve-read (Quad a c b) = path-read a (quadTo c b ∷ []) (quad-good c b, tt)
+curve-read (Cubic a c d b) = path-read a (cubicTo c d b ∷ []) (cubic-good c d b, tt)
 
 -- The text of any arrowhead is read as a triangle: its three corners, closed.
-pub head-back : (tip : «V») (angle : Float) → readPath (headText tip angle) ≡ some (map inHundredths (headPath (headOf tip angle)))
+pub head-read : (tip : «V») (angle : Float) → svgPath (headText tip angle) ≡ some (map segmentOf (headPath (headOf tip angle)))
 unfolding headText
-head-back tip angle = path-back _ _ ((refl, refl), ((refl, refl), ((refl, refl), ((refl, refl), tt)))) refl
+head-read tip angle =
+    let h = headOf tip angle in
+    path-read (h .tip) (lineTo (h .left) ∷ lineTo (h .right) ∷ closePath ∷ []) (line-good (h .left), (line-good (h .right), (close-good, tt)))
+
+-- ---- the claim
+
+same-numbers : (ps : List «V») → SameNumbers (flatMap numeralsOf ps) (coordinates ps)
+unfolding flatMap
+same-numbers [] = tt
+same-numbers (p ∷ ps) = (worth (hundredths (p .x)), (worth (hundredths (p .y)), same-numbers ps))
+
+same-commands : (cs : List (Command «V»)) → SameCommands (map segmentOf cs) cs
+same-commands [] = tt
+same-commands (c ∷ cs) = (record { letter = refl; numbers = same-numbers (c .points) }, same-commands cs)
+
+pub curves : (k : Curve) → ReadsAs (curveText k) (curvePath k)
+curves k = record { segments = map segmentOf (curvePath k); read = curve-read k; same = same-commands (curvePath k) }
+
+pub heads : (tip : «V») (angle : Float) → ReadsAs (headText tip angle) (headPath (headOf tip angle))
+heads tip angle =
+    let cs = headPath (headOf tip angle) in
+    record { segments = map segmentOf cs; read = head-read tip angle; same = same-commands cs }
+
+pub paths : Paths
+paths = record { curves = curves; heads = heads; rounded = writable-rounded }

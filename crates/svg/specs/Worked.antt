@@ -1,7 +1,5 @@
 -- Path text and arrowhead of the worked listing. Assumes nothing.
 use mathlib.Core.Path.{_≡_, refl}
-use mathlib.Core.List.{List, [], _∷_}
-use Prim.Native.Nat.{ℕ}
 use lib.Ieee.{binary64, ofBits, ofFields, ofInt, toUnsigned, round, size, span, climb, units, odd, sum, add, sub, mul, div, rem, neg, lt, eq}
 use lib.Count.{trailingZeros}
 use Rattle.laws.specs.Loops.{down}
@@ -9,17 +7,16 @@ use Rattle.float.specs.Constants.{f0, whole}
 use Rattle.float.specs.Standins.{sin, cos, reduced, series}
 use Rattle.float.specs.Standins as S
 use Rattle.text.specs.Digits.{digits, digitsBy}
+use Rattle.text.specs.Ascii.{ascii}
 use Rattle.number.specs.Number.{numText, decimal, sizeOf, minusText, fraction}
 use Rattle.shape.specs.declared.Curve.the-variants.{Line}
 use Rattle.shape.specs.Plane.{vec}
 use Rattle.svg.specs.Paths.{headOf, pointText, pointsText, moreText, pathText, curveText, headText}
 
--- `M 88 38 L 184 38`
-pub edge : curveText (Line (vec (whole 88) (whole 38)) (vec (whole 184) (whole 38))) ≡ 77 ∷ 32 ∷ 56 ∷ 56 ∷ 32 ∷ 51 ∷ 56 ∷ 32 ∷ 76 ∷ 32 ∷ 49 ∷ 56 ∷ 52 ∷ 32 ∷ 51 ∷ 56 ∷ []
+pub edge : curveText (Line (vec (whole 88) (whole 38)) (vec (whole 184) (whole 38))) ≡ ascii "M 88 38 L 184 38"
 unfolding curveText pathText moreText pointsText pointText numText decimal sizeOf minusText fraction digits digitsBy S.round toUnsigned round size span climb units odd mul neg lt eq ofBits ofFields trailingZeros
 edge = refl
 
--- `M 184 38 L 175 41.5 L 175 34.5 Z`
-pub head : headText (vec (whole 184) (whole 38)) f0 ≡ 77 ∷ 32 ∷ 49 ∷ 56 ∷ 52 ∷ 32 ∷ 51 ∷ 56 ∷ 32 ∷ 76 ∷ 32 ∷ 49 ∷ 55 ∷ 53 ∷ 32 ∷ 52 ∷ 49 ∷ 46 ∷ 53 ∷ 32 ∷ 76 ∷ 32 ∷ 49 ∷ 55 ∷ 53 ∷ 32 ∷ 51 ∷ 52 ∷ 46 ∷ 53 ∷ 32 ∷ 90 ∷ []
+pub head : headText (vec (whole 184) (whole 38)) f0 ≡ ascii "M 184 38 L 175 41.5 L 175 34.5 Z"
 unfolding headText headOf pathText moreText pointsText pointText numText decimal sizeOf minusText fraction digits digitsBy S.round sin cos reduced series down toUnsigned ofInt round size span climb units odd sum add sub mul div rem neg lt eq ofBits ofFields trailingZeros
 head = refl

@@ -5,3 +5,4 @@ pub mod Codes
 pub mod Encode
 pub mod Encoded
 pub mod Digits
+pub mod Ascii

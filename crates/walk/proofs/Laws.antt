@@ -6,6 +6,11 @@ use Prim.Native.Nat.{ℕ, zero, suc, _+_, _-_, _≤_, _<_}
 use lib.ListN.{length, getD, set, List·getD-eq-default}
 use native.Mathlib.Nat.{not-suc-le-zero, le-of-suc-le-suc}
 use borrow.Author.Tests.{lt-leb, le-leb, eq-eqb, ne-eqb}
+use Rattle.laws.specs.Refusals.{Refusal, refusal, decide, decide-first, decide-rest}
+use Rattle.sheet.specs.Refusals.{refusals, checkOf}
+use Rattle.sheet.specs.declared.Limits.{Limits}
+use Rattle.sheet.specs.declared.Checked.{Checked}
+use Rattle.sheet.specs.declared.Checked.the-variants.{Accepted, Refused}
 use Rattle.sheet.specs.Sheet.{kindOf, chainBy, chain, next, count, Met, metAlone, metArrow, met, firstState, firstArrow}
 use Rattle.sheet.specs.Chains.{chain-end, chain-cut, chain-turn}
 use Rattle.walk.specs.Walk.{At, at, fresh, walk}
@@ -108,3 +113,22 @@ module _ (s : List ℕ) (m m′ : List ℕ) (b : Bool) (f : ℕ) (e : f ≡ firs
   pub all-on : (g : ℕ) (a : At) → b ≡ true → g ≡ firstArrow s → a ≡ walk s (flatMap (metArrow s) (chain s g)) m′ → a ≡ walk s (met s) m
   unfolding met
   all-on = then-on s (flatMap (metAlone 1) (chain s (firstState s))) (metArrow s) (firstArrow s) m m′ b (rw e at q)
+
+-- ---- one refusal after another: what a check answers by the first of a list, by the rest of it, and at its end
+pub record Answers (rs : List Refusal) (x : Checked) : Type 0 where
+  pub is : x ≡ decide rs Refused Accepted
+
+module _ {n : ℕ} {b : Bool} {rs : List Refusal} where
+  pub refused : b ≡ true → Answers (refusal n b ∷ rs) (Refused n)
+  refused e = record { is = decide-first n b rs Refused Accepted e }
+
+  pub passed : {x : Checked} → b ≡ false → Answers rs x → Answers (refusal n b ∷ rs) x
+  passed e q = record { is = q .is ∙ decide-rest n b rs Refused Accepted e }
+
+pub accepted : Answers [] Accepted
+unfolding decide
+accepted = record { is = refl }
+
+pub check-is : (m : Limits) (s : List ℕ) (x : Checked) → Answers (refusals m s) x → x ≡ checkOf m s
+unfolding checkOf
+check-is m s x a = a .is

@@ -19,6 +19,7 @@ use Rattle.root.specs.Root as RootRoot
 use Rattle.float.specs.Standins as FloatStandins
 use Rattle.text.specs.Utf8 as TextUtf8
 use Rattle.text.specs.Digits as TextDigits
+use Rattle.sheet.specs.Meaning as SheetMeaning
 use Rattle.sheet.specs.Refusals as SheetRefusals
 use Rattle.label.specs.Label as LabelLabel
 use Rattle.shape.specs.Clipping as ShapeClipping
@@ -26,7 +27,7 @@ use Rattle.shape.specs.Curves as ShapeCurves
 use Rattle.shape.specs.Plane as ShapePlane
 use Rattle.trace.specs.Traces as TraceTraces
 use Rattle.free.specs.Blocked as FreeBlocked
-use Rattle.free.specs.Centres as FreeCentres
+use Rattle.free.specs.Chords as FreeChords
 use Rattle.free.specs.Free as FreeFree
 use Rattle.bow.specs.Bend as BowBend
 use Rattle.bow.specs.Between as BowBetween
@@ -49,16 +50,19 @@ use Rattle.lines.specs.Every as LinesEvery
 use Rattle.lines.specs.Lines as LinesLines
 use Rattle.draw.specs.Drawn as DrawDrawn
 use Rattle.float.specs.Constants.{whole}
-use Rattle.sheet.specs.Sheet.{Graph}
+use Rattle.sheet.specs.Sheet.{Graph, flagsOf}
 use Rattle.sheet.specs.Examples.{smallGraph}
-use Rattle.free.specs.Centres.{centres}
+use Rattle.shape.specs.Centres.{centres}
 use Rattle.spot.specs.declared.Geometry.{Geometry}
-use Rattle.routing.specs.Routing.{beyond}
+use Rattle.beyond.specs.Beyond.{beyond}
+use Rattle.beyond.specs.Beyond as BeyondBeyond
 use Rattle.routing.specs.Sheets.{frameOf, recordsOf}
 use Rattle.lines.specs.Lines.{pathsText, pathsWritable, listText, listWritable}
 use Rattle.lines.specs.Worked.{shown}
 use Rattle.draw.specs.Drawn.{farCentre}
-use Rattle.layout.specs.Layout.{Layout, planOf, layoutOf, layoutBeyond}
+use Rattle.layout.specs.Layout.{Layout, planOf, layoutOf}
+use Rattle.plan.specs.Measured.{layoutBeyond}
+use Rattle.plan.specs.Measured as PlanMeasured
 use Rattle.diagram.specs.Calls.{numbersOf}
 
 -- `state 0 66 38` and `state 1 206 38`
@@ -90,9 +94,9 @@ pub record Computed : Type 0 where
   pub numbers : length (numbersOf drawn) ≡ 20
   pub paths : pathsText drawn ≡ path
   pub paths-ok : pathsWritable drawn ≡ true
-  pub text : listText (whole 244) (whole 76) (centres xs ys) (smallGraph .states) drawn ≡ shown
-  pub text-ok : listWritable (whole 244) (whole 76) (centres xs ys) (smallGraph .states) drawn ≡ true
+  pub text : listText (whole 244) (whole 76) (centres xs ys) (flagsOf smallGraph) drawn ≡ shown
+  pub text-ok : listWritable (whole 244) (whole 76) (centres xs ys) (flagsOf smallGraph) drawn ≡ true
 
 pub computed : Computed
-unfolding flatMap trailingZeros LawsBest.best LawsBest.total LawsCounting.number LawsFilter.filter LawsFlat.table LawsLoops.turns LawsLoops.up LawsLoops.down LawsLoops.anyFor LawsLoops.anyUp LawsLoops.over LawsRun.run LawsSort.insert LawsSort.sorted LawsZip.zip RootRoot.digits RootRoot.wholeRoot RootRoot.nearestRoot RootRoot.scale RootRoot.rootBits FloatStandins.rootOf FloatStandins.root FloatStandins.round FloatStandins.reduced FloatStandins.series FloatStandins.sin FloatStandins.cos FloatStandins.arcSeries FloatStandins.arc FloatStandins.quarter FloatStandins.atan2 TextUtf8.payload TextUtf8.codesFrom TextDigits.digitsBy TextDigits.digits SheetRefusals.any LabelLabel.charWidth LabelLabel.lineWidth LabelLabel.wider ShapeClipping.test ShapeClipping.side ShapeClipping.meets ShapeClipping.segmentHitsRect ShapeCurves.at ShapeCurves.tangent ShapePlane.unitOr ShapePlane.overlaps ShapePlane.touches ShapePlane.spanning ShapePlane.outside TraceTraces.sample TraceTraces.samples TraceTraces.extended TraceTraces.boundsOf TraceTraces.traceOf TraceTraces.foreign TraceTraces.anySegment TraceTraces.hitsRect FreeBlocked.intervals FreeCentres.chord FreeCentres.othersFrom FreeFree.holds BowBend.singleBow BowBend.bend BowBend.leads BowBetween.straight BowBetween.drawn BowBetween.between SpotLabels.placeLabel SpotLabels.labelled SpotSpots.normal SpotSpots.isUp SpotSpots.upper SpotSpots.lineSpot SpotSpots.labelSpots PlaceScene.near PlaceScene.struck PlaceScene.boxCost PlaceTurn.boxAt RoutingRouting.numberedFrom RoutingRouting.kept RoutingRouting.joined RoutingRouting.beyond RoutingRouting.routes RoutingRouting.firstScene RoutingRouting.order RoutingRouting.drawing RoutingRouting.records RoutingSheets.frameOf ClutterClutter.crossings ClutterClutter.near ClutterClutter.collides ClutterClutter.collisions ClutterClutter.clutterOf RingRing.startFrom RingRing.largest RingRing.around RingRing.ringed ColumnsColumns.successors ColumnsColumns.elem ColumnsColumns.discover ColumnsColumns.explore ColumnsColumns.columnsAfter ColumnsColumns.reached ColumnsColumns.unreached ColumnsColumns.concat ColumnsColumns.columns SweepSweeps.centre SweepSweeps.otherEnd SweepSweeps.neighbours SweepSweeps.total SweepSweeps.barycentre SweepSweeps.ordered SweepSweeps.arrange SweepSweeps.sweepDown SweepSweeps.sweepUp SweepSweeps.fourSweeps SweepSweeps.swept LayeredLayered.gap LayeredLayered.row LayeredLayered.columnOf LayeredLayered.layeredXs LayeredLayered.layeredYs FitFit.statePoints FitFit.statesPoints FitFit.drawnPoints FitFit.covered FitFit.drawingBounds FitFit.shifted LayoutLayout.layers LayoutLayout.ring LayoutLayout.clutterAt LayoutLayout.isDense LayoutLayout.isTangled LayoutLayout.chosen LayoutLayout.measured LayoutLayout.layoutBeyond LayoutLayout.fitted LayoutLayout.layoutOf NumberNumber.sizeOf NumberNumber.minusText NumberNumber.fraction NumberNumber.decimal NumberNumber.numText SvgPaths.headOf SvgPaths.pointText SvgPaths.pointsText SvgPaths.moreText SvgPaths.pathText SvgPaths.curveText SvgPaths.headText SvgPaths.pointsWritable SvgPaths.pathWritable LinesEvery.every LinesLines.pathLine LinesLines.pathsText LinesLines.pathOk LinesLines.pathsWritable LinesLines.field LinesLines.pair LinesLines.titled LinesLines.anchorText LinesLines.statesFrom LinesLines.sizeLine LinesLines.stateLine LinesLines.edgeLine LinesLines.tipLine LinesLines.headLine LinesLines.labelLine LinesLines.startLine LinesLines.recordLines LinesLines.startText LinesLines.statesText LinesLines.recordsText LinesLines.startsText LinesLines.listText LinesLines.stateOk LinesLines.tipOk LinesLines.recordOk LinesLines.startOk LinesLines.statesOk LinesLines.recordsOk LinesLines.startsOk LinesLines.listWritable DrawDrawn.farCentre Ieee.add Ieee.sub Ieee.mul Ieee.div Ieee.rem Ieee.neg Ieee.lt Ieee.le Ieee.eq Ieee.ne Ieee.ofInt Ieee.round Ieee.size Ieee.span Ieee.climb Ieee.units Ieee.odd Ieee.sum Ieee.ofBits Ieee.ofFields Ieee.toBits Ieee.toUnsigned Ieee.isNan
+unfolding flatMap trailingZeros LawsBest.best LawsBest.total LawsCounting.number LawsFilter.filter LawsFlat.table LawsLoops.turns LawsLoops.up LawsLoops.down LawsLoops.anyFor LawsLoops.anyUp LawsLoops.over LawsRun.run LawsSort.insert LawsSort.sorted LawsZip.zip RootRoot.digits RootRoot.wholeRoot RootRoot.nearestRoot RootRoot.scale RootRoot.rootBits FloatStandins.rootOf FloatStandins.root FloatStandins.round FloatStandins.reduced FloatStandins.series FloatStandins.sin FloatStandins.cos FloatStandins.arcSeries FloatStandins.arc FloatStandins.quarter FloatStandins.atan2 TextUtf8.payload TextUtf8.codesFrom TextDigits.digitsBy TextDigits.digits SheetRefusals.any LabelLabel.charWidth LabelLabel.lineWidth LabelLabel.wider ShapeClipping.test ShapeClipping.side ShapeClipping.meets ShapeClipping.segmentHitsRect ShapeCurves.at ShapeCurves.tangent ShapePlane.unitOr ShapePlane.overlaps ShapePlane.touches ShapePlane.spanning ShapePlane.outside TraceTraces.sample TraceTraces.samples TraceTraces.extended TraceTraces.boundsOf TraceTraces.traceOf TraceTraces.foreign TraceTraces.anySegment TraceTraces.hitsRect FreeBlocked.intervals FreeChords.chord FreeChords.othersFrom FreeFree.holds BowBend.singleBow BowBend.bend BowBend.leads BowBetween.straight BowBetween.drawn BowBetween.between SpotLabels.placeLabel SpotLabels.labelled SpotSpots.normal SpotSpots.isUp SpotSpots.upper SpotSpots.lineSpot SpotSpots.labelSpots PlaceScene.near PlaceScene.struck PlaceScene.boxCost PlaceTurn.boxAt RoutingRouting.numberedFrom RoutingRouting.kept RoutingRouting.joined RoutingRouting.routes RoutingRouting.firstScene RoutingRouting.order RoutingRouting.drawing RoutingRouting.records RoutingSheets.frameOf ClutterClutter.crossings ClutterClutter.near ClutterClutter.collides ClutterClutter.collisions ClutterClutter.clutterOf SheetMeaning.startFrom RingRing.largest RingRing.around RingRing.ringed ColumnsColumns.successors ColumnsColumns.elem ColumnsColumns.discover ColumnsColumns.explore ColumnsColumns.columnsAfter ColumnsColumns.reached ColumnsColumns.unreached ColumnsColumns.concat ColumnsColumns.columns SweepSweeps.centre SweepSweeps.otherEnd SweepSweeps.neighbours SweepSweeps.total SweepSweeps.barycentre SweepSweeps.ordered SweepSweeps.arrange SweepSweeps.sweepDown SweepSweeps.sweepUp SweepSweeps.fourSweeps SweepSweeps.swept LayeredLayered.gap LayeredLayered.row LayeredLayered.columnOf LayeredLayered.layeredXs LayeredLayered.layeredYs FitFit.statePoints FitFit.statesPoints FitFit.drawnPoints FitFit.covered FitFit.drawingBounds FitFit.shifted LayoutLayout.layers LayoutLayout.ring LayoutLayout.clutterAt LayoutLayout.isDense LayoutLayout.isTangled LayoutLayout.chosen LayoutLayout.fitted LayoutLayout.layoutOf NumberNumber.sizeOf NumberNumber.minusText NumberNumber.fraction NumberNumber.decimal NumberNumber.numText SvgPaths.headOf SvgPaths.pointText SvgPaths.pointsText SvgPaths.moreText SvgPaths.pathText SvgPaths.curveText SvgPaths.headText SvgPaths.pointsWritable SvgPaths.pathWritable LinesEvery.every LinesLines.pathLine LinesLines.pathsText LinesLines.pathsOf LinesLines.fieldText LinesLines.fieldsText LinesLines.bodyText LinesLines.lineText LinesLines.linesText LinesLines.fieldWritable LinesLines.fieldsWritable LinesLines.lineWritable LinesLines.linesWritable LinesLines.starts LinesLines.listLines LinesLines.pathsWritable LinesLines.statesFrom LinesLines.listText LinesLines.listWritable DrawDrawn.farCentre Ieee.add Ieee.sub Ieee.mul Ieee.div Ieee.rem Ieee.neg Ieee.lt Ieee.le Ieee.eq Ieee.ne Ieee.ofInt Ieee.round Ieee.size Ieee.span Ieee.climb Ieee.units Ieee.odd Ieee.sum Ieee.ofBits Ieee.ofFields Ieee.toBits Ieee.toUnsigned Ieee.isNan BeyondBeyond.isBeyond BeyondBeyond.beyond LayoutLayout.takesRing PlanMeasured.anyBeyond PlanMeasured.measured PlanMeasured.layoutBeyond
 computed = record { laid = refl; within = refl; near = refl; single = refl; numbers = refl; paths = refl; paths-ok = refl; text = refl; text-ok = refl }

@@ -8,25 +8,26 @@ use borrow.Author.Tests.{le-ltb}
 use lib.ListN.{length, take, replicate}
 use lib.Ieee.{Float}
 use Rattle.laws.specs.Loops.{over, anyFor, anyUp}
+use Rattle.laws.specs.Refusals.{decide, Clear, clear-none, without, clear-from, clear-decides}
 use Rattle.float.specs.Constants.{whole}
 use Rattle.sheet.specs.Sheet as Sheet
-use Rattle.sheet.specs.Sheet.{Graph, meaning}
+use Rattle.sheet.specs.Sheet.{Graph, meaning, flagsOf}
 use Rattle.sheet.specs.Refusals as Refusals
 use Rattle.sheet.specs.Refusals.{refusals}
+use Rattle.sheet.specs.Order.{accepted-exactly}
 use Rattle.sheet.specs.Any.{or-none}
 use Rattle.sheet.specs.Examples.{small, small-means}
-use Rattle.free.specs.Centres.{centres}
-use Rattle.routing.specs.Routing.{beyond}
+use Rattle.shape.specs.Centres.{centres}
+use Rattle.beyond.specs.Beyond.{beyond}
 use Rattle.routing.specs.Sheets.{frameOf, recordsOf}
 use Rattle.lines.specs.Lines.{pathsText, pathsWritable, listText, listWritable}
 use Rattle.lines.specs.Worked.{shown}
 use Rattle.draw.specs.Drawn.{farCentre}
-use Rattle.layout.specs.Layout.{Layout, planOf, layoutOf, layoutBeyond}
+use Rattle.layout.specs.Layout.{Layout, planOf, layoutOf}
+use Rattle.plan.specs.Measured.{layoutBeyond}
 use Rattle.diagram.specs.Calls.{number, values, mainScreen, short, onto, drawnOf, numbersOf, routeRefusals, route, textAfter, layoutFor, layoutRefusals, layout, xsAfter, ysAfter, listing, listRefusals, list, listAfter}
-use Rattle.diagram.specs.Decided.{Clear, clear-decides}
 use Rattle.demand.specs.Demand.{Answered}
 use Rattle.shown.specs.Shown.{Lent, Listed, LaidOut, routed}
-use Rattle.shown.specs.Clears.{clear-none, clear-more, clear-join}
 use Rattle.worked_calls.specs.Numbers.{xs, ys, placed, path, drawn, computed}
 
 -- with every lent slice that is long enough
@@ -45,8 +46,8 @@ pub record Drawn : Type 0 where
 -- ---- what refuses nothing
 
 sheet-clear : Clear (refusals mainScreen small)
-unfolding flatMap over anyFor anyUp Refusals.any Refusals.repeats Refusals.isSet Refusals.wrongRecord Refusals.wrongBytes Refusals.indices Refusals.wrongChains Refusals.largeArrow Refusals.overLimits Refusals.illArrow Refusals.illFormed Sheet.chainBy Sheet.metLine Sheet.metArrow Sheet.met Sheet.lineOf Sheet.linesFrom Sheet.arrowOf Sheet.statesOf Sheet.arrowsOf
-sheet-clear = clear-more _ _ refl (clear-more _ _ refl (clear-more _ _ refl (clear-more _ _ refl (clear-more _ _ refl (clear-more _ _ refl clear-none)))))
+unfolding decide Refusals.checkOf flatMap over anyFor anyUp Refusals.any Refusals.repeats Refusals.isSet Refusals.wrongRecord Refusals.wrongBytes Refusals.indices Refusals.wrongChains Refusals.largeArrow Refusals.overLimits Refusals.illArrow Refusals.illFormed Sheet.chainBy Sheet.metLine Sheet.metArrow Sheet.met Sheet.lineOf Sheet.linesFrom Sheet.arrowOf Sheet.statesOf Sheet.arrowsOf
+sheet-clear = accepted-exactly mainScreen small .0 refl
 
 laid : layoutFor small 0 ≡ placed
 laid = ap (λ (g : Graph). layoutOf 0 (planOf g)) small-means ∙ computed .laid
@@ -58,7 +59,7 @@ layout-clear : (n m : ℕ) → 2 ≤ n → 2 ≤ m → Clear (layoutRefusals sma
 layout-clear n m h i =
     let o : (short n (layoutFor small 0 .xs) || short m (layoutFor small 0 .ys)) ≡ false =
     ap (λ (l : Layout). short n (l .xs) || short m (l .ys)) laid ∙ or-none _ _ (le-ltb n 2 h) (le-ltb m 2 i) in
-    clear-more _ _ refl (clear-join (refusals mainScreen small) _ sheet-clear (clear-more _ _ within (clear-more _ _ o clear-none)))
+    clear-from _ _ (refusals mainScreen small) (without 11 refl (without 9 within (without 7 o clear-none))) sheet-clear refl
 
 route-clear : (n m : ℕ) → 20 ≤ n → 17 ≤ m → Clear (routeRefusals small xs ys n m)
 route-clear n m h i =
@@ -68,11 +69,11 @@ route-clear n m h i =
     let o : (short n (numbersOf (drawnOf small xs ys)) || short m (pathsText (drawnOf small xs ys))) ≡ false =
     ap (λ (g : Graph). short n (numbersOf (recordsOf g xs ys)) || short m (pathsText (recordsOf g xs ys))) small-means
     ∙ or-none _ _ (le-ltb n (length (numbersOf drawn)) (omega (arith, computed .numbers))) (le-ltb m (length (pathsText drawn)) (omega (arith, ap length (computed .paths)))) in
-    clear-join (refusals mainScreen small) _ sheet-clear (clear-more _ _ near (clear-more _ _ single (clear-more _ _ ok (clear-more _ _ o clear-none))))
+    clear-from _ _ (refusals mainScreen small) (without 8 near (without 9 single (without 10 ok (without 7 o clear-none)))) sheet-clear refl
 
 listing-is : listing small 0 ≡ shown
 listing-is =
-    ap₂ (λ (g : Graph) (l : Layout). listText (l .width) (l .height) (centres (l .xs) (l .ys)) (g .states) (recordsOf g (l .xs) (l .ys))) small-means laid
+    ap₂ (λ (g : Graph) (l : Layout). listText (l .width) (l .height) (centres (l .xs) (l .ys)) (flagsOf g) (recordsOf g (l .xs) (l .ys))) small-means laid
     ∙ computed .text
 
 list-clear : (n : ℕ) → 180 ≤ n → Clear (listRefusals small 0 n)
@@ -85,11 +86,11 @@ list-clear n h =
     let single : (layoutBeyond 0 (planOf g) || beyond (frameOf g (p .xs) (p .ys))) ≡ false =
     ap₂ (λ (g : Graph) (l : Layout). layoutBeyond 0 (planOf g) || beyond (frameOf g (l .xs) (l .ys))) small-means laid
     ∙ or-none _ _ (computed .within) (computed .single) in
-    let ok : not (listWritable (p .width) (p .height) (centres (p .xs) (p .ys)) (g .states) (drawnOf small (p .xs) (p .ys))) ≡ false =
-    ap₂ (λ (g : Graph) (l : Layout). not (listWritable (l .width) (l .height) (centres (l .xs) (l .ys)) (g .states) (recordsOf g (l .xs) (l .ys)))) small-means laid
+    let ok : not (listWritable (p .width) (p .height) (centres (p .xs) (p .ys)) (flagsOf g) (drawnOf small (p .xs) (p .ys))) ≡ false =
+    ap₂ (λ (g : Graph) (l : Layout). not (listWritable (l .width) (l .height) (centres (l .xs) (l .ys)) (flagsOf g) (recordsOf g (l .xs) (l .ys)))) small-means laid
     ∙ ap not (computed .text-ok) in
     let o : short n (listing small 0) ≡ false = ap (short n) listing-is ∙ le-ltb n 180 h in
-    clear-more _ _ refl (clear-join (refusals mainScreen small) _ sheet-clear (clear-more _ _ near (clear-more _ _ single (clear-more _ _ ok (clear-more _ _ o clear-none)))))
+    clear-from _ _ (refusals mainScreen small) (without 11 refl (without 8 near (without 9 single (without 10 ok (without 7 o clear-none))))) sheet-clear refl
 
 -- ---- what is answered and left
 

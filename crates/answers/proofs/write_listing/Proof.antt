@@ -1,7 +1,7 @@
 -- `answers::write_listing` meets its contract.
 use native.Mathlib.Omega.{arith}
 use denote.Ref.{now}
-use Rattle.free.specs.Centres.{centres}
+use Rattle.shape.specs.Centres.{centres}
 use Rattle.records.specs.Records.{decodeRecords}
 use Rattle.lines.specs.Lines.{listText, listWritable}
 use Rattle.answers.proofs.Laws.{list-10, list-7, list-done}

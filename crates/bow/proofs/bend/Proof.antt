@@ -7,7 +7,7 @@ use lib.ListN.{length, take}
 use lib.Seq.{length-take-le}
 use denote.Ref.{now}
 use Rattle.free.specs.declared.Span.{Span}
-use Rattle.free.specs.Centres.{centres}
+use Rattle.shape.specs.Centres.{centres}
 use Rattle.bow.specs.Bend.{bendPast, bend}
 use borrow.Author.Needs.{needs}
 use Rattle.bow.proofs.bend.Statement.{statement}

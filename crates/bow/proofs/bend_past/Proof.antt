@@ -1,6 +1,4 @@
 -- `bow::bend_past` meets its contract.
-use mathlib.Core.Path.{ap}
-use Rattle.bow.specs.declared.Bent.the-variants.{Offset}
 use borrow.Author.Needs.{needs}
 use Rattle.bow.proofs.bend_past.Statement.{statement}
 use Rattle.bow.proofs.bend_past.Tie as tie
@@ -18,7 +16,7 @@ single-bow-requires : tie.Need-single-bow-requires
 single-bow-requires c κs = search needs
 
 returns-2 : tie.Need-returns-2
-returns-2 c = rw (c .before .before .before .if1 .left, ← (c .before .before .holds .ensures), c .before .if2 .taken) (ap Offset (c .single-bow .ensures))
+returns-2 c = rw (c .before .before .before .if1 .left, ← (c .before .before .holds .ensures), c .before .if2 .taken) (c .single-bow .ensures)
 
 returns-3 : tie.Need-returns-3
 returns-3 c = rw (c .before .before .if1 .left, ← (c .before .holds .ensures), c .if2 .left)

@@ -1,5 +1,5 @@
 -- `bow::better` meets its contract.
-use Rattle.bow.specs.Clear.{better}
+use Rattle.bow.specs.Choice.{better}
 use Rattle.bow.proofs.better.Statement.{statement}
 use Rattle.bow.proofs.better.Tie as tie
 

@@ -9,7 +9,8 @@ use Rattle.laws.specs.Loops.{up, up-step, up-done}
 use Rattle.float.specs.Constants.{infinity}
 use Rattle.shape.specs.declared.«V».{«V»}
 use Rattle.shape.specs.declared.Curve.the-variants.{Quad}
-use Rattle.free.specs.Centres.{centres, others}
+use Rattle.shape.specs.Centres.{centres}
+use Rattle.free.specs.Chords.{others}
 use Rattle.bow.specs.Clear.{nearest, sampled, clearance}
 use Rattle.bow.specs.Farther.{Good, start-good}
 use Rattle.bow.proofs.clearance.Statement.{statement}

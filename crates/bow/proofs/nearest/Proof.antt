@@ -10,7 +10,8 @@ use Rattle.laws.specs.Loops.{over}
 use Rattle.laws.specs.Zip.{zip-length}
 use Rattle.shape.specs.declared.«V».{«V»}
 use Rattle.shape.specs.Plane.{vec}
-use Rattle.free.specs.Centres.{centres, others, othersFrom}
+use Rattle.shape.specs.Centres.{centres}
+use Rattle.free.specs.Chords.{others, othersFrom}
 use Rattle.bow.specs.Clear.{beside, nearer, nearest}
 use Rattle.bow.specs.Farther.{Good}
 use Rattle.bow.specs.Turns.{beside-turn, beside-end}

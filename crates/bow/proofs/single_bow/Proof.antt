@@ -1,6 +1,6 @@
 -- `bow::single_bow` meets its contract.
 use denote.Ref.{now}
-use Rattle.free.specs.Centres.{centres}
+use Rattle.shape.specs.Centres.{centres}
 use Rattle.free.specs.Free.{spans}
 use Rattle.bow.proofs.Laws.{down-first, up-first}
 use borrow.Author.Needs.{needs}

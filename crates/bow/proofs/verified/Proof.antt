@@ -6,11 +6,12 @@ use lib.ListN.{length, drop, getD}
 use lib.Ieee.{Float, nan, nanBits}
 use denote.Ref.{now}
 use borrow.Author.Needs.{needs}
-use Rattle.free.specs.Centres.{centres}
+use Rattle.shape.specs.Centres.{centres}
 use Rattle.float.specs.Ops.{_⊗_, le}
 use Rattle.float.specs.Constants.{f10, f0-5}
 use Rattle.bow.specs.declared.Best.{Best}
-use Rattle.bow.specs.Clear.{clearance, better, choose, verified}
+use Rattle.bow.specs.Clear.{clearance, verified}
+use Rattle.bow.specs.Choice.{better, choose, choose-is, clearance-num}
 use Rattle.bow.specs.Turns.{choose-hit, choose-miss, choose-end}
 use Rattle.bow.proofs.verified.Statement.{statement}
 use Rattle.bow.proofs.verified.Tie as tie
@@ -29,8 +30,10 @@ shared-slice-read-t12 : tie.Need-shared-slice-read-t12 Inv-loop μ-loop
 shared-slice-read-t12 c = search needs
 
 loop-holds : tie.Need-loop-holds Inv-loop μ-loop
-unfolding verified
-loop-holds c = (refl, omega arith, refl)
+loop-holds c =
+    let a = c .before .before .before .before .args in
+    let ps = centres (now (a .xs)) (now (a .ys)) in
+    (refl, omega arith, choose-is (clearance (a .c) ps) (clearance-num (a .c) ps) (now (a .bows)))
 
 mul-h : tie.Need-mul-h Inv-loop μ-loop
 mul-h c = search needs

@@ -8,7 +8,7 @@ use denote.Ref.{now}
 use Rattle.laws.specs.Zip.{zip-drop, zip-past}
 use Rattle.sheet.specs.Refusals.{any}
 use Rattle.shape.specs.Plane.{vec}
-use Rattle.free.specs.Centres.{centres}
+use Rattle.shape.specs.Centres.{centres}
 use Rattle.clutter.specs.Clutter.{near}
 use Rattle.clutter.specs.Turns.{some-hit, some-miss, some-none}
 use Rattle.clutter.proofs.any_state.Statement.{statement}

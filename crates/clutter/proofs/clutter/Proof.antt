@@ -1,6 +1,6 @@
 -- `clutter::clutter` meets its contract.
 use denote.Ref.{now}
-use Rattle.free.specs.Centres.{centres}
+use Rattle.shape.specs.Centres.{centres}
 use Rattle.records.specs.Records.{decodeRecords}
 use Rattle.clutter.proofs.Laws.{clutter-is}
 use borrow.Author.Needs.{needs}

@@ -13,7 +13,7 @@ use Rattle.records.specs.Records.{fields}
 use Rattle.routing.specs.Sheets.{recordsOf}
 use Rattle.draw.specs.Drawn.{centreRefusals}
 use Rattle.draw.specs.declared.Drawing.the-variants.{Records, Refused}
-use Rattle.draw.proofs.Laws.{check-refused, check-accepted}
+use Rattle.sheet.specs.Order.{check-refused, check-accepted}
 use borrow.Author.Needs.{needs}
 use Rattle.draw.proofs.draw.Statement.{statement}
 use Rattle.draw.proofs.draw.Tie as tie

@@ -14,7 +14,7 @@ use Rattle.records.specs.Records.{fields}
 use Rattle.routing.specs.Sheets.{recordsOf}
 use Rattle.draw.specs.Drawn.{farCentre, routeRefusals}
 use Rattle.draw.specs.declared.Drawing.the-variants.{Records, Refused}
-use Rattle.draw.proofs.Laws.{decide-first, decide-rest}
+use Rattle.laws.specs.Refusals.{decide-first, decide-rest}
 use borrow.Author.Needs.{needs}
 use Rattle.draw.proofs.draw_accepted.Statement.{statement}
 use Rattle.draw.proofs.draw_accepted.Tie as tie

@@ -6,7 +6,7 @@ use lib.ListN.{length, drop}
 use denote.Ref.{now}
 use Rattle.laws.specs.Loops.{over}
 use Rattle.trace.specs.Traces.{extended}
-use Rattle.free.specs.Centres.{centres}
+use Rattle.shape.specs.Centres.{centres}
 use Rattle.fit.specs.Fit.{statesPoints}
 use Rattle.fit.proofs.Laws.{states-turn, states-end}
 use borrow.Author.Needs.{needs}

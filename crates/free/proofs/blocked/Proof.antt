@@ -9,7 +9,8 @@ use borrow.Author.Needs.{needs}
 use Rattle.laws.specs.Zip.{zip, zip-length}
 use Rattle.shape.specs.Plane.{vec}
 use Rattle.free.specs.declared.Span.{Span}
-use Rattle.free.specs.Centres.{centres, othersFrom}
+use Rattle.shape.specs.Centres.{centres}
+use Rattle.free.specs.Chords.{othersFrom}
 use Rattle.free.specs.Blocked.{intervals, blocked}
 use Rattle.free.specs.Free.{spans}
 use Rattle.free.specs.Turns.{intervals-end}

@@ -1,5 +1,5 @@
 -- `free::chord_of` meets its contract.
-use Rattle.free.specs.Centres.{chord}
+use Rattle.free.specs.Chords.{chord}
 use borrow.Author.Needs.{needs}
 use Rattle.free.proofs.chord_of.Statement.{statement}
 use Rattle.free.proofs.chord_of.Tie as tie

@@ -10,8 +10,8 @@ use Rattle.routing.specs.Numbers.{numberedAt}
 use Rattle.lay.specs.Lay.{slices}
 use Rattle.lay.specs.Steps.{arrowAt}
 use Rattle.lay.specs.Numbers.{many-arrows, arrow-is}
-use Rattle.lay.proofs.Laws.{one-of, lost-of}
-use Rattle.lay.proofs.Turns.{Sofar, sofar-none, sofar-turn, sofar-stop, sofar-end}
+use Rattle.lay.proofs.Laws.{one-of}
+use Rattle.lay.proofs.Turns.{Sofar, sofar-none, sofar-turn, sofar-end}
 use borrow.Author.Needs.{needs}
 use Rattle.lay.proofs.lay_arrows.Statement.{statement}
 use Rattle.lay.proofs.lay_arrows.Tie as tie
@@ -33,39 +33,6 @@ loop-holds c =
 lay-arrow-requires : tie.Need-lay-arrow-requires Inv-loop μ-loop
 lay-arrow-requires c κs = (c .before .before .before .before .before .before .before .before .before .before .before .before .before .before .before .before .before .pre .0, (omega arith, (omega arith, omega arith, omega arith, omega arith, omega arith, omega arith)))
 
-enum-known-l : tie.Need-enum-known-l Inv-loop μ-loop
-enum-known-l c = search needs
-
-enum-told : tie.Need-enum-told Inv-loop μ-loop
-enum-told c = search needs
-
-same-length : tie.Need-same-length Inv-loop μ-loop
-same-length c = c .before .before .before .before .before .before .before .before .before .before .before .before .lay-arrow .kept .1 .1 .1 .1 .1 .1 .0 ∙ c .before .before .before .before .before .before .before .before .before .before .before .before .before .before .before .before .before .before .before .loop .inv .2
-
-same-length-2 : tie.Need-same-length-2 Inv-loop μ-loop
-same-length-2 c = c .before .before .before .before .before .before .before .before .before .before .before .before .lay-arrow .kept .1 .1 .1 .1 .1 .1 .1 .0 ∙ c .before .before .before .before .before .before .before .before .before .before .before .before .before .before .before .before .before .before .before .loop .inv .3
-
-same-length-3 : tie.Need-same-length-3 Inv-loop μ-loop
-same-length-3 c = c .before .before .before .before .before .before .before .before .before .before .before .before .lay-arrow .kept .1 .1 .1 .1 .1 .1 .1 .1 .0 ∙ c .before .before .before .before .before .before .before .before .before .before .before .before .before .before .before .before .before .before .before .loop .inv .4
-
-same-length-4 : tie.Need-same-length-4 Inv-loop μ-loop
-same-length-4 c = c .before .before .before .before .before .before .before .before .before .before .before .before .lay-arrow .kept .1 .1 .1 .1 .1 .1 .1 .1 .1 .0 ∙ c .before .before .before .before .before .before .before .before .before .before .before .before .before .before .before .before .before .before .before .loop .inv .5
-
-same-length-5 : tie.Need-same-length-5 Inv-loop μ-loop
-same-length-5 c = c .before .before .before .before .before .before .before .before .before .before .before .before .lay-arrow .kept .1 .1 .1 .1 .1 .1 .1 .1 .1 .1 .0 ∙ c .before .before .before .before .before .before .before .before .before .before .before .before .before .before .before .before .before .before .before .loop .inv .6
-
-returns : tie.Need-returns Inv-loop μ-loop
-returns c =
-    let a = c .before .before .before .before .before .before .before .before .before .before .before .before .before .before .before .before .before .before .before .before .before .before .before .before .before .before .before .before .before .before .args in
-    let r = c .before .before .before .before .before .before .before .before .before .before .before .before .lay-arrow in
-    let p = c .before .before .before .before .before .before .before .before .before .before .before .before .before .before .before .before .before .before .before .before .before .before .before .before .before .before .before .before .before .before .pre in
-    let l = c .before .before .before .before .before .before .before .before .before .before .before .before .before .before .before .before .before .before .before .loop in
-    let f : Frame = frameBy (now (a .flags)) (now (a .xs)) (now (a .ys)) (now (a .sources)) (now (a .targets)) in
-    let m = many-arrows (now (a .flags)) (now (a .xs)) (now (a .ys)) (now (a .sources)) (now (a .targets)) (p .0 .3) in
-    let e = arrow-is (now (a .flags)) (now (a .xs)) (now (a .ys)) (now (a .sources)) (now (a .targets)) (p .0 .3) (l .i) (omega arith) in
-    sofar-stop f (l .i) (omega (arith, m)) (l .nt) _ (l .inv .7)
-    (lost-of f (arrowAt (now (a .sources)) (now (a .targets)) (l .i)) (numberedAt f (l .i)) (l .nt) (r .result) _ _ e (r .ensures) (c .enum-told .given .1))
-
 add-i : tie.Need-add-i Inv-loop μ-loop
 add-i c = search needs
 
@@ -74,14 +41,14 @@ loop-less c = search needs
 
 loop-again : tie.Need-loop-again Inv-loop μ-loop
 loop-again c =
-    let a = c .before .before .before .before .before .before .before .before .before .before .before .before .before .before .before .before .before .before .before .before .before .before .before .before .before .before .before .before .before .before .before .args in
-    let p = c .before .before .before .before .before .before .before .before .before .before .before .before .before .before .before .before .before .before .before .before .before .before .before .before .before .before .before .before .before .before .before .pre in
-    let l = c .before .before .before .before .before .before .before .before .before .before .before .before .before .before .before .before .before .before .before .before .loop in
-    let q = c .before .before .before .before .before .before .before .before .before .before .before .before .before .lay-arrow in
+    let a = c .before .before .before .before .before .before .before .before .before .before .before .before .before .before .before .before .before .before .before .before .before .before .before .before .before .before .before .before .args in
+    let p = c .before .before .before .before .before .before .before .before .before .before .before .before .before .before .before .before .before .before .before .before .before .before .before .before .before .before .before .before .pre in
+    let l = c .before .before .before .before .before .before .before .before .before .before .before .before .before .before .before .before .before .loop in
+    let q = c .before .before .before .before .before .before .before .before .before .before .lay-arrow in
     let f : Frame = frameBy (now (a .flags)) (now (a .xs)) (now (a .ys)) (now (a .sources)) (now (a .targets)) in
     let m = many-arrows (now (a .flags)) (now (a .xs)) (now (a .ys)) (now (a .sources)) (now (a .targets)) (p .0 .3) in
     let e = arrow-is (now (a .flags)) (now (a .xs)) (now (a .ys)) (now (a .sources)) (now (a .targets)) (p .0 .3) (l .i) (omega arith) in
-    let o = one-of f (arrowAt (now (a .sources)) (now (a .targets)) (l .i)) (numberedAt f (l .i)) (l .nt) (q .result) _ _ e (q .ensures) _ (c .before .l .given .1) in (
+    let o = one-of f (arrowAt (now (a .sources)) (now (a .targets)) (l .i)) (numberedAt f (l .i)) (l .nt) (q .result) _ _ e (q .ensures) in (
       omega arith,
       omega (arith, o .room),
       q .kept .1 .1 .1 .1 .1 .1 .0 ∙ l .inv .2,
@@ -89,26 +56,26 @@ loop-again c =
       q .kept .1 .1 .1 .1 .1 .1 .1 .1 .0 ∙ l .inv .4,
       q .kept .1 .1 .1 .1 .1 .1 .1 .1 .1 .0 ∙ l .inv .5,
       q .kept .1 .1 .1 .1 .1 .1 .1 .1 .1 .1 .0 ∙ l .inv .6,
-      sofar-turn f (l .i) (omega (arith, m, c .before .before .before .before .before .before .before .before .before .before .before .before .before .before .before .before .before .before .before .loop-test .taken)) (l .nt) _ _ _ (omega (arith, l .inv .2, p .1 .0, c .before .before .before .before .before .before .before .before .before .before .before .before .before .before .before .before .before .before .before .loop-test .taken)) (omega (arith, l .inv .3, p .1 .1, c .before .before .before .before .before .before .before .before .before .before .before .before .before .before .before .before .before .before .before .loop-test .taken)) (omega (arith, l .inv .4, p .1 .2, c .before .before .before .before .before .before .before .before .before .before .before .before .before .before .before .before .before .before .before .loop-test .taken)) (omega (arith, l .inv .5, p .1 .3, c .before .before .before .before .before .before .before .before .before .before .before .before .before .before .before .before .before .before .before .loop-test .taken)) (l .inv .7) o,
+      sofar-turn f (l .i) (omega (arith, m, c .before .before .before .before .before .before .before .before .before .before .before .before .before .before .before .before .loop-test .taken)) (l .nt) _ _ _ (omega (arith, l .inv .2, p .1 .0, c .before .before .before .before .before .before .before .before .before .before .before .before .before .before .before .before .loop-test .taken)) (omega (arith, l .inv .3, p .1 .1, c .before .before .before .before .before .before .before .before .before .before .before .before .before .before .before .before .loop-test .taken)) (omega (arith, l .inv .4, p .1 .2, c .before .before .before .before .before .before .before .before .before .before .before .before .before .before .before .before .loop-test .taken)) (omega (arith, l .inv .5, p .1 .3, c .before .before .before .before .before .before .before .before .before .before .before .before .before .before .before .before .loop-test .taken)) (l .inv .7) o,
     )
 
-same-length-6 : tie.Need-same-length-6 Inv-loop μ-loop
-same-length-6 c = c .before .loop .inv .2
+same-length : tie.Need-same-length Inv-loop μ-loop
+same-length c = c .before .loop .inv .2
 
-same-length-7 : tie.Need-same-length-7 Inv-loop μ-loop
-same-length-7 c = c .before .loop .inv .3
+same-length-2 : tie.Need-same-length-2 Inv-loop μ-loop
+same-length-2 c = c .before .loop .inv .3
 
-same-length-8 : tie.Need-same-length-8 Inv-loop μ-loop
-same-length-8 c = c .before .loop .inv .4
+same-length-3 : tie.Need-same-length-3 Inv-loop μ-loop
+same-length-3 c = c .before .loop .inv .4
 
-same-length-9 : tie.Need-same-length-9 Inv-loop μ-loop
-same-length-9 c = c .before .loop .inv .5
+same-length-4 : tie.Need-same-length-4 Inv-loop μ-loop
+same-length-4 c = c .before .loop .inv .5
 
-same-length-10 : tie.Need-same-length-10 Inv-loop μ-loop
-same-length-10 c = c .before .loop .inv .6
+same-length-5 : tie.Need-same-length-5 Inv-loop μ-loop
+same-length-5 c = c .before .loop .inv .6
 
-returns-2 : tie.Need-returns-2 Inv-loop μ-loop
-returns-2 c =
+returns : tie.Need-returns Inv-loop μ-loop
+returns c =
     let a = c .before .before .before .before .before .before .before .before .before .before .before .before .args in
     let l = c .before .loop in
     let f : Frame = frameBy (now (a .flags)) (now (a .xs)) (now (a .ys)) (now (a .sources)) (now (a .targets)) in
@@ -123,20 +90,12 @@ lay-arrows-spec =
     μ-loop
     loop-holds
     lay-arrow-requires
-    enum-known-l
-    enum-told
+    add-i
+    loop-less
+    loop-again
     same-length
     same-length-2
     same-length-3
     same-length-4
     same-length-5
-    returns
-    add-i
-    loop-less
-    loop-again
-    same-length-6
-    same-length-7
-    same-length-8
-    same-length-9
-    same-length-10
-    returns-2)
+    returns)

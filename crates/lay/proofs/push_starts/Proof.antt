@@ -10,7 +10,7 @@ use Rattle.shape.specs.declared.«V».{«V»}
 use Rattle.shape.specs.Plane.{vec}
 use Rattle.trace.specs.Traces.{Trace}
 use Rattle.trace.specs.Form.{decodeTraces}
-use Rattle.free.specs.Centres.{centres}
+use Rattle.shape.specs.Centres.{centres}
 use Rattle.routing.specs.Routing.{startTraces}
 use Rattle.lay.specs.Traces.{starts-past}
 use Rattle.lay.proofs.Laws.{starts-more}

@@ -1,5 +1,4 @@
 -- `layout::clutter_by` meets its contract.
-use mathlib.Core.Path.{_≡_, ap, _∙_}
 use native.Mathlib.Omega.{arith}
 use lib.ListN.{length}
 use denote.Ref.{now}
@@ -7,8 +6,9 @@ use Rattle.laws.specs.Zip.{zip-length}
 use Rattle.routing.specs.Passes.{endsBy}
 use Rattle.routing.specs.Frames.{orZeros}
 use Rattle.layout.specs.Layout.{Plan, planBy, placing, frameAt}
-use Rattle.layout.specs.Slices.{answer-beyond, answer-drawn}
-use Rattle.layout.specs.Laws.{counted-beyond, counted-drawn}
+use mathlib.Core.Path.{_≡_, ap, _∙_}
+use Rattle.layout.specs.Slices.{reads-drawn}
+use Rattle.layout.specs.Laws.{counted}
 use borrow.Author.Needs.{needs}
 use Rattle.layout.proofs.clutter_by.Statement.{statement}
 use Rattle.layout.proofs.clutter_by.Tie as tie
@@ -18,18 +18,6 @@ slice-aggregate-geometry c = search needs
 
 geometry-requires : tie.Need-geometry-requires
 geometry-requires c κs = search needs
-
-enum-known-drawn : tie.Need-enum-known-drawn
-enum-known-drawn c = search needs
-
-enum-told : tie.Need-enum-told
-enum-told c = search needs
-
-returns : tie.Need-returns
-returns c =
-    let a = c .before .before .before .before .before .before .before .before .before .before .before .before .before .before .args in
-    let p : Plan = planBy (now (a .flags)) (now (a .sources)) (now (a .targets)) (now (a .widths)) (now (a .heights)) in
-    counted-beyond p (placing (now (a .xs)) (now (a .ys))) (answer-beyond _ _ (c .before .before .before .geometry .result) (c .before .before .before .geometry .ensures .0) (c .enum-told .given .1))
 
 centred-requires : tie.Need-centred-requires
 centred-requires c κs = search needs
@@ -42,11 +30,10 @@ slice-aggregate-clutter c = search needs
 
 clutter-requires : tie.Need-clutter-requires
 clutter-requires c κs =
-    let a = c .before .before .before .before .before .before .before .before .before .before .before .before .before .before .before .before .before .before .before .before .before .before .before .before .before .before .args in
+    let a = c .before .before .before .before .before .before .before .before .before .before .before .before .before .before .before .before .before .before .before .before .before .before .before .args in
     let p : Plan = planBy (now (a .flags)) (now (a .sources)) (now (a .targets)) (now (a .widths)) (now (a .heights)) in
-    let e : length (now (a .targets)) ≡ length (now (a .sources)) = c .before .before .before .before .before .before .before .before .before .before .before .before .before .before .before .before .before .before .before .before .before .before .before .before .before .before .pre .1 .1 in
-    let r = answer-drawn (frameAt p (placing (now (a .xs)) (now (a .ys)))) (p .sizes) (c .before .before .before .before .before .before .before .before .before .before .before .before .before .before .before .geometry .result) _ _ _ (c .before .before .before .before .before .before .before .before .before .before .before .before .before .before .before .geometry .ensures .0) (c .before .before .before .before .before .before .before .before .before .before .before .before .drawn .given .1) (c .before .before .before .before .before .before .before .before .before .before .before .before .before .before .before .geometry .ensures .1) (omega (arith, c .before .before .before .before .before .before .before .before .before .before .before .before .before .before .before .before .before .before .before .before .before .before .before .before .before .before .pre .1 .0, zip-length endsBy (now (a .sources)) (now (a .targets)) e)) (omega arith) in
-    (omega (arith, c .before .before .before .before .before .before .before .before .before .before .before .before .before .before .before .before .before .before .before .before .before .before .before .before .before .before .pre .0 .2, c .before .before .before .before .before .before .before .before .before .before .before .before .before .before .before .before .before .before .before .before .before .before .before .before .before .before .pre .0 .3, c .before .before .before .before .before .before .before .before .before .centred .kept .1 .0, c .before .before .before .before .before .centred2 .kept .1 .0), omega (arith, r .most), r .most, r .small)
+    let r = reads-drawn (frameAt p (placing (now (a .xs)) (now (a .ys)))) (p .sizes) _ _ _ (c .before .before .before .before .before .before .before .before .before .before .before .before .geometry .ensures .0) (c .before .before .before .before .before .before .before .before .before .before .before .before .geometry .ensures .1) (omega (arith, c .before .before .before .before .before .before .before .before .before .before .before .before .before .before .before .before .before .before .before .before .before .before .before .pre .1 .0, zip-length endsBy (now (a .sources)) (now (a .targets)) (c .before .before .before .before .before .before .before .before .before .before .before .before .before .before .before .before .before .before .before .before .before .before .before .pre .1 .1))) (omega arith) in
+    (omega (arith, c .before .before .before .before .before .before .before .before .before .before .before .before .before .before .before .before .before .before .before .before .before .before .before .pre .0 .2, c .before .before .before .before .before .before .before .before .before .before .before .before .before .before .before .before .before .before .before .before .before .before .before .pre .0 .3, c .before .before .before .before .before .before .before .before .before .centred .kept .1 .0, c .before .before .before .before .before .centred2 .kept .1 .0), omega (arith, r .most), r .most, r .small)
 
 same-length : tie.Need-same-length
 same-length c = c .before .before .before .before .before .before .before .before .before .before .centred .kept .1 .0
@@ -54,15 +41,14 @@ same-length c = c .before .before .before .before .before .before .before .befor
 same-length-2 : tie.Need-same-length-2
 same-length-2 c = c .before .before .before .before .before .before .centred2 .kept .1 .0
 
-returns-2 : tie.Need-returns-2
-returns-2 c =
-    let a = c .before .before .before .before .before .before .before .before .before .before .before .before .before .before .before .before .before .before .before .before .before .before .before .before .before .before .before .args in
+returns : tie.Need-returns
+returns c =
+    let a = c .before .before .before .before .before .before .before .before .before .before .before .before .before .before .before .before .before .before .before .before .before .before .before .before .args in
     let p : Plan = planBy (now (a .flags)) (now (a .sources)) (now (a .targets)) (now (a .widths)) (now (a .heights)) in
-    let e : length (now (a .targets)) ≡ length (now (a .sources)) = c .before .before .before .before .before .before .before .before .before .before .before .before .before .before .before .before .before .before .before .before .before .before .before .before .before .before .before .pre .1 .1 in
-    let ex : length (now (a .px)) ≡ length (now (a .flags)) = c .before .before .before .before .before .before .before .before .before .before .before .before .before .before .before .before .before .before .before .before .before .before .before .before .before .before .before .pre .0 .2 in
-    let ey : length (now (a .py)) ≡ length (now (a .flags)) = c .before .before .before .before .before .before .before .before .before .before .before .before .before .before .before .before .before .before .before .before .before .before .before .before .before .before .before .pre .0 .3 in
-    let r = answer-drawn (frameAt p (placing (now (a .xs)) (now (a .ys)))) (p .sizes) (c .before .before .before .before .before .before .before .before .before .before .before .before .before .before .before .before .geometry .result) _ _ _ (c .before .before .before .before .before .before .before .before .before .before .before .before .before .before .before .before .geometry .ensures .0) (c .before .before .before .before .before .before .before .before .before .before .before .before .before .drawn .given .1) (c .before .before .before .before .before .before .before .before .before .before .before .before .before .before .before .before .geometry .ensures .1) (omega (arith, c .before .before .before .before .before .before .before .before .before .before .before .before .before .before .before .before .before .before .before .before .before .before .before .before .before .before .before .pre .1 .0, zip-length endsBy (now (a .sources)) (now (a .targets)) e)) (omega arith) in
-    counted-drawn p (placing (now (a .xs)) (now (a .ys))) _ _ _ _ _ r (c .before .before .before .before .before .before .before .before .before .before .centred .ensures ∙ ap (orZeros (now (a .xs))) ex) (c .before .before .before .before .before .before .centred2 .ensures ∙ ap (orZeros (now (a .ys))) ey) (c .clutter .ensures)
+    let ex : length (now (a .px)) ≡ length (now (a .flags)) = c .before .before .before .before .before .before .before .before .before .before .before .before .before .before .before .before .before .before .before .before .before .before .before .before .pre .0 .2 in
+    let ey : length (now (a .py)) ≡ length (now (a .flags)) = c .before .before .before .before .before .before .before .before .before .before .before .before .before .before .before .before .before .before .before .before .before .before .before .before .pre .0 .3 in
+    let r = reads-drawn (frameAt p (placing (now (a .xs)) (now (a .ys)))) (p .sizes) _ _ _ (c .before .before .before .before .before .before .before .before .before .before .before .before .before .geometry .ensures .0) (c .before .before .before .before .before .before .before .before .before .before .before .before .before .geometry .ensures .1) (omega (arith, c .before .before .before .before .before .before .before .before .before .before .before .before .before .before .before .before .before .before .before .before .before .before .before .before .pre .1 .0, zip-length endsBy (now (a .sources)) (now (a .targets)) (c .before .before .before .before .before .before .before .before .before .before .before .before .before .before .before .before .before .before .before .before .before .before .before .before .pre .1 .1))) (omega arith) in
+    counted p (placing (now (a .xs)) (now (a .ys))) _ _ _ _ _ r (c .before .before .before .before .before .before .before .before .before .before .centred .ensures ∙ ap (orZeros (now (a .xs))) ex) (c .before .before .before .before .before .before .centred2 .ensures ∙ ap (orZeros (now (a .ys))) ey) (c .clutter .ensures)
 
 pub clutter-by-spec : {M : Type 1} → statement M
 clutter-by-spec =
@@ -70,13 +56,10 @@ clutter-by-spec =
     (tie.spec
     slice-aggregate-geometry
     geometry-requires
-    enum-known-drawn
-    enum-told
-    returns
     centred-requires
     centred-requires-2
     slice-aggregate-clutter
     clutter-requires
     same-length
     same-length-2
-    returns-2)
+    returns)

@@ -1,8 +1,7 @@
 -- `layout::layers_clutter` meets its contract.
 use mathlib.Core.Path.{ap, _∙_}
 use denote.Ref.{now}
-use Rattle.layout.specs.Layout.{Plan, planBy}
-use Rattle.layout.specs.Choice.{counted}
+use Rattle.layout.specs.Layout.{Plan, planBy, clutterAt}
 use borrow.Author.Needs.{needs}
 use Rattle.layout.proofs.layers_clutter.Statement.{statement}
 use Rattle.layout.proofs.layers_clutter.Tie as tie
@@ -23,7 +22,7 @@ returns : tie.Need-returns
 returns c =
     let a = c .before .before .before .before .before .before .before .before .before .before .before .before .before .before .before .before .before .args in
     let p : Plan = planBy (now (a .flags)) (now (a .sources)) (now (a .targets)) (now (a .widths)) (now (a .heights)) in
-    c .clutter-at .ensures ∙ ap (counted p) (c .before .before .before .before .before .before .before .layers-at .ensures)
+    c .clutter-at .ensures ∙ ap (clutterAt p) (c .before .before .before .before .before .before .before .layers-at .ensures)
 
 pub layers-clutter-spec : {M : Type 1} → statement M
 layers-clutter-spec =

@@ -3,7 +3,7 @@ use mathlib.Core.Path.{_≡_}
 use native.Mathlib.Omega.{arith}
 use lib.ListN.{length}
 use denote.Ref.{now}
-use Rattle.ring.specs.Places.{start-below}
+use Rattle.sheet.specs.Starts.{start-below}
 use Rattle.layout.specs.Slices.{ring-done}
 use borrow.Author.Needs.{needs}
 use Rattle.layout.proofs.ring_at.Statement.{statement}

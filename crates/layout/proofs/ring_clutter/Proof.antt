@@ -3,8 +3,7 @@ use mathlib.Core.Path.{_≡_, ap, _∙_}
 use native.Mathlib.Omega.{arith}
 use lib.ListN.{length}
 use denote.Ref.{now}
-use Rattle.layout.specs.Layout.{Plan, planBy}
-use Rattle.layout.specs.Choice.{counted}
+use Rattle.layout.specs.Layout.{Plan, planBy, clutterAt}
 use Rattle.layout.specs.Slices.{ring-slices}
 use borrow.Author.Needs.{needs}
 use Rattle.layout.proofs.ring_clutter.Statement.{statement}
@@ -27,7 +26,7 @@ returns c =
     let a = c .before .before .before .before .before .before .before .before .before .before .before .before .before .before .before .before .before .args in
     let p : Plan = planBy (now (a .flags)) (now (a .sources)) (now (a .targets)) (now (a .widths)) (now (a .heights)) in
     let l : length (now (a .heights)) ≡ length (now (a .widths)) = omega arith in
-    c .clutter-at .ensures ∙ ap (counted p) (c .before .before .before .before .before .before .before .ring-at .ensures ∙ ring-slices (now (a .flags)) (now (a .sources)) (now (a .targets)) (now (a .widths)) (now (a .heights)) l)
+    c .clutter-at .ensures ∙ ap (clutterAt p) (c .before .before .before .before .before .before .before .ring-at .ensures ∙ ring-slices (now (a .flags)) (now (a .sources)) (now (a .targets)) (now (a .widths)) (now (a .heights)) l)
 
 pub ring-clutter-spec : {M : Type 1} → statement M
 ring-clutter-spec =

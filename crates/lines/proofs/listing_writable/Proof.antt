@@ -1,6 +1,7 @@
 -- `lines::listing_writable` meets its contract.
-use Rattle.lines.specs.Lines.{listWritable}
-use Rattle.lines.proofs.Laws.{passed, stopped}
+use mathlib.Core.Path.{sym, _∙_}
+use Rattle.lines.specs.Lines.{lineWritable}
+use Rattle.lines.proofs.Laws.{passed, stopped, list-tests}
 use borrow.Author.Needs.{needs}
 use Rattle.lines.proofs.listing_writable.Statement.{statement}
 use Rattle.lines.proofs.listing_writable.Tie as tie
@@ -9,29 +10,29 @@ pair-ok-requires : tie.Need-pair-ok-requires
 pair-ok-requires c κs = tt
 
 returns : tie.Need-returns
-unfolding listWritable
-returns c = stopped _ (c .before .pair-ok .ensures) (c .if1 .taken)
+unfolding lineWritable
+returns c = stopped _ (c .before .pair-ok .ensures) (c .if1 .taken) ∙ sym (list-tests _ _ _ _ _)
 
 states-ok-requires : tie.Need-states-ok-requires
 states-ok-requires c κs = search needs
 
 returns-2 : tie.Need-returns-2
-unfolding listWritable
-returns-2 c = passed (c .before .before .before .pair-ok .ensures) (c .before .before .if1 .left) (stopped _ (c .before .states-ok .ensures) (c .if2 .taken))
+unfolding lineWritable
+returns-2 c = passed (c .before .before .before .pair-ok .ensures) (c .before .before .if1 .left) (stopped _ (c .before .states-ok .ensures) (c .if2 .taken)) ∙ sym (list-tests _ _ _ _ _)
 
 records-ok-requires : tie.Need-records-ok-requires
 records-ok-requires c κs = search needs
 
 returns-3 : tie.Need-returns-3
-unfolding listWritable
-returns-3 c = passed (c .before .before .before .before .before .pair-ok .ensures) (c .before .before .before .before .if1 .left) (passed (c .before .before .before .states-ok .ensures) (c .before .before .if2 .left) (stopped _ (c .before .records-ok .ensures) (c .if3 .taken)))
+unfolding lineWritable
+returns-3 c = passed (c .before .before .before .before .before .pair-ok .ensures) (c .before .before .before .before .if1 .left) (passed (c .before .before .before .states-ok .ensures) (c .before .before .if2 .left) (stopped _ (c .before .records-ok .ensures) (c .if3 .taken))) ∙ sym (list-tests _ _ _ _ _)
 
 starts-ok-requires : tie.Need-starts-ok-requires
 starts-ok-requires c κs = search needs
 
 returns-4 : tie.Need-returns-4
-unfolding listWritable
-returns-4 c = passed (c .before .before .before .before .before .before .pair-ok .ensures) (c .before .before .before .before .before .if1 .left) (passed (c .before .before .before .before .states-ok .ensures) (c .before .before .before .if2 .left) (passed (c .before .before .records-ok .ensures) (c .before .if3 .left) (c .starts-ok .ensures)))
+unfolding lineWritable
+returns-4 c = passed (c .before .before .before .before .before .before .pair-ok .ensures) (c .before .before .before .before .before .if1 .left) (passed (c .before .before .before .before .states-ok .ensures) (c .before .before .before .if2 .left) (passed (c .before .before .records-ok .ensures) (c .before .if3 .left) (c .starts-ok .ensures))) ∙ sym (list-tests _ _ _ _ _)
 
 pub listing-writable-spec : {M : Type 1} → statement M
 listing-writable-spec =

@@ -1,6 +1,8 @@
 -- `lines::pair_ok` meets its contract.
 use mathlib.Core.Path.{sym, _∙_}
-use Rattle.lines.proofs.Laws.{and-yes, and-no}
+use Rattle.lines.specs.Every.{every}
+use Rattle.lines.specs.Lines.{fieldWritable, fieldsWritable}
+use Rattle.lines.proofs.Laws.{and-yes, and-no, last}
 use Rattle.lines.proofs.pair_ok.Statement.{statement}
 use Rattle.lines.proofs.pair_ok.Tie as tie
 
@@ -11,9 +13,11 @@ writable-requires-2 : tie.Need-writable-requires-2
 writable-requires-2 c κs = tt
 
 returns : tie.Need-returns
-returns c = and-yes (sym (c .before .before .writable .ensures) ∙ c .before .if1 .taken) (c .writable2 .ensures)
+unfolding fieldsWritable fieldWritable every
+returns c = and-yes (sym (c .before .before .writable .ensures) ∙ c .before .if1 .taken) (last (c .writable2 .ensures))
 
 returns-2 : tie.Need-returns-2
+unfolding fieldsWritable fieldWritable every
 returns-2 c = and-no _ (sym (c .before .writable .ensures) ∙ c .if1 .left)
 
 pub pair-ok-spec : {M : Type 1} → statement M

@@ -1,5 +1,4 @@
 -- `lines::path_ok` meets its contract.
-use Rattle.lines.specs.Lines.{pathOk}
 use Rattle.lines.proofs.path_ok.Statement.{statement}
 use Rattle.lines.proofs.path_ok.Tie as tie
 
@@ -7,7 +6,6 @@ curve-writable-requires : tie.Need-curve-writable-requires
 curve-writable-requires c κs = tt
 
 returns : tie.Need-returns
-unfolding pathOk
 returns c = c .curve-writable .ensures
 
 pub path-ok-spec : {M : Type 1} → statement M

@@ -7,20 +7,23 @@ use Rattle.laws.specs.Flat.{part, table}
 use Rattle.records.specs.Records.{decodeGeometry, decodeRecords}
 use borrow.Author.Tests.{not-true, not-false}
 use Rattle.lines.specs.Every.{every, every-stop, every-turn, every-end}
-use Rattle.lines.specs.Lines.{pathOk, pathsWritable}
+use Rattle.svg.specs.Paths.{curvePath, pathWritable}
+use Rattle.spot.specs.declared.Geometry.{Geometry}
+use Rattle.lines.specs.Each.{every-map}
+use Rattle.lines.specs.Lines.{pathsOf, pathsWritable}
 use Rattle.lines.proofs.Laws.{table-from, table-front, table-none}
 use Rattle.lines.proofs.paths_writable.Statement.{statement}
 use Rattle.lines.proofs.paths_writable.Tie as tie
 
 abbrev Inv-loop : tie.InvT-loop
-Inv-loop records count k₀ k = (k ≤ count) × (every pathOk (table (λ j. decodeGeometry (part 20 j records)) k (count - k)) ≡ pathsWritable (decodeRecords count records))
+Inv-loop records count k₀ k = (k ≤ count) × (every (λ (g : Geometry). pathWritable (curvePath (g .curve))) (table (λ j. decodeGeometry (part 20 j records)) k (count - k)) ≡ pathsWritable (decodeRecords count records))
 
 abbrev μ-loop : tie.MeasureT-loop
 μ-loop records count k₀ k = count - k
 
 loop-holds : tie.Need-loop-holds Inv-loop μ-loop
-unfolding pathsWritable
-loop-holds c = (omega arith, ap (every pathOk) (table-from (λ j. decodeGeometry (part 20 j (now (c .before .args .records)))) (c .before .args .count)))
+unfolding pathsWritable pathsOf
+loop-holds c = (omega arith, ap (every (λ (g : Geometry). pathWritable (curvePath (g .curve)))) (table-from (λ j. decodeGeometry (part 20 j (now (c .before .args .records)))) (c .before .args .count)) ∙ sym (every-map pathWritable _ _))
 
 geometry-at-requires : tie.Need-geometry-at-requires Inv-loop μ-loop
 geometry-at-requires c κs = omega arith
@@ -29,7 +32,7 @@ path-ok-requires : tie.Need-path-ok-requires Inv-loop μ-loop
 path-ok-requires c κs = tt
 
 returns : tie.Need-returns Inv-loop μ-loop
-returns c = every-stop pathOk (decodeGeometry (part 20 (c .before .before .before .before .loop .k) (now (c .before .before .before .before .before .before .args .records)))) (table-front _ (c .before .before .before .before .loop .k) (c .before .before .before .before .before .before .args .count) (omega arith)) (ap pathOk (sym (c .before .before .geometry-at .ensures)) ∙ sym (c .before .path-ok .ensures) ∙ not-true _ (c .if1 .taken)) (c .before .before .before .before .loop .inv .1)
+returns c = every-stop (λ (g : Geometry). pathWritable (curvePath (g .curve))) (decodeGeometry (part 20 (c .before .before .before .before .loop .k) (now (c .before .before .before .before .before .before .args .records)))) (table-front _ (c .before .before .before .before .loop .k) (c .before .before .before .before .before .before .args .count) (omega arith)) (ap (λ (g : Geometry). pathWritable (curvePath (g .curve))) (sym (c .before .before .geometry-at .ensures)) ∙ sym (c .before .path-ok .ensures) ∙ not-true _ (c .if1 .taken)) (c .before .before .before .before .loop .inv .1)
 
 add-k : tie.Need-add-k Inv-loop μ-loop
 add-k c = omega arith
@@ -38,10 +41,10 @@ loop-less : tie.Need-loop-less Inv-loop μ-loop
 loop-less c = omega arith
 
 loop-again : tie.Need-loop-again Inv-loop μ-loop
-loop-again c = (omega arith, every-turn pathOk (decodeGeometry (part 20 (c .before .before .before .before .loop .k) (now (c .before .before .before .before .before .before .args .records)))) (table-front _ (c .before .before .before .before .loop .k) (c .before .before .before .before .before .before .args .count) (omega arith)) (ap pathOk (sym (c .before .before .geometry-at .ensures)) ∙ sym (c .before .path-ok .ensures) ∙ not-false _ (c .if1 .left)) (c .before .before .before .before .loop .inv .1))
+loop-again c = (omega arith, every-turn (λ (g : Geometry). pathWritable (curvePath (g .curve))) (decodeGeometry (part 20 (c .before .before .before .before .loop .k) (now (c .before .before .before .before .before .before .args .records)))) (table-front _ (c .before .before .before .before .loop .k) (c .before .before .before .before .before .before .args .count) (omega arith)) (ap (λ (g : Geometry). pathWritable (curvePath (g .curve))) (sym (c .before .before .geometry-at .ensures)) ∙ sym (c .before .path-ok .ensures) ∙ not-false _ (c .if1 .left)) (c .before .before .before .before .loop .inv .1))
 
 returns-2 : tie.Need-returns-2 Inv-loop μ-loop
-returns-2 c = every-end pathOk (table-none _ (c .before .loop .k) (c .before .before .before .args .count) (omega arith)) (c .before .loop .inv .1)
+returns-2 c = every-end (λ (g : Geometry). pathWritable (curvePath (g .curve))) (table-none _ (c .before .loop .k) (c .before .before .before .args .count) (omega arith)) (c .before .loop .inv .1)
 
 pub paths-writable-spec : {M : Type 1} → statement M
 paths-writable-spec =

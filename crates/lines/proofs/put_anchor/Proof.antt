@@ -1,7 +1,9 @@
 -- `lines::put_anchor` meets its contract.
-use mathlib.Core.Path.{sym, ap, refl}
+use mathlib.Core.Path.{_≡_, sym, ap, refl}
+use mathlib.Core.List.{[], _∷_, flatMap}
 use Rattle.laws.specs.Writers.{wrote-as}
-use Rattle.lines.specs.Lines.{anchorText}
+use Rattle.spot.specs.declared.Anchor.{Anchor}
+use Rattle.lines.specs.Lines.{wordField, fieldText, fieldsText, anchorWord}
 use borrow.Author.Needs.{needs}
 use Rattle.lines.proofs.put_anchor.Statement.{statement}
 use Rattle.lines.proofs.put_anchor.Tie as tie
@@ -37,22 +39,22 @@ same-length : tie.Need-same-length
 same-length c = c .before .before .put-bytes .kept .0
 
 returns : tie.Need-returns
-unfolding anchorText
-returns c = wrote-as (sym (ap anchorText (c .before .before .before .before .before .enum-told .given .1))) (c .before .before .put-bytes .ensures)
+unfolding fieldText fieldsText flatMap
+returns c = wrote-as (sym (ap (λ (a : Anchor). fieldsText (wordField (anchorWord a) ∷ [])) (c .before .before .before .before .before .enum-told .given .1))) (c .before .before .put-bytes .ensures)
 
 same-length-2 : tie.Need-same-length-2
 same-length-2 c = c .before .before .put-bytes2 .kept .0
 
 returns-2 : tie.Need-returns-2
-unfolding anchorText
-returns-2 c = wrote-as (sym (ap anchorText (c .before .before .before .before .before .enum-told2 .given .1))) (c .before .before .put-bytes2 .ensures)
+unfolding fieldText fieldsText flatMap
+returns-2 c = wrote-as (sym (ap (λ (a : Anchor). fieldsText (wordField (anchorWord a) ∷ [])) (c .before .before .before .before .before .enum-told2 .given .1))) (c .before .before .put-bytes2 .ensures)
 
 same-length-3 : tie.Need-same-length-3
 same-length-3 c = c .before .before .put-bytes3 .kept .0
 
 returns-3 : tie.Need-returns-3
-unfolding anchorText
-returns-3 c = wrote-as (sym (ap anchorText (c .before .before .before .before .before .enum-told3 .given .1))) (c .before .before .put-bytes3 .ensures)
+unfolding fieldText fieldsText flatMap
+returns-3 c = wrote-as (sym (ap (λ (a : Anchor). fieldsText (wordField (anchorWord a) ∷ [])) (c .before .before .before .before .before .enum-told3 .given .1))) (c .before .before .put-bytes3 .ensures)
 
 pub put-anchor-spec : {M : Type 1} → statement M
 put-anchor-spec =

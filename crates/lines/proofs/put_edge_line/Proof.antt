@@ -1,7 +1,6 @@
 -- `lines::put_edge_line` meets its contract.
 use mathlib.Core.Path.{refl, _∙_}
-use Rattle.laws.specs.Writers.{wrote-more}
-use Rattle.lines.specs.Lines.{edgeLine}
+use Rattle.lines.proofs.Laws.{wrote-body, wrote-line}
 use Rattle.lines.proofs.put_edge_line.Statement.{statement}
 use Rattle.lines.proofs.put_edge_line.Tie as tie
 
@@ -21,8 +20,7 @@ same-length : tie.Need-same-length
 same-length c = c .before .before .put-byte .kept .0 ∙ c .before .before .before .before .before .before .put-curve .kept .0 ∙ c .before .before .before .before .before .before .before .before .before .before .put-titled .kept .0
 
 returns : tie.Need-returns
-unfolding edgeLine
-returns c = wrote-more (wrote-more (c .before .before .before .before .before .before .before .before .before .before .put-titled .ensures) (c .before .before .before .before .before .before .put-curve .ensures)) (c .before .before .put-byte .ensures)
+returns c = wrote-line _ (wrote-body _ _ (c .before .before .before .before .before .before .before .before .before .before .put-titled .ensures) (c .before .before .before .before .before .before .put-curve .ensures)) (c .before .before .put-byte .ensures)
 
 pub put-edge-line-spec : {M : Type 1} → statement M
 put-edge-line-spec =

@@ -1,7 +1,7 @@
 -- `lines::put_field` meets its contract.
 use mathlib.Core.Path.{_∙_}
-use Rattle.laws.specs.Writers.{wrote-more}
-use Rattle.lines.specs.Lines.{field}
+use Rattle.lines.specs.Lines.{fieldText}
+use Rattle.lines.proofs.Laws.{wrote-field}
 use Rattle.lines.proofs.put_field.Statement.{statement}
 use Rattle.lines.proofs.put_field.Tie as tie
 
@@ -15,8 +15,8 @@ same-length : tie.Need-same-length
 same-length c = c .before .before .put-num .kept .0 ∙ c .before .before .before .before .before .before .put-byte .kept .0
 
 returns : tie.Need-returns
-unfolding field
-returns c = wrote-more (c .before .before .before .before .before .before .put-byte .ensures) (c .before .before .put-num .ensures)
+unfolding fieldText
+returns c = wrote-field _ (c .before .before .before .before .before .before .put-byte .ensures) (c .before .before .put-num .ensures)
 
 pub put-field-spec : {M : Type 1} → statement M
 put-field-spec = tie.close (tie.spec put-byte-requires put-num-requires same-length returns)

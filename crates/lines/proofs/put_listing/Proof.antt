@@ -1,7 +1,7 @@
 -- `lines::put_listing` meets its contract.
 use mathlib.Core.Path.{_∙_}
-use Rattle.laws.specs.Writers.{wrote-more}
-use Rattle.lines.specs.Lines.{listText}
+use Rattle.lines.specs.Lines.{listLines, listText}
+use Rattle.lines.proofs.Laws.{wrote-lines, wrote-both}
 use borrow.Author.Needs.{needs}
 use Rattle.lines.proofs.put_listing.Statement.{statement}
 use Rattle.lines.proofs.put_listing.Tie as tie
@@ -22,8 +22,11 @@ same-length : tie.Need-same-length
 same-length c = c .before .before .put-starts .kept .0 ∙ c .before .before .before .before .before .before .put-records .kept .0 ∙ c .before .before .before .before .before .before .before .before .before .before .put-states .kept .0 ∙ c .before .before .before .before .before .before .before .before .before .before .before .before .before .before .put-size-line .kept .0
 
 returns : tie.Need-returns
-unfolding listText
-returns c = wrote-more (wrote-more (wrote-more (c .before .before .before .before .before .before .before .before .before .before .before .before .before .before .put-size-line .ensures) (c .before .before .before .before .before .before .before .before .before .before .put-states .ensures)) (c .before .before .before .before .before .before .put-records .ensures)) (c .before .before .put-starts .ensures)
+unfolding listText listLines
+returns c =
+    wrote-lines _ _ (c .before .before .before .before .before .before .before .before .before .before .before .before .before .before .put-size-line .ensures)
+    (wrote-both _ _ (c .before .before .before .before .before .before .before .before .before .before .put-states .ensures)
+    (wrote-both _ _ (c .before .before .before .before .before .before .put-records .ensures) (c .before .before .put-starts .ensures)))
 
 pub put-listing-spec : {M : Type 1} → statement M
 put-listing-spec =

@@ -1,7 +1,6 @@
 -- `lines::put_pair` meets its contract.
 use mathlib.Core.Path.{_∙_}
-use Rattle.laws.specs.Writers.{wrote-more}
-use Rattle.lines.specs.Lines.{pair}
+use Rattle.lines.proofs.Laws.{wrote-fields}
 use Rattle.lines.proofs.put_pair.Statement.{statement}
 use Rattle.lines.proofs.put_pair.Tie as tie
 
@@ -15,8 +14,7 @@ same-length : tie.Need-same-length
 same-length c = c .before .before .put-field2 .kept .0 ∙ c .before .before .before .before .before .before .put-field .kept .0
 
 returns : tie.Need-returns
-unfolding pair
-returns c = wrote-more (c .before .before .before .before .before .before .put-field .ensures) (c .before .before .put-field2 .ensures)
+returns c = wrote-fields _ _ (c .before .before .before .before .before .before .put-field .ensures) (c .before .before .put-field2 .ensures)
 
 pub put-pair-spec : {M : Type 1} → statement M
 put-pair-spec = tie.close (tie.spec put-field-requires put-field-requires-2 same-length returns)

@@ -1,6 +1,7 @@
 -- `lines::put_path_line` meets its contract.
 use mathlib.Core.Path.{_∙_}
 use Rattle.laws.specs.Writers.{wrote-more}
+use Rattle.svg.specs.Paths.{curveText}
 use Rattle.lines.specs.Lines.{pathLine}
 use Rattle.lines.proofs.put_path_line.Statement.{statement}
 use Rattle.lines.proofs.put_path_line.Tie as tie
@@ -15,7 +16,7 @@ same-length : tie.Need-same-length
 same-length c = c .before .before .put-byte .kept .0 ∙ c .before .before .before .before .before .before .put-path .kept .0
 
 returns : tie.Need-returns
-unfolding pathLine
+unfolding pathLine curveText
 returns c = wrote-more (c .before .before .before .before .before .before .put-path .ensures) (c .before .before .put-byte .ensures)
 
 pub put-path-line-spec : {M : Type 1} → statement M

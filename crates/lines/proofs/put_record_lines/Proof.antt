@@ -1,7 +1,6 @@
 -- `lines::put_record_lines` meets its contract.
 use mathlib.Core.Path.{_∙_}
-use Rattle.laws.specs.Writers.{wrote-more}
-use Rattle.lines.specs.Lines.{recordLines}
+use Rattle.lines.proofs.Laws.{wrote-lines, wrote-last}
 use Rattle.lines.proofs.put_record_lines.Statement.{statement}
 use Rattle.lines.proofs.put_record_lines.Tie as tie
 
@@ -21,8 +20,11 @@ same-length : tie.Need-same-length
 same-length c = c .before .before .put-label-line .kept .0 ∙ c .before .before .before .before .before .before .put-head-line .kept .0 ∙ c .before .before .before .before .before .before .before .before .before .before .put-tip-line .kept .0 ∙ c .before .before .before .before .before .before .before .before .before .before .before .before .before .before .put-edge-line .kept .0
 
 returns : tie.Need-returns
-unfolding recordLines
-returns c = wrote-more (wrote-more (wrote-more (c .before .before .before .before .before .before .before .before .before .before .before .before .before .before .put-edge-line .ensures) (c .before .before .before .before .before .before .before .before .before .before .put-tip-line .ensures)) (c .before .before .before .before .before .before .put-head-line .ensures)) (c .before .before .put-label-line .ensures)
+returns c =
+    wrote-lines _ _ (c .before .before .before .before .before .before .before .before .before .before .before .before .before .before .put-edge-line .ensures)
+    (wrote-lines _ _ (c .before .before .before .before .before .before .before .before .before .before .put-tip-line .ensures)
+    (wrote-lines _ _ (c .before .before .before .before .before .before .put-head-line .ensures)
+    (wrote-last _ (c .before .before .put-label-line .ensures))))
 
 pub put-record-lines-spec : {M : Type 1} → statement M
 put-record-lines-spec =

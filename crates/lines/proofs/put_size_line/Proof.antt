@@ -1,7 +1,6 @@
 -- `lines::put_size_line` meets its contract.
 use mathlib.Core.Path.{refl, _∙_}
-use Rattle.laws.specs.Writers.{wrote-more}
-use Rattle.lines.specs.Lines.{sizeLine}
+use Rattle.lines.proofs.Laws.{wrote-name, wrote-line}
 use Rattle.lines.proofs.put_size_line.Statement.{statement}
 use Rattle.lines.proofs.put_size_line.Tie as tie
 
@@ -21,8 +20,7 @@ same-length : tie.Need-same-length
 same-length c = c .before .before .put-byte .kept .0 ∙ c .before .before .before .before .before .before .put-pair .kept .0 ∙ c .before .before .before .before .before .before .before .before .before .before .put-bytes .kept .0
 
 returns : tie.Need-returns
-unfolding sizeLine
-returns c = wrote-more (wrote-more (c .before .before .before .before .before .before .before .before .before .before .put-bytes .ensures) (c .before .before .before .before .before .before .put-pair .ensures)) (c .before .before .put-byte .ensures)
+returns c = wrote-line _ (wrote-name _ _ (c .before .before .before .before .before .before .before .before .before .before .put-bytes .ensures) (c .before .before .before .before .before .before .put-pair .ensures)) (c .before .before .put-byte .ensures)
 
 pub put-size-line-spec : {M : Type 1} → statement M
 put-size-line-spec =

@@ -5,7 +5,7 @@ use mathlib.Core.List.{[]}
 use native.Mathlib.Omega.{arith}
 use denote.Ref.{now}
 use Rattle.laws.specs.Writers.{wrote-as, wrote-none}
-use Rattle.lines.specs.Lines.{startText, startLine, stateAt}
+use Rattle.lines.specs.Lines.{startLine, stateAt, lineText}
 use Rattle.lines.proofs.put_start.Statement.{statement}
 use Rattle.lines.proofs.put_start.Tie as tie
 
@@ -19,12 +19,10 @@ same-length : tie.Need-same-length
 same-length c = c .before .before .put-start-line .kept .0
 
 returns : tie.Need-returns
-unfolding startText
-returns c = wrote-as (sym (ap (λ (b : Bool). cond b (startLine (stateAt (c .before .before .before .before .before .before .before .args .k) (c .before .before .before .before .before .before .before .args .x) (c .before .before .before .before .before .before .before .args .y))) []) (sym (c .before .before .before .before .before .is-start .ensures) ∙ c .before .before .before .before .if1 .taken))) (c .before .before .put-start-line .ensures)
+returns c = wrote-as (sym (ap (λ (b : Bool). cond b (lineText (startLine (stateAt (c .before .before .before .before .before .before .before .args .k) (c .before .before .before .before .before .before .before .args .x) (c .before .before .before .before .before .before .before .args .y)))) []) (sym (c .before .before .before .before .before .is-start .ensures) ∙ c .before .before .before .before .if1 .taken))) (c .before .before .put-start-line .ensures)
 
 returns-2 : tie.Need-returns-2
-unfolding startText
-returns-2 c = wrote-as (sym (ap (λ (b : Bool). cond b (startLine (stateAt (c .before .before .before .args .k) (c .before .before .before .args .x) (c .before .before .before .args .y))) []) (sym (c .before .is-start .ensures) ∙ c .if1 .left))) (wrote-none (now (c .before .before .before .args .out)) (c .before .before .before .args .at) (omega arith) (omega arith))
+returns-2 c = wrote-as (sym (ap (λ (b : Bool). cond b (lineText (startLine (stateAt (c .before .before .before .args .k) (c .before .before .before .args .x) (c .before .before .before .args .y)))) []) (sym (c .before .is-start .ensures) ∙ c .if1 .left))) (wrote-none (now (c .before .before .before .args .out)) (c .before .before .before .args .at) (omega arith) (omega arith))
 
 pub put-start-spec : {M : Type 1} → statement M
 put-start-spec =

@@ -1,11 +1,11 @@
 -- `lines::put_start_line` meets its contract.
 use mathlib.Core.Path.{ap, refl, _∙_}
-use mathlib.Core.List.{_∷_}
+use mathlib.Core.List.{[], _∷_}
 use Rattle.float.specs.Constants.{f0}
 use Rattle.shape.specs.declared.«V».{«V»}
-use Rattle.svg.specs.Paths.{headText}
-use Rattle.laws.specs.Writers.{wrote-as, wrote-more}
-use Rattle.lines.specs.Lines.{startLine}
+use Rattle.laws.specs.Writers.{wrote-as}
+use Rattle.lines.specs.Lines.{fieldsText, headField}
+use Rattle.lines.proofs.Laws.{wrote-body, wrote-line}
 use Rattle.lines.proofs.put_start_line.Statement.{statement}
 use Rattle.lines.proofs.put_start_line.Tie as tie
 
@@ -28,8 +28,7 @@ same-length : tie.Need-same-length
 same-length c = c .before .before .put-byte .kept .0 ∙ c .before .before .before .before .before .before .put-head .kept .0 ∙ c .before .before .before .before .before .before .before .before .before .before .before .put-titled .kept .0
 
 returns : tie.Need-returns
-unfolding startLine
-returns c = wrote-more (wrote-more (c .before .before .before .before .before .before .before .before .before .before .before .put-titled .ensures) (wrote-as (ap (λ (p : «V»). 32 ∷ headText p f0) (c .before .before .before .before .before .before .before .start-tip .ensures)) (c .before .before .before .before .before .before .put-head .ensures))) (c .before .before .put-byte .ensures)
+returns c = wrote-line _ (wrote-body _ _ (c .before .before .before .before .before .before .before .before .before .before .before .put-titled .ensures) (wrote-as (ap (λ (p : «V»). fieldsText (headField p f0 ∷ [])) (c .before .before .before .before .before .before .before .start-tip .ensures)) (c .before .before .before .before .before .before .put-head .ensures))) (c .before .before .put-byte .ensures)
 
 pub put-start-line-spec : {M : Type 1} → statement M
 put-start-line-spec =

@@ -1,27 +1,30 @@
 -- `lines::put_starts` meets its contract. The invariant: what is written, with the lines of the starts still to come, is the whole text.
-use mathlib.Core.Path.{_≡_, refl, _∙_}
-use mathlib.Core.List.{flatMap}
+use mathlib.Core.Path.{_≡_, refl, sym, _∙_}
+use mathlib.Core.Bool.{cond}
+use mathlib.Core.List.{[], map, flatMap}
 use Prim.Native.Nat.{_-_, _≤_}
 use native.Mathlib.Omega.{arith}
 use lib.ListN.{length, getD, drop}
 use lib.Ieee.{nan}
 use denote.Ref.{now}
-use Rattle.free.specs.Centres.{centres}
+use Rattle.shape.specs.Centres.{centres}
 use Rattle.lines.specs.Continues.{Continues, continues-whole, texts-turn, texts-end}
-use Rattle.lines.specs.Lines.{State, flagOf, startText, stateAt, statesFrom, startsText}
+use Rattle.sheet.specs.Meaning.{isStart}
+use Rattle.lines.specs.Each.{texts-chosen}
+use Rattle.lines.specs.Lines.{State, flagOf, startLine, stateAt, statesFrom, starts, lineText, linesText}
 use Rattle.lines.proofs.Laws.{states-front, states-none}
 use Rattle.lines.proofs.put_starts.Statement.{statement}
 use Rattle.lines.proofs.put_starts.Tie as tie
 
 abbrev Inv-loop : tie.InvT-loop
-Inv-loop out₀ at xs ys flags next₀ k₀ k-end out next k = (k-end ≡ length xs) × (k ≤ length xs) × (length out ≡ length out₀) × Continues out₀ at out next (flatMap (λ (s : State). startText (flagOf flags s) s) (statesFrom k (drop k (centres xs ys)))) (startsText flags (statesFrom 0 (centres xs ys)))
+Inv-loop out₀ at xs ys flags next₀ k₀ k-end out next k = (k-end ≡ length xs) × (k ≤ length xs) × (length out ≡ length out₀) × Continues out₀ at out next (flatMap (λ (s : State). cond (isStart (flagOf flags s)) (lineText (startLine s)) []) (statesFrom k (drop k (centres xs ys)))) (linesText (map startLine (starts flags (statesFrom 0 (centres xs ys)))))
 
 abbrev μ-loop : tie.MeasureT-loop
 μ-loop out₀ at xs ys flags next₀ k₀ k-end out next k = k-end - k
 
 loop-holds : tie.Need-loop-holds Inv-loop μ-loop
-unfolding startsText
-loop-holds c = (refl, omega arith, refl, continues-whole _ _ (omega arith) refl)
+unfolding linesText starts
+loop-holds c = (refl, omega arith, refl, continues-whole _ _ (omega arith) (sym (texts-chosen lineText startLine _ _)))
 
 shared-slice-read-put-start : tie.Need-shared-slice-read-put-start Inv-loop μ-loop
 shared-slice-read-put-start c = omega arith
@@ -48,13 +51,13 @@ loop-less : tie.Need-loop-less Inv-loop μ-loop
 loop-less c = omega arith
 
 loop-again : tie.Need-loop-again Inv-loop μ-loop
-loop-again c = (c .before .before .before .before .before .before .before .before .loop .inv .0, omega arith, c .before .before .put-start .kept .0 ∙ c .before .before .before .before .before .before .before .before .loop .inv .2, texts-turn (λ (s : State). startText (flagOf (now (c .before .before .before .before .before .before .before .before .before .before .before .before .before .args .flags)) s) s) (stateAt (c .before .before .before .before .before .before .before .before .loop .k) (getD (now (c .before .before .before .before .before .before .before .before .before .before .before .before .before .args .xs)) (c .before .before .before .before .before .before .before .before .loop .k) nan) (getD (now (c .before .before .before .before .before .before .before .before .before .before .before .before .before .args .ys)) (c .before .before .before .before .before .before .before .before .loop .k) nan)) (states-front (now (c .before .before .before .before .before .before .before .before .before .before .before .before .before .args .xs)) (now (c .before .before .before .before .before .before .before .before .before .before .before .before .before .args .ys)) (c .before .before .before .before .before .before .before .before .loop .k) (c .before .before .before .before .before .before .before .before .before .before .before .before .before .pre .0) (omega arith)) (c .before .before .before .before .before .before .before .before .loop .inv .3) (c .before .before .put-start .ensures))
+loop-again c = (c .before .before .before .before .before .before .before .before .loop .inv .0, omega arith, c .before .before .put-start .kept .0 ∙ c .before .before .before .before .before .before .before .before .loop .inv .2, texts-turn (λ (s : State). cond (isStart (flagOf (now (c .before .before .before .before .before .before .before .before .before .before .before .before .before .args .flags)) s)) (lineText (startLine s)) []) (stateAt (c .before .before .before .before .before .before .before .before .loop .k) (getD (now (c .before .before .before .before .before .before .before .before .before .before .before .before .before .args .xs)) (c .before .before .before .before .before .before .before .before .loop .k) nan) (getD (now (c .before .before .before .before .before .before .before .before .before .before .before .before .before .args .ys)) (c .before .before .before .before .before .before .before .before .loop .k) nan)) (states-front (now (c .before .before .before .before .before .before .before .before .before .before .before .before .before .args .xs)) (now (c .before .before .before .before .before .before .before .before .before .before .before .before .before .args .ys)) (c .before .before .before .before .before .before .before .before .loop .k) (c .before .before .before .before .before .before .before .before .before .before .before .before .before .pre .0) (omega arith)) (c .before .before .before .before .before .before .before .before .loop .inv .3) (c .before .before .put-start .ensures))
 
 same-length : tie.Need-same-length Inv-loop μ-loop
 same-length c = c .before .loop .inv .2
 
 returns : tie.Need-returns Inv-loop μ-loop
-returns c = texts-end (λ (s : State). startText (flagOf (now (c .before .before .before .before .before .before .args .flags)) s) s) (states-none (now (c .before .before .before .before .before .before .args .xs)) (now (c .before .before .before .before .before .before .args .ys)) (c .before .loop .k) (c .before .before .before .before .before .before .pre .0) (omega arith)) (omega arith) (c .before .loop .inv .3)
+returns c = texts-end (λ (s : State). cond (isStart (flagOf (now (c .before .before .before .before .before .before .args .flags)) s)) (lineText (startLine s)) []) (states-none (now (c .before .before .before .before .before .before .args .xs)) (now (c .before .before .before .before .before .before .args .ys)) (c .before .loop .k) (c .before .before .before .before .before .before .pre .0) (omega arith)) (omega arith) (c .before .loop .inv .3)
 
 pub put-starts-spec : {M : Type 1} → statement M
 put-starts-spec =

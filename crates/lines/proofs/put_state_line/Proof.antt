@@ -1,7 +1,6 @@
 -- `lines::put_state_line` meets its contract.
 use mathlib.Core.Path.{refl, _∙_}
-use Rattle.laws.specs.Writers.{wrote-more}
-use Rattle.lines.specs.Lines.{stateLine}
+use Rattle.lines.proofs.Laws.{wrote-body, wrote-line}
 use Rattle.lines.proofs.put_state_line.Statement.{statement}
 use Rattle.lines.proofs.put_state_line.Tie as tie
 
@@ -21,8 +20,7 @@ same-length : tie.Need-same-length
 same-length c = c .before .before .put-byte .kept .0 ∙ c .before .before .before .before .before .before .put-pair .kept .0 ∙ c .before .before .before .before .before .before .before .before .before .before .put-titled .kept .0
 
 returns : tie.Need-returns
-unfolding stateLine
-returns c = wrote-more (wrote-more (c .before .before .before .before .before .before .before .before .before .before .put-titled .ensures) (c .before .before .before .before .before .before .put-pair .ensures)) (c .before .before .put-byte .ensures)
+returns c = wrote-line _ (wrote-body _ _ (c .before .before .before .before .before .before .before .before .before .before .put-titled .ensures) (c .before .before .before .before .before .before .put-pair .ensures)) (c .before .before .put-byte .ensures)
 
 pub put-state-line-spec : {M : Type 1} → statement M
 put-state-line-spec =

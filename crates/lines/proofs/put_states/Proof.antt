@@ -1,26 +1,27 @@
 -- `lines::put_states` meets its contract. The invariant: what is written, with the lines of the states still to come, is the whole text.
-use mathlib.Core.Path.{_≡_, refl, _∙_}
-use mathlib.Core.List.{flatMap}
+use mathlib.Core.Path.{_≡_, refl, sym, _∙_}
+use mathlib.Core.List.{map, flatMap}
 use Prim.Native.Nat.{_-_, _≤_}
 use native.Mathlib.Omega.{arith}
 use lib.ListN.{length, drop}
 use denote.Ref.{now}
-use Rattle.free.specs.Centres.{centres}
+use Rattle.shape.specs.Centres.{centres}
 use Rattle.lines.specs.Continues.{Continues, continues-whole, texts-turn, texts-end}
-use Rattle.lines.specs.Lines.{stateLine, statesFrom, statesText}
+use Rattle.lines.specs.Each.{texts-map}
+use Rattle.lines.specs.Lines.{State, stateLine, statesFrom, lineText, linesText}
 use Rattle.lines.proofs.Laws.{states-front, states-none}
 use Rattle.lines.proofs.put_states.Statement.{statement}
 use Rattle.lines.proofs.put_states.Tie as tie
 
 abbrev Inv-loop : tie.InvT-loop
-Inv-loop out₀ at xs ys next₀ k₀ k-end out next k = (k-end ≡ length xs) × (k ≤ length xs) × (length out ≡ length out₀) × Continues out₀ at out next (flatMap stateLine (statesFrom k (drop k (centres xs ys)))) (statesText (statesFrom 0 (centres xs ys)))
+Inv-loop out₀ at xs ys next₀ k₀ k-end out next k = (k-end ≡ length xs) × (k ≤ length xs) × (length out ≡ length out₀) × Continues out₀ at out next (flatMap (λ (s : State). lineText (stateLine s)) (statesFrom k (drop k (centres xs ys)))) (linesText (map stateLine (statesFrom 0 (centres xs ys))))
 
 abbrev μ-loop : tie.MeasureT-loop
 μ-loop out₀ at xs ys next₀ k₀ k-end out next k = k-end - k
 
 loop-holds : tie.Need-loop-holds Inv-loop μ-loop
-unfolding statesText
-loop-holds c = (refl, omega arith, refl, continues-whole _ _ (omega arith) refl)
+unfolding linesText
+loop-holds c = (refl, omega arith, refl, continues-whole _ _ (omega arith) (sym (texts-map lineText stateLine _)))
 
 mul-put-state-line : tie.Need-mul-put-state-line Inv-loop μ-loop
 mul-put-state-line c = omega arith
@@ -44,13 +45,13 @@ loop-less : tie.Need-loop-less Inv-loop μ-loop
 loop-less c = omega arith
 
 loop-again : tie.Need-loop-again Inv-loop μ-loop
-loop-again c = (c .before .before .before .before .before .before .before .loop .inv .0, omega arith, c .before .before .put-state-line .kept .0 ∙ c .before .before .before .before .before .before .before .loop .inv .2, texts-turn stateLine _ (states-front (now (c .before .before .before .before .before .before .before .before .before .before .before .args .xs)) (now (c .before .before .before .before .before .before .before .before .before .before .before .args .ys)) (c .before .before .before .before .before .before .before .loop .k) (c .before .before .before .before .before .before .before .before .before .before .before .pre) (omega arith)) (c .before .before .before .before .before .before .before .loop .inv .3) (c .before .before .put-state-line .ensures))
+loop-again c = (c .before .before .before .before .before .before .before .loop .inv .0, omega arith, c .before .before .put-state-line .kept .0 ∙ c .before .before .before .before .before .before .before .loop .inv .2, texts-turn (λ (s : State). lineText (stateLine s)) _ (states-front (now (c .before .before .before .before .before .before .before .before .before .before .before .args .xs)) (now (c .before .before .before .before .before .before .before .before .before .before .before .args .ys)) (c .before .before .before .before .before .before .before .loop .k) (c .before .before .before .before .before .before .before .before .before .before .before .pre) (omega arith)) (c .before .before .before .before .before .before .before .loop .inv .3) (c .before .before .put-state-line .ensures))
 
 same-length : tie.Need-same-length Inv-loop μ-loop
 same-length c = c .before .loop .inv .2
 
 returns : tie.Need-returns Inv-loop μ-loop
-returns c = texts-end stateLine (states-none (now (c .before .before .before .before .before .args .xs)) (now (c .before .before .before .before .before .args .ys)) (c .before .loop .k) (c .before .before .before .before .before .pre) (omega arith)) (omega arith) (c .before .loop .inv .3)
+returns c = texts-end (λ (s : State). lineText (stateLine s)) (states-none (now (c .before .before .before .before .before .args .xs)) (now (c .before .before .before .before .before .args .ys)) (c .before .loop .k) (c .before .before .before .before .before .pre) (omega arith)) (omega arith) (c .before .loop .inv .3)
 
 pub put-states-spec : {M : Type 1} → statement M
 put-states-spec =

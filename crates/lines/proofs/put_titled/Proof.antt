@@ -1,7 +1,7 @@
 -- `lines::put_titled` meets its contract.
 use mathlib.Core.Path.{_∙_}
-use Rattle.laws.specs.Writers.{wrote-more}
-use Rattle.lines.specs.Lines.{titled}
+use Rattle.lines.specs.Lines.{fieldText}
+use Rattle.lines.proofs.Laws.{wrote-field, wrote-name}
 use Rattle.lines.proofs.put_titled.Statement.{statement}
 use Rattle.lines.proofs.put_titled.Tie as tie
 
@@ -18,8 +18,8 @@ same-length : tie.Need-same-length
 same-length c = c .before .before .put-number .kept .0 ∙ c .before .before .before .before .before .before .put-byte .kept .0 ∙ c .before .before .before .before .before .before .before .before .before .before .put-bytes .kept .0
 
 returns : tie.Need-returns
-unfolding titled
-returns c = wrote-more (c .before .before .before .before .before .before .before .before .before .before .put-bytes .ensures) (wrote-more (c .before .before .before .before .before .before .put-byte .ensures) (c .before .before .put-number .ensures))
+unfolding fieldText
+returns c = wrote-name _ _ (c .before .before .before .before .before .before .before .before .before .before .put-bytes .ensures) (wrote-field _ (c .before .before .before .before .before .before .put-byte .ensures) (c .before .before .put-number .ensures))
 
 pub put-titled-spec : {M : Type 1} → statement M
 put-titled-spec =

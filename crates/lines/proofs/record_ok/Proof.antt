@@ -1,6 +1,8 @@
 -- `lines::record_ok` meets its contract.
-use Rattle.lines.specs.Lines.{recordOk}
-use Rattle.lines.proofs.Laws.{passed, stopped}
+use mathlib.Core.Path.{sym, _∙_}
+use Rattle.lines.specs.Every.{every}
+use Rattle.lines.specs.Lines.{fieldWritable, fieldsWritable, lineWritable, linesWritable}
+use Rattle.lines.proofs.Laws.{passed, stopped, last}
 use Rattle.lines.proofs.record_ok.Statement.{statement}
 use Rattle.lines.proofs.record_ok.Tie as tie
 
@@ -8,24 +10,45 @@ path-ok-requires : tie.Need-path-ok-requires
 path-ok-requires c κs = tt
 
 returns : tie.Need-returns
-unfolding recordOk
-returns c = stopped _ (c .before .path-ok .ensures) (c .if1 .taken)
+unfolding linesWritable lineWritable fieldsWritable fieldWritable every
+returns c = stopped _ (last (c .before .path-ok .ensures)) (c .if1 .taken)
 
 tip-ok-requires : tie.Need-tip-ok-requires
 tip-ok-requires c κs = tt
 
 returns-2 : tie.Need-returns-2
-unfolding recordOk
-returns-2 c = passed (c .before .before .before .path-ok .ensures) (c .before .before .if1 .left) (stopped _ (c .before .tip-ok .ensures) (c .if2 .taken))
+unfolding linesWritable lineWritable fieldsWritable fieldWritable every
+returns-2 c = passed (last (c .before .before .before .path-ok .ensures)) (c .before .before .if1 .left)
+    (stopped _ (c .before .tip-ok .ensures) (c .if2 .taken))
+
+head-writable-requires : tie.Need-head-writable-requires
+head-writable-requires c κs = tt
+
+returns-3 : tie.Need-returns-3
+unfolding linesWritable lineWritable fieldsWritable fieldWritable every
+returns-3 c = passed (last (c .before .before .before .before .before .path-ok .ensures)) (c .before .before .before .before .if1 .left)
+    (passed (c .before .before .before .tip-ok .ensures) (c .before .before .if2 .left)
+    (stopped _ (last (c .before .head-writable .ensures)) (c .if3 .taken)))
 
 pair-ok-requires : tie.Need-pair-ok-requires
 pair-ok-requires c κs = tt
 
-returns-3 : tie.Need-returns-3
-unfolding recordOk
-returns-3 c = passed (c .before .before .before .before .path-ok .ensures) (c .before .before .before .if1 .left) (passed (c .before .before .tip-ok .ensures) (c .before .if2 .left) (c .pair-ok .ensures))
+returns-4 : tie.Need-returns-4
+unfolding linesWritable lineWritable fieldsWritable fieldWritable every
+returns-4 c = passed (last (c .before .before .before .before .before .before .path-ok .ensures)) (c .before .before .before .before .before .if1 .left)
+    (passed (c .before .before .before .before .tip-ok .ensures) (c .before .before .before .if2 .left)
+    (passed (last (c .before .before .head-writable .ensures)) (c .before .if3 .left)
+    (last (c .pair-ok .ensures))))
 
 pub record-ok-spec : {M : Type 1} → statement M
 record-ok-spec =
     tie.close
-    (tie.spec path-ok-requires returns tip-ok-requires returns-2 pair-ok-requires returns-3)
+    (tie.spec
+    path-ok-requires
+    returns
+    tip-ok-requires
+    returns-2
+    head-writable-requires
+    returns-3
+    pair-ok-requires
+    returns-4)

@@ -3,8 +3,10 @@ use mathlib.Core.Path.{sym, ap, _∙_}
 use mathlib.Core.Bool.{Bool, true, cond}
 use Rattle.float.specs.Constants.{f0}
 use Rattle.shape.specs.declared.«V».{«V»}
-use Rattle.shape.specs.Plane.{vec}
-use Rattle.lines.specs.Lines.{startOk, headOk, startTip}
+use Rattle.svg.specs.Paths.{headOf, headPath, pathWritable}
+use Rattle.lines.specs.Every.{every}
+use Rattle.lines.specs.Lines.{stateAt, startLine, fieldWritable, fieldsWritable, lineWritable}
+use Rattle.lines.proofs.Laws.{last}
 use Rattle.lines.proofs.start_ok.Statement.{statement}
 use Rattle.lines.proofs.start_ok.Tie as tie
 
@@ -18,12 +20,16 @@ head-writable-requires : tie.Need-head-writable-requires
 head-writable-requires c κs = tt
 
 returns : tie.Need-returns
-unfolding startOk
-returns c = c .head-writable .ensures ∙ ap (λ (p : «V»). headOk p f0) (c .before .start-tip .ensures) ∙ sym (ap (λ (b : Bool). cond b (headOk (startTip (vec (c .before .before .before .before .args .x) (c .before .before .before .before .args .y))) f0) true) (sym (c .before .before .before .is-start .ensures) ∙ c .before .before .if1 .taken))
+unfolding lineWritable fieldsWritable fieldWritable every
+returns c =
+    last (c .head-writable .ensures ∙ ap (λ (p : «V»). pathWritable (headPath (headOf p f0))) (c .before .start-tip .ensures))
+    ∙ sym (ap (λ (b : Bool). cond b (lineWritable (startLine (stateAt (c .before .before .before .before .args .k) (c .before .before .before .before .args .x) (c .before .before .before .before .args .y)))) true)
+    (sym (c .before .before .before .is-start .ensures) ∙ c .before .before .if1 .taken))
 
 returns-2 : tie.Need-returns-2
-unfolding startOk
-returns-2 c = sym (ap (λ (b : Bool). cond b (headOk (startTip (vec (c .before .before .args .x) (c .before .before .args .y))) f0) true) (sym (c .before .is-start .ensures) ∙ c .if1 .left))
+returns-2 c =
+    sym (ap (λ (b : Bool). cond b (lineWritable (startLine (stateAt (c .before .before .args .k) (c .before .before .args .x) (c .before .before .args .y)))) true)
+    (sym (c .before .is-start .ensures) ∙ c .if1 .left))
 
 pub start-ok-spec : {M : Type 1} → statement M
 start-ok-spec =

@@ -5,24 +5,27 @@ use native.Mathlib.Omega.{arith}
 use lib.ListN.{length, getD, drop}
 use lib.Ieee.{nan}
 use denote.Ref.{now}
-use mathlib.Core.Bool.{Bool}
+use mathlib.Core.Bool.{Bool, true, cond}
 use borrow.Author.Tests.{not-true, not-false}
-use Rattle.free.specs.Centres.{centres}
+use Rattle.shape.specs.Centres.{centres}
 use Rattle.lines.specs.Every.{every, every-stop, every-turn, every-end}
-use Rattle.lines.specs.Lines.{State, flagOf, startOk, stateAt, statesFrom, startsOk}
+use mathlib.Core.List.{map}
+use Rattle.sheet.specs.Meaning.{isStart}
+use Rattle.lines.specs.Each.{every-chosen}
+use Rattle.lines.specs.Lines.{State, flagOf, startLine, stateAt, statesFrom, starts, lineWritable, linesWritable}
 use Rattle.lines.proofs.Laws.{states-front, states-none}
 use Rattle.lines.proofs.starts_ok.Statement.{statement}
 use Rattle.lines.proofs.starts_ok.Tie as tie
 
 abbrev Inv-loop : tie.InvT-loop
-Inv-loop xs ys flags k₀ k-end k = (k-end ≡ length xs) × (k ≤ length xs) × (every (λ (s : State). startOk (flagOf flags s) s) (statesFrom k (drop k (centres xs ys))) ≡ startsOk flags (statesFrom 0 (centres xs ys)))
+Inv-loop xs ys flags k₀ k-end k = (k-end ≡ length xs) × (k ≤ length xs) × (every (λ (s : State). cond (isStart (flagOf flags s)) (lineWritable (startLine s)) true) (statesFrom k (drop k (centres xs ys))) ≡ linesWritable (map startLine (starts flags (statesFrom 0 (centres xs ys)))))
 
 abbrev μ-loop : tie.MeasureT-loop
 μ-loop xs ys flags k₀ k-end k = k-end - k
 
 loop-holds : tie.Need-loop-holds Inv-loop μ-loop
-unfolding startsOk
-loop-holds c = (refl, omega arith, refl)
+unfolding linesWritable starts
+loop-holds c = (refl, omega arith, sym (every-chosen lineWritable startLine _ _))
 
 shared-slice-read-start-ok : tie.Need-shared-slice-read-start-ok Inv-loop μ-loop
 shared-slice-read-start-ok c = omega arith
@@ -44,7 +47,7 @@ start-ok-requires c κs = tt
 
 returns : tie.Need-returns Inv-loop μ-loop
 returns c =
-    let p : State → Bool = λ s. startOk (flagOf (now (c .before .before .before .before .before .before .before .before .before .before .args .flags)) s) s in
+    let p : State → Bool = λ s. cond (isStart (flagOf (now (c .before .before .before .before .before .before .before .before .before .before .args .flags)) s)) (lineWritable (startLine s)) true in
     every-stop p (stateAt (c .before .before .before .before .before .before .loop .k) (getD (now (c .before .before .before .before .before .before .before .before .before .before .args .xs)) (c .before .before .before .before .before .before .loop .k) nan) (getD (now (c .before .before .before .before .before .before .before .before .before .before .args .ys)) (c .before .before .before .before .before .before .loop .k) nan)) (states-front (now (c .before .before .before .before .before .before .before .before .before .before .args .xs)) (now (c .before .before .before .before .before .before .before .before .before .before .args .ys)) (c .before .before .before .before .before .before .loop .k) (c .before .before .before .before .before .before .before .before .before .before .pre .0) (omega arith)) (sym (c .before .start-ok .ensures) ∙ not-true _ (c .if1 .taken)) (c .before .before .before .before .before .before .loop .inv .2)
 
 add-k : tie.Need-add-k Inv-loop μ-loop
@@ -55,12 +58,12 @@ loop-less c = omega arith
 
 loop-again : tie.Need-loop-again Inv-loop μ-loop
 loop-again c =
-    let p : State → Bool = λ s. startOk (flagOf (now (c .before .before .before .before .before .before .before .before .before .before .args .flags)) s) s in
+    let p : State → Bool = λ s. cond (isStart (flagOf (now (c .before .before .before .before .before .before .before .before .before .before .args .flags)) s)) (lineWritable (startLine s)) true in
     (c .before .before .before .before .before .before .loop .inv .0, omega arith, every-turn p (stateAt (c .before .before .before .before .before .before .loop .k) (getD (now (c .before .before .before .before .before .before .before .before .before .before .args .xs)) (c .before .before .before .before .before .before .loop .k) nan) (getD (now (c .before .before .before .before .before .before .before .before .before .before .args .ys)) (c .before .before .before .before .before .before .loop .k) nan)) (states-front (now (c .before .before .before .before .before .before .before .before .before .before .args .xs)) (now (c .before .before .before .before .before .before .before .before .before .before .args .ys)) (c .before .before .before .before .before .before .loop .k) (c .before .before .before .before .before .before .before .before .before .before .pre .0) (omega arith)) (sym (c .before .start-ok .ensures) ∙ not-false _ (c .if1 .left)) (c .before .before .before .before .before .before .loop .inv .2))
 
 returns-2 : tie.Need-returns-2 Inv-loop μ-loop
 returns-2 c =
-    let p : State → Bool = λ s. startOk (flagOf (now (c .before .before .before .before .before .args .flags)) s) s in
+    let p : State → Bool = λ s. cond (isStart (flagOf (now (c .before .before .before .before .before .args .flags)) s)) (lineWritable (startLine s)) true in
     every-end p (states-none (now (c .before .before .before .before .before .args .xs)) (now (c .before .before .before .before .before .args .ys)) (c .before .loop .k) (c .before .before .before .before .before .pre .0) (omega arith)) (c .before .loop .inv .2)
 
 pub starts-ok-spec : {M : Type 1} → statement M

@@ -5,22 +5,24 @@ use native.Mathlib.Omega.{arith}
 use lib.ListN.{length, drop}
 use denote.Ref.{now}
 use borrow.Author.Tests.{not-true, not-false}
-use Rattle.free.specs.Centres.{centres}
+use Rattle.shape.specs.Centres.{centres}
 use Rattle.lines.specs.Every.{every, every-stop, every-turn, every-end}
-use Rattle.lines.specs.Lines.{stateOk, statesFrom, statesOk}
+use mathlib.Core.List.{map}
+use Rattle.lines.specs.Each.{every-map}
+use Rattle.lines.specs.Lines.{State, stateLine, statesFrom, fieldWritable, fieldsWritable, lineWritable, linesWritable}
 use Rattle.lines.proofs.Laws.{states-front, states-none}
 use Rattle.lines.proofs.states_ok.Statement.{statement}
 use Rattle.lines.proofs.states_ok.Tie as tie
 
 abbrev Inv-loop : tie.InvT-loop
-Inv-loop xs ys k₀ k-end k = (k-end ≡ length xs) × (k ≤ length xs) × (every stateOk (statesFrom k (drop k (centres xs ys))) ≡ statesOk (statesFrom 0 (centres xs ys)))
+Inv-loop xs ys k₀ k-end k = (k-end ≡ length xs) × (k ≤ length xs) × (every (λ (s : State). lineWritable (stateLine s)) (statesFrom k (drop k (centres xs ys))) ≡ linesWritable (map stateLine (statesFrom 0 (centres xs ys))))
 
 abbrev μ-loop : tie.MeasureT-loop
 μ-loop xs ys k₀ k-end k = k-end - k
 
 loop-holds : tie.Need-loop-holds Inv-loop μ-loop
-unfolding statesOk
-loop-holds c = (refl, omega arith, refl)
+unfolding linesWritable
+loop-holds c = (refl, omega arith, sym (every-map lineWritable stateLine _))
 
 mul-pair-ok : tie.Need-mul-pair-ok Inv-loop μ-loop
 mul-pair-ok c = omega arith
@@ -38,8 +40,8 @@ pair-ok-requires : tie.Need-pair-ok-requires Inv-loop μ-loop
 pair-ok-requires c κs = tt
 
 returns : tie.Need-returns Inv-loop μ-loop
-unfolding stateOk
-returns c = every-stop stateOk _ (states-front (now (c .before .before .before .before .before .before .before .before .args .xs)) (now (c .before .before .before .before .before .before .before .before .args .ys)) (c .before .before .before .before .before .loop .k) (c .before .before .before .before .before .before .before .before .pre) (omega arith)) (sym (c .before .pair-ok .ensures) ∙ not-true _ (c .if1 .taken)) (c .before .before .before .before .before .loop .inv .2)
+unfolding lineWritable fieldsWritable fieldWritable every
+returns c = every-stop (λ (s : State). lineWritable (stateLine s)) _ (states-front (now (c .before .before .before .before .before .before .before .before .args .xs)) (now (c .before .before .before .before .before .before .before .before .args .ys)) (c .before .before .before .before .before .loop .k) (c .before .before .before .before .before .before .before .before .pre) (omega arith)) (sym (c .before .pair-ok .ensures) ∙ not-true _ (c .if1 .taken)) (c .before .before .before .before .before .loop .inv .2)
 
 add-k : tie.Need-add-k Inv-loop μ-loop
 add-k c = omega arith
@@ -48,11 +50,11 @@ loop-less : tie.Need-loop-less Inv-loop μ-loop
 loop-less c = omega arith
 
 loop-again : tie.Need-loop-again Inv-loop μ-loop
-unfolding stateOk
-loop-again c = (c .before .before .before .before .before .loop .inv .0, omega arith, every-turn stateOk _ (states-front (now (c .before .before .before .before .before .before .before .before .args .xs)) (now (c .before .before .before .before .before .before .before .before .args .ys)) (c .before .before .before .before .before .loop .k) (c .before .before .before .before .before .before .before .before .pre) (omega arith)) (sym (c .before .pair-ok .ensures) ∙ not-false _ (c .if1 .left)) (c .before .before .before .before .before .loop .inv .2))
+unfolding lineWritable fieldsWritable fieldWritable every
+loop-again c = (c .before .before .before .before .before .loop .inv .0, omega arith, every-turn (λ (s : State). lineWritable (stateLine s)) _ (states-front (now (c .before .before .before .before .before .before .before .before .args .xs)) (now (c .before .before .before .before .before .before .before .before .args .ys)) (c .before .before .before .before .before .loop .k) (c .before .before .before .before .before .before .before .before .pre) (omega arith)) (sym (c .before .pair-ok .ensures) ∙ not-false _ (c .if1 .left)) (c .before .before .before .before .before .loop .inv .2))
 
 returns-2 : tie.Need-returns-2 Inv-loop μ-loop
-returns-2 c = every-end stateOk (states-none (now (c .before .before .before .before .args .xs)) (now (c .before .before .before .before .args .ys)) (c .before .loop .k) (c .before .before .before .before .pre) (omega arith)) (c .before .loop .inv .2)
+returns-2 c = every-end (λ (s : State). lineWritable (stateLine s)) (states-none (now (c .before .before .before .before .args .xs)) (now (c .before .before .before .before .args .ys)) (c .before .loop .k) (c .before .before .before .before .pre) (omega arith)) (c .before .loop .inv .2)
 
 pub states-ok-spec : {M : Type 1} → statement M
 states-ok-spec =

@@ -12,23 +12,14 @@ slice-aggregate-read-full c = search needs
 read-full-requires : tie.Need-read-full-requires
 read-full-requires c κs = search needs
 
-array-share-prefix-sheet : tie.Need-array-share-prefix-sheet
-array-share-prefix-sheet c = search needs
-
-slice-aggregate-output : tie.Need-slice-aggregate-output
-slice-aggregate-output c = search needs
-
-slice-aggregate-output-2 : tie.Need-slice-aggregate-output-2
-slice-aggregate-output-2 c = search needs
-
 output-requires : tie.Need-output-requires
 output-requires c κs = search needs
 
 array-share-prefix-text : tie.Need-array-share-prefix-text
-array-share-prefix-text c = search needs
+array-share-prefix-text c = omega (arith, c .output .ensures .1, c .output .ensures .2)
 
 slice-aggregate-write-all : tie.Need-slice-aggregate-write-all
-slice-aggregate-write-all c = sym (length-take-le _ _ (omega (arith, c .before .before .output .ensures .0, c .before .before .output .kept)))
+slice-aggregate-write-all c = sym (length-take-le _ _ (omega (arith, c .before .output .ensures .1, c .before .output .ensures .2)))
 
 write-all-requires : tie.Need-write-all-requires
 write-all-requires c κs = search needs
@@ -42,9 +33,6 @@ main-spec =
     (tie.spec
     slice-aggregate-read-full
     read-full-requires
-    array-share-prefix-sheet
-    slice-aggregate-output
-    slice-aggregate-output-2
     output-requires
     array-share-prefix-text
     slice-aggregate-write-all

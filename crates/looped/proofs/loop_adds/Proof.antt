@@ -2,7 +2,7 @@
 use mathlib.Core.Path.{ap, _∙_}
 use native.Mathlib.Omega.{arith}
 use denote.Ref.{now}
-use Rattle.free.specs.Centres.{centres}
+use Rattle.shape.specs.Centres.{centres}
 use Rattle.trace.specs.Traces.{Owner, arrow, traceOf}
 use Rattle.trace.specs.Form.{decodeTraces}
 use Rattle.trace.specs.Forms.{owner-arrow}

@@ -8,7 +8,7 @@ use denote.Ref.{now}
 use Rattle.laws.specs.Counting.{number, number-none}
 use Rattle.laws.specs.Zip.{zip-drop, zip-past}
 use Rattle.shape.specs.Plane.{vec}
-use Rattle.free.specs.Centres.{centres}
+use Rattle.shape.specs.Centres.{centres}
 use Rattle.trace.specs.Traces.{near}
 use Rattle.trace.specs.Form.{decodeTrace}
 use Rattle.looped.specs.Looped.{others}

@@ -1,7 +1,9 @@
 use mathlib.Core.Path.{_≡_, ap}
+use mathlib.Core.List.{map}
 use Prim.Native.Nat.{_+_, _<_}
 use native.Mathlib.Omega.{arith}
-use Rattle.sheet.specs.Sheet.{count, byteOne, statesOf}
+use Rattle.sheet.specs.Sheet.{count, byteOne, stateChain}
+use Rattle.meaning.specs.Read.{flags-are}
 use Rattle.meaning.proofs.Laws.{Fills, fills-start, fills-cut, fills-end, fills-turn}
 use borrow.Author.Needs.{needs}
 use Rattle.meaning.proofs.flags_into.Statement.{statement}
@@ -15,7 +17,7 @@ use Rattle.reader.proofs.record_of.Reads as record-of-reads
 use Rattle.sheet.proofs.word_at.Reads as word-at-reads
 
 abbrev Inv-loop : tie.InvT-loop
-Inv-loop s out₀ i₀ left₀ k₀ out i left k = Fills s (byteOne s) (statesOf s) out₀ out i left k × (k + left ≡ count s + 1) × (i < 65536) × (count s < 65536)
+Inv-loop s out₀ i₀ left₀ k₀ out i left k = Fills s (byteOne s) (map (byteOne s) (stateChain s)) out₀ out i left k × (k + left ≡ count s + 1) × (i < 65536) × (count s < 65536)
 
 abbrev μ-loop : tie.MeasureT-loop
 μ-loop s out₀ i₀ left₀ k₀ out i left k = left
@@ -30,14 +32,13 @@ add-left : tie.Need-add-left Inv-loop μ-loop
 add-left c = search needs
 
 loop-holds : tie.Need-loop-holds Inv-loop μ-loop
-unfolding statesOf
 loop-holds c = (fills-start (c .before .word-at .ensures .0) (c .word-at2 .ensures .0), omega arith, omega arith, omega arith)
 
 same-length : tie.Need-same-length Inv-loop μ-loop
 same-length c = c .before .before .loop .inv .0 .same
 
 returns : tie.Need-returns Inv-loop μ-loop
-returns c = fills-cut (c .before .before .loop .inv .0) (c .if1 .taken)
+returns c = rw (flags-are _) (fills-cut (c .before .before .loop .inv .0) (c .if1 .taken))
 
 record-of-requires : tie.Need-record-of-requires Inv-loop μ-loop
 record-of-requires c κs = search needs
@@ -67,7 +68,7 @@ same-length-2 : tie.Need-same-length-2 Inv-loop μ-loop
 same-length-2 c = c .before .loop .inv .0 .same
 
 returns-2 : tie.Need-returns-2 Inv-loop μ-loop
-returns-2 c = fills-end (c .before .loop .inv .0) (c .loop-test .left)
+returns-2 c = rw (flags-are _) (fills-end (c .before .loop .inv .0) (c .loop-test .left))
 
 pub flags-into-spec : {M : Type 1} → statement M
 flags-into-spec =

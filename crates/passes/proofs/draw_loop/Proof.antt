@@ -7,7 +7,7 @@ use lib.ListN.{getD}
 use lib.Seq.{length-take-le}
 use lib.Ieee.{Float}
 use denote.Ref.{now}
-use Rattle.free.specs.Centres.{centre, centres}
+use Rattle.shape.specs.Centres.{centre, centres}
 use Rattle.place.specs.Scene.{Scene, scene}
 use Rattle.looped.specs.Looped.{loopOf, looped}
 use Rattle.routing.specs.Routing.{Size}

@@ -2,7 +2,7 @@
 use mathlib.Core.Path.{_∙_}
 use native.Mathlib.Omega.{arith}
 use denote.Ref.{now}
-use Rattle.free.specs.Centres.{centres}
+use Rattle.shape.specs.Centres.{centres}
 use Rattle.routing.specs.Passes.{sizesBy}
 use Rattle.passes.specs.Steps.{rimBy, drawnBy}
 use Rattle.passes.proofs.Laws.{loop-step, loop-skip}

@@ -1,7 +1,7 @@
 -- `passes::loop_turn` meets its contract.
 use native.Mathlib.Omega.{arith}
 use denote.Ref.{now}
-use Rattle.free.specs.Centres.{centres}
+use Rattle.shape.specs.Centres.{centres}
 use Rattle.place.specs.Scene.{Scene, scene}
 use Rattle.looped.specs.Looped.{Loop, looped}
 use Rattle.routing.specs.Passes.{sizesBy}

@@ -5,7 +5,7 @@ use native.Mathlib.Omega.{arith}
 use lib.ListN.{length}
 use denote.Ref.{now}
 use Rattle.laws.specs.Loops.{up, up-step, up-done}
-use Rattle.free.specs.Centres.{centres}
+use Rattle.shape.specs.Centres.{centres}
 use Rattle.routing.specs.Passes.{Drawn, sizesBy}
 use Rattle.passes.specs.Steps.{rimBy, drawnBy, loopStep, loopPass}
 use borrow.Author.Needs.{needs}

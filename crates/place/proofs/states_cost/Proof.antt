@@ -8,7 +8,7 @@ use denote.Ref.{now}
 use Rattle.laws.specs.Counting.{number, number-turn, number-none}
 use Rattle.laws.specs.Zip.{zip-drop, zip-past}
 use Rattle.shape.specs.Plane.{vec}
-use Rattle.free.specs.Centres.{centres}
+use Rattle.shape.specs.Centres.{centres}
 use Rattle.place.specs.Scene.{near}
 use Rattle.place.proofs.states_cost.Statement.{statement}
 use Rattle.place.proofs.states_cost.Tie as tie

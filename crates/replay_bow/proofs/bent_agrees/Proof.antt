@@ -1,12 +1,13 @@
 -- `replay_bow::bent_agrees` meets its contract. Assumes nothing.
-use mathlib.Core.Path.{ap, ap₂, _∙_}
 use mathlib.Core.Bool.{Bool}
 use denote.Ref.{now}
 use borrow.Author.Tests.{eq-eqb, ne-eqb}
 use Rattle.free.specs.declared.Chord.{Chord}
-use Rattle.free.specs.Centres.{centres}
+use Rattle.shape.specs.Centres.{centres}
 use Rattle.bow.specs.Bend.{bend}
-use Rattle.replay_bow.specs.Cases.{bentAgrees, bowIs}
+use mathlib.Core.Path.{sym, ap, ap₂, _∙_}
+use lib.Ieee.{Float}
+use Rattle.replay_bow.specs.Cases.{withFloat, bentAgrees}
 use borrow.Author.Needs.{needs}
 use Rattle.replay_bow.proofs.bent_agrees.Statement.{statement}
 use Rattle.replay_bow.proofs.bent_agrees.Tie as tie
@@ -18,6 +19,16 @@ returns : tie.Need-returns
 unfolding bentAgrees
 returns c = rw (ne-eqb _ _ (c .if1 .taken))
 
+refused-requires : tie.Need-refused-requires
+refused-requires c κs = search needs
+
+byte-requires : tie.Need-byte-requires
+byte-requires c κs = search needs
+
+returns-2 : tie.Need-returns-2
+unfolding bentAgrees
+returns-2 c = rw (eq-eqb _ _ (c .before .before .before .if1 .left), sym (c .before .before .refused .ensures) ∙ c .before .if2 .taken, ← (c .byte .ensures))
+
 chord-of-requires : tie.Need-chord-of-requires
 chord-of-requires c κs = search needs
 
@@ -27,12 +38,15 @@ both-ways-requires c κs = search needs
 bend-requires : tie.Need-bend-requires
 bend-requires c κs = search needs
 
-bow-is-requires : tie.Need-bow-is-requires
-bow-is-requires c κs = search needs
+with-float-requires : tie.Need-with-float-requires
+with-float-requires c κs = search needs
 
-returns-2 : tie.Need-returns-2
+returns-3 : tie.Need-returns-3
 unfolding bentAgrees
-returns-2 c = rw (eq-eqb _ _ (c .before .before .before .before .if1 .left)) (c .bow-is .ensures ∙ ap (bowIs (now (c .before .before .before .before .before .before .before .before .args .p)) (c .before .before .before .before .before .before .before .before .args .at)) (c .before .bend .ensures ∙ ap₂ (λ (k : Chord) (b : Bool). bend k (centres (now (c .before .before .before .before .before .before .before .before .args .xs)) (now (c .before .before .before .before .before .before .before .before .args .ys))) b) (c .before .before .before .chord-of .ensures) (c .before .before .both-ways .ensures)))
+returns-3 c =
+    let a = c .before .before .before .before .before .before .before .before .before .before .args in
+    rw (eq-eqb _ _ (c .before .before .before .before .before .before .if1 .left), sym (c .before .before .before .before .before .refused .ensures) ∙ c .before .before .before .before .if2 .left)
+    (c .with-float .ensures ∙ ap (withFloat (now (a .p)) (a .at) 0) (c .before .bend .ensures ∙ ap₂ (λ (k : Chord) (b : Bool). bend k (centres (now (a .xs)) (now (a .ys))) b) (c .before .before .before .chord-of .ensures) (c .before .before .both-ways .ensures)))
 
 pub bent-agrees-spec : {M : Type 1} → statement M
 bent-agrees-spec =
@@ -40,8 +54,11 @@ bent-agrees-spec =
     (tie.spec
     add-if1
     returns
+    refused-requires
+    byte-requires
+    returns-2
     chord-of-requires
     both-ways-requires
     bend-requires
-    bow-is-requires
-    returns-2)
+    with-float-requires
+    returns-3)

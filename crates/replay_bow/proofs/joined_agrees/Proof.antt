@@ -1,10 +1,10 @@
 -- `replay_bow::joined_agrees` meets its contract. Assumes nothing.
-use mathlib.Core.Path.{ap, _∙_}
 use denote.Ref.{now}
 use borrow.Author.Tests.{eq-eqb, ne-eqb}
-use Rattle.free.specs.Centres.{centres}
+use Rattle.shape.specs.Centres.{centres}
 use Rattle.bow.specs.Between.{between}
-use Rattle.replay_bow.specs.Cases.{joinedAgrees, joinedIs}
+use mathlib.Core.Path.{sym, ap, _∙_}
+use Rattle.replay_bow.specs.Cases.{arrowIs, joinedAgrees}
 use borrow.Author.Needs.{needs}
 use Rattle.replay_bow.proofs.joined_agrees.Statement.{statement}
 use Rattle.replay_bow.proofs.joined_agrees.Tie as tie
@@ -16,20 +16,42 @@ returns : tie.Need-returns
 unfolding joinedAgrees
 returns c = rw (ne-eqb _ _ (c .if1 .taken))
 
+refused-requires : tie.Need-refused-requires
+refused-requires c κs = search needs
+
+byte-requires : tie.Need-byte-requires
+byte-requires c κs = search needs
+
+returns-2 : tie.Need-returns-2
+unfolding joinedAgrees
+returns-2 c = rw (eq-eqb _ _ (c .before .before .before .if1 .left), sym (c .before .before .refused .ensures) ∙ c .before .if2 .taken, ← (c .byte .ensures))
+
 both-ways-requires : tie.Need-both-ways-requires
 both-ways-requires c κs = search needs
 
 between-requires : tie.Need-between-requires
 between-requires c κs = search needs
 
-joined-is-requires : tie.Need-joined-is-requires
-joined-is-requires c κs = search needs
+arrow-is-requires : tie.Need-arrow-is-requires
+arrow-is-requires c κs = search needs
 
-returns-2 : tie.Need-returns-2
+returns-3 : tie.Need-returns-3
 unfolding joinedAgrees
-returns-2 c = rw (eq-eqb _ _ (c .before .before .before .if1 .left)) (c .joined-is .ensures ∙ ap (joinedIs (now (c .before .before .before .before .before .before .before .args .p)) (c .before .before .before .before .before .before .before .args .at)) (c .before .between .ensures ∙ ap (between (centres (now (c .before .before .before .before .before .before .before .args .xs)) (now (c .before .before .before .before .before .before .before .args .ys))) (c .before .before .before .before .before .before .before .args .from) (c .before .before .before .before .before .before .before .args .to)) (c .before .before .both-ways .ensures)))
+returns-3 c =
+    let a = c .before .before .before .before .before .before .before .before .before .args in
+    rw (eq-eqb _ _ (c .before .before .before .before .before .if1 .left), sym (c .before .before .before .before .refused .ensures) ∙ c .before .before .before .if2 .left)
+    (c .arrow-is .ensures ∙ ap (arrowIs (now (a .p)) (a .at)) (c .before .between .ensures ∙ ap (between (centres (now (a .xs)) (now (a .ys))) (a .from) (a .to)) (c .before .before .both-ways .ensures)))
 
 pub joined-agrees-spec : {M : Type 1} → statement M
 joined-agrees-spec =
     tie.close
-    (tie.spec add-if1 returns both-ways-requires between-requires joined-is-requires returns-2)
+    (tie.spec
+    add-if1
+    returns
+    refused-requires
+    byte-requires
+    returns-2
+    both-ways-requires
+    between-requires
+    arrow-is-requires
+    returns-3)

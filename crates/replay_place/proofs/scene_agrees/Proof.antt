@@ -6,7 +6,7 @@ use denote.Ref.{now}
 use lib.ListN.{length}
 use borrow.Author.Tests.{le-leb, lt-leb, eq-eqb, ne-eqb}
 use Rattle.shape.specs.declared.Rect.{Rect}
-use Rattle.free.specs.Centres.{centres}
+use Rattle.shape.specs.Centres.{centres}
 use Rattle.trace.specs.Traces.{Trace}
 use Rattle.place.specs.Scene.{sceneOf}
 use Rattle.replay_place.specs.Cases.{sceneAgrees, costsAre}

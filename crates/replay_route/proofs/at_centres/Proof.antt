@@ -1,14 +1,13 @@
 -- `replay_route::at_centres` meets its contract. Assumes nothing.
-use mathlib.Core.Path.{sym, ap₂, _∙_}
 use mathlib.Core.List.{List}
 use denote.Ref.{now}
 use native.Mathlib.Omega.{arith}
 use lib.Seq.{length-take-le}
 use lib.Ieee.{Float}
-use Rattle.laws.specs.Put.{put}
 use Rattle.routing.specs.Passes.{sizesBy}
-use Rattle.route.specs.Geometry.{answer, numbers, frameAt}
-use Rattle.replay_route.specs.Laws.{xs-few, ys-few, xs-are, ys-are}
+use mathlib.Core.Path.{sym, ap₂, _∙_}
+use Rattle.route.specs.Geometry.{frameAt}
+use Rattle.replay_route.specs.Laws.{xs-few, ys-few, xs-are, ys-are, case-beyond, case-drawn}
 use borrow.Author.Needs.{needs}
 use Rattle.replay_route.proofs.at_centres.Statement.{statement}
 use Rattle.replay_route.proofs.at_centres.Tie as tie
@@ -58,14 +57,35 @@ fill-requires-2 c κs = search needs
 array-share-prefix-xs : tie.Need-array-share-prefix-xs
 array-share-prefix-xs c = omega (arith, xs-few (now (c .before .before .before .before .before .before .before .before .before .before .before .before .before .before .before .before .before .before .args .p)) (c .before .before .before .before .before .before .before .before .before .before .behind .result) (c .before .before .before .before .before .before .before .before .before .byte .result) (c .before .before .before .before .before .before .before .before .low .result) (c .before .before .before .before .before .before .before .before .before .before .before .before .before .before .before .before .before .before .pre .0) (c .before .before .before .before .before .before .before .before .before .before .behind .ensures .0) (c .before .before .before .before .before .before .before .before .before .byte .ensures) (c .before .before .before .before .before .before .before .before .low .ensures .0))
 
-slice-aggregate-geometry : tie.Need-slice-aggregate-geometry
-slice-aggregate-geometry c = sym (length-take-le _ _ (omega (arith, xs-few (now (c .before .before .before .before .before .before .before .before .before .before .before .before .before .before .before .before .before .before .before .args .p)) (c .before .before .before .before .before .before .before .before .before .before .before .behind .result) (c .before .before .before .before .before .before .before .before .before .before .byte .result) (c .before .before .before .before .before .before .before .before .before .low .result) (c .before .before .before .before .before .before .before .before .before .before .before .before .before .before .before .before .before .before .before .pre .0) (c .before .before .before .before .before .before .before .before .before .before .before .behind .ensures .0) (c .before .before .before .before .before .before .before .before .before .before .byte .ensures) (c .before .before .before .before .before .before .before .before .before .low .ensures .0))))
+slice-aggregate-beyond : tie.Need-slice-aggregate-beyond
+slice-aggregate-beyond c = sym (length-take-le _ _ (omega (arith, xs-few (now (c .before .before .before .before .before .before .before .before .before .before .before .before .before .before .before .before .before .before .before .args .p)) (c .before .before .before .before .before .before .before .before .before .before .before .behind .result) (c .before .before .before .before .before .before .before .before .before .before .byte .result) (c .before .before .before .before .before .before .before .before .before .low .result) (c .before .before .before .before .before .before .before .before .before .before .before .before .before .before .before .before .before .before .before .pre .0) (c .before .before .before .before .before .before .before .before .before .before .before .behind .ensures .0) (c .before .before .before .before .before .before .before .before .before .before .byte .ensures) (c .before .before .before .before .before .before .before .before .before .low .ensures .0))))
 
 array-share-prefix-ys : tie.Need-array-share-prefix-ys
 array-share-prefix-ys c = omega (arith, ys-few (now (c .before .before .before .before .before .before .before .before .before .before .before .before .before .before .before .before .before .before .before .args .p)) (c .before .before .before .before .before .before .before .before .before .before .before .behind .result) (c .before .before .before .before .before .before .before .before .byte2 .result) (c .before .before .before .before .before .before .before .low2 .result) (c .before .before .before .before .before .before .before .before .before .before .before .before .before .before .before .before .before .before .before .pre .0) (c .before .before .before .before .before .before .before .before .before .before .before .behind .ensures .0) (c .before .before .before .before .before .before .before .before .byte2 .ensures) (c .before .before .before .before .before .before .before .low2 .ensures .0))
 
+slice-aggregate-beyond-2 : tie.Need-slice-aggregate-beyond-2
+slice-aggregate-beyond-2 c = sym (length-take-le _ _ (omega (arith, ys-few (now (c .before .before .before .before .before .before .before .before .before .before .before .before .before .before .before .before .before .before .before .before .args .p)) (c .before .before .before .before .before .before .before .before .before .before .before .before .behind .result) (c .before .before .before .before .before .before .before .before .before .byte2 .result) (c .before .before .before .before .before .before .before .before .low2 .result) (c .before .before .before .before .before .before .before .before .before .before .before .before .before .before .before .before .before .before .before .before .pre .0) (c .before .before .before .before .before .before .before .before .before .before .before .before .behind .ensures .0) (c .before .before .before .before .before .before .before .before .before .byte2 .ensures) (c .before .before .before .before .before .before .before .before .low2 .ensures .0))))
+
+beyond-requires : tie.Need-beyond-requires
+beyond-requires c κs = search needs
+
+returns : tie.Need-returns
+returns c =
+    let a = c .before .before .before .before .before .before .before .before .before .before .before .before .before .before .before .before .before .before .before .before .before .before .args in
+    case-beyond _ _ (sizesBy (now (a .widths)) (now (a .heights))) (now (a .records))
+    (ap₂ (λ (x y : List Float). frameAt (now (a .flags)) x y (now (a .sources)) (now (a .targets))) (xs-are (now (c .before .before .before .before .before .before .before .before .before .before .before .before .before .before .before .before .before .before .before .before .before .before .args .p)) (c .before .before .before .before .before .before .before .before .before .before .before .before .before .before .behind .result) (c .before .before .before .before .before .before .before .before .before .before .before .before .before .byte .result) (c .before .before .before .before .before .before .before .before .before .before .before .before .low .result) _ (c .before .before .before .before .before .before .before .before .before .before .before .before .before .before .before .before .before .before .before .before .before .before .pre .0) (c .before .before .before .before .before .before .before .before .before .before .before .before .before .before .behind .ensures .0) (c .before .before .before .before .before .before .before .before .before .before .before .before .before .byte .ensures) (c .before .before .before .before .before .before .before .before .before .before .before .before .low .ensures .0) (c .before .before .before .before .before .before .before .before .fill .ensures)) (ys-are (now (c .before .before .before .before .before .before .before .before .before .before .before .before .before .before .before .before .before .before .before .before .before .before .args .p)) (c .before .before .before .before .before .before .before .before .before .before .before .before .before .before .behind .result) (c .before .before .before .before .before .before .before .before .before .before .before .before .before .byte .result) (c .before .before .before .before .before .before .before .before .before .before .before .before .low .result) (c .before .before .before .before .before .before .before .before .before .before .before .byte2 .result) (c .before .before .before .before .before .before .before .before .before .before .low2 .result) _ (c .before .before .before .before .before .before .before .before .before .before .before .before .before .before .before .before .before .before .before .before .before .before .pre .0) (c .before .before .before .before .before .before .before .before .before .before .before .before .before .before .behind .ensures .0) (c .before .before .before .before .before .before .before .before .before .before .before .before .before .byte .ensures) (c .before .before .before .before .before .before .before .before .before .before .before .before .low .ensures .0) (c .before .before .before .before .before .before .before .before .before .before .before .byte2 .ensures) (c .before .before .before .before .before .before .before .before .before .before .low2 .ensures .0) (c .before .before .before .before .before .fill2 .ensures))) (sym (c .before .beyond .ensures) ∙ c .if1 .taken)
+
+array-share-prefix-xs-2 : tie.Need-array-share-prefix-xs-2
+array-share-prefix-xs-2 c = omega (arith, xs-few (now (c .before .before .before .before .before .before .before .before .before .before .before .before .before .before .before .before .before .before .before .before .before .before .args .p)) (c .before .before .before .before .before .before .before .before .before .before .before .before .before .before .behind .result) (c .before .before .before .before .before .before .before .before .before .before .before .before .before .byte .result) (c .before .before .before .before .before .before .before .before .before .before .before .before .low .result) (c .before .before .before .before .before .before .before .before .before .before .before .before .before .before .before .before .before .before .before .before .before .before .pre .0) (c .before .before .before .before .before .before .before .before .before .before .before .before .before .before .behind .ensures .0) (c .before .before .before .before .before .before .before .before .before .before .before .before .before .byte .ensures) (c .before .before .before .before .before .before .before .before .before .before .before .before .low .ensures .0))
+
+slice-aggregate-geometry : tie.Need-slice-aggregate-geometry
+slice-aggregate-geometry c = sym (length-take-le _ _ (omega (arith, xs-few (now (c .before .before .before .before .before .before .before .before .before .before .before .before .before .before .before .before .before .before .before .before .before .before .before .args .p)) (c .before .before .before .before .before .before .before .before .before .before .before .before .before .before .before .behind .result) (c .before .before .before .before .before .before .before .before .before .before .before .before .before .before .byte .result) (c .before .before .before .before .before .before .before .before .before .before .before .before .before .low .result) (c .before .before .before .before .before .before .before .before .before .before .before .before .before .before .before .before .before .before .before .before .before .before .before .pre .0) (c .before .before .before .before .before .before .before .before .before .before .before .before .before .before .before .behind .ensures .0) (c .before .before .before .before .before .before .before .before .before .before .before .before .before .before .byte .ensures) (c .before .before .before .before .before .before .before .before .before .before .before .before .before .low .ensures .0))))
+
+array-share-prefix-ys-2 : tie.Need-array-share-prefix-ys-2
+array-share-prefix-ys-2 c = omega (arith, ys-few (now (c .before .before .before .before .before .before .before .before .before .before .before .before .before .before .before .before .before .before .before .before .before .before .before .args .p)) (c .before .before .before .before .before .before .before .before .before .before .before .before .before .before .before .behind .result) (c .before .before .before .before .before .before .before .before .before .before .before .before .byte2 .result) (c .before .before .before .before .before .before .before .before .before .before .before .low2 .result) (c .before .before .before .before .before .before .before .before .before .before .before .before .before .before .before .before .before .before .before .before .before .before .before .pre .0) (c .before .before .before .before .before .before .before .before .before .before .before .before .before .before .before .behind .ensures .0) (c .before .before .before .before .before .before .before .before .before .before .before .before .byte2 .ensures) (c .before .before .before .before .before .before .before .before .before .before .before .low2 .ensures .0))
+
 slice-aggregate-geometry-2 : tie.Need-slice-aggregate-geometry-2
-slice-aggregate-geometry-2 c = sym (length-take-le _ _ (omega (arith, ys-few (now (c .before .before .before .before .before .before .before .before .before .before .before .before .before .before .before .before .before .before .before .before .args .p)) (c .before .before .before .before .before .before .before .before .before .before .before .before .behind .result) (c .before .before .before .before .before .before .before .before .before .byte2 .result) (c .before .before .before .before .before .before .before .before .low2 .result) (c .before .before .before .before .before .before .before .before .before .before .before .before .before .before .before .before .before .before .before .before .pre .0) (c .before .before .before .before .before .before .before .before .before .before .before .before .behind .ensures .0) (c .before .before .before .before .before .before .before .before .before .byte2 .ensures) (c .before .before .before .before .before .before .before .before .low2 .ensures .0))))
+slice-aggregate-geometry-2 c = sym (length-take-le _ _ (omega (arith, ys-few (now (c .before .before .before .before .before .before .before .before .before .before .before .before .before .before .before .before .before .before .before .before .before .before .before .before .args .p)) (c .before .before .before .before .before .before .before .before .before .before .before .before .before .before .before .before .behind .result) (c .before .before .before .before .before .before .before .before .before .before .before .before .before .byte2 .result) (c .before .before .before .before .before .before .before .before .before .before .before .before .low2 .result) (c .before .before .before .before .before .before .before .before .before .before .before .before .before .before .before .before .before .before .before .before .before .before .before .before .pre .0) (c .before .before .before .before .before .before .before .before .before .before .before .before .before .before .before .before .behind .ensures .0) (c .before .before .before .before .before .before .before .before .before .before .before .before .before .byte2 .ensures) (c .before .before .before .before .before .before .before .before .before .before .before .before .low2 .ensures .0))))
 
 geometry-requires : tie.Need-geometry-requires
 geometry-requires c κs = search needs
@@ -73,8 +93,11 @@ geometry-requires c κs = search needs
 same-length : tie.Need-same-length
 same-length c = search needs
 
-returns : tie.Need-returns
-returns c = (c .before .before .geometry .ensures .0 ∙ ap₂ (λ (x y : List Float). answer (frameAt (now (c .before .before .before .before .before .before .before .before .before .before .before .before .before .before .before .before .before .before .before .before .before .before .before .before .args .flags)) x y (now (c .before .before .before .before .before .before .before .before .before .before .before .before .before .before .before .before .before .before .before .before .before .before .before .before .args .sources)) (now (c .before .before .before .before .before .before .before .before .before .before .before .before .before .before .before .before .before .before .before .before .before .before .before .before .args .targets))) (sizesBy (now (c .before .before .before .before .before .before .before .before .before .before .before .before .before .before .before .before .before .before .before .before .before .before .before .before .args .widths)) (now (c .before .before .before .before .before .before .before .before .before .before .before .before .before .before .before .before .before .before .before .before .before .before .before .before .args .heights)))) (xs-are (now (c .before .before .before .before .before .before .before .before .before .before .before .before .before .before .before .before .before .before .before .before .before .before .before .before .args .p)) (c .before .before .before .before .before .before .before .before .before .before .before .before .before .before .before .before .behind .result) (c .before .before .before .before .before .before .before .before .before .before .before .before .before .before .before .byte .result) (c .before .before .before .before .before .before .before .before .before .before .before .before .before .before .low .result) _ (c .before .before .before .before .before .before .before .before .before .before .before .before .before .before .before .before .before .before .before .before .before .before .before .before .pre .0) (c .before .before .before .before .before .before .before .before .before .before .before .before .before .before .before .before .behind .ensures .0) (c .before .before .before .before .before .before .before .before .before .before .before .before .before .before .before .byte .ensures) (c .before .before .before .before .before .before .before .before .before .before .before .before .before .before .low .ensures .0) (c .before .before .before .before .before .before .before .before .before .before .fill .ensures)) (ys-are (now (c .before .before .before .before .before .before .before .before .before .before .before .before .before .before .before .before .before .before .before .before .before .before .before .before .args .p)) (c .before .before .before .before .before .before .before .before .before .before .before .before .before .before .before .before .behind .result) (c .before .before .before .before .before .before .before .before .before .before .before .before .before .before .before .byte .result) (c .before .before .before .before .before .before .before .before .before .before .before .before .before .before .low .result) (c .before .before .before .before .before .before .before .before .before .before .before .before .before .byte2 .result) (c .before .before .before .before .before .before .before .before .before .before .before .before .low2 .result) _ (c .before .before .before .before .before .before .before .before .before .before .before .before .before .before .before .before .before .before .before .before .before .before .before .before .pre .0) (c .before .before .before .before .before .before .before .before .before .before .before .before .before .before .before .before .behind .ensures .0) (c .before .before .before .before .before .before .before .before .before .before .before .before .before .before .before .byte .ensures) (c .before .before .before .before .before .before .before .before .before .before .before .before .before .before .low .ensures .0) (c .before .before .before .before .before .before .before .before .before .before .before .before .before .byte2 .ensures) (c .before .before .before .before .before .before .before .before .before .before .before .before .low2 .ensures .0) (c .before .before .before .before .before .before .before .fill2 .ensures)), c .before .before .geometry .ensures .1 ∙ ap₂ (λ (x y : List Float). put (now (c .before .before .before .before .before .before .before .before .before .before .before .before .before .before .before .before .before .before .before .before .before .before .before .before .args .records)) 0 (numbers (frameAt (now (c .before .before .before .before .before .before .before .before .before .before .before .before .before .before .before .before .before .before .before .before .before .before .before .before .args .flags)) x y (now (c .before .before .before .before .before .before .before .before .before .before .before .before .before .before .before .before .before .before .before .before .before .before .before .before .args .sources)) (now (c .before .before .before .before .before .before .before .before .before .before .before .before .before .before .before .before .before .before .before .before .before .before .before .before .args .targets))) (sizesBy (now (c .before .before .before .before .before .before .before .before .before .before .before .before .before .before .before .before .before .before .before .before .before .before .before .before .args .widths)) (now (c .before .before .before .before .before .before .before .before .before .before .before .before .before .before .before .before .before .before .before .before .before .before .before .before .args .heights))))) (xs-are (now (c .before .before .before .before .before .before .before .before .before .before .before .before .before .before .before .before .before .before .before .before .before .before .before .before .args .p)) (c .before .before .before .before .before .before .before .before .before .before .before .before .before .before .before .before .behind .result) (c .before .before .before .before .before .before .before .before .before .before .before .before .before .before .before .byte .result) (c .before .before .before .before .before .before .before .before .before .before .before .before .before .before .low .result) _ (c .before .before .before .before .before .before .before .before .before .before .before .before .before .before .before .before .before .before .before .before .before .before .before .before .pre .0) (c .before .before .before .before .before .before .before .before .before .before .before .before .before .before .before .before .behind .ensures .0) (c .before .before .before .before .before .before .before .before .before .before .before .before .before .before .before .byte .ensures) (c .before .before .before .before .before .before .before .before .before .before .before .before .before .before .low .ensures .0) (c .before .before .before .before .before .before .before .before .before .before .fill .ensures)) (ys-are (now (c .before .before .before .before .before .before .before .before .before .before .before .before .before .before .before .before .before .before .before .before .before .before .before .before .args .p)) (c .before .before .before .before .before .before .before .before .before .before .before .before .before .before .before .before .behind .result) (c .before .before .before .before .before .before .before .before .before .before .before .before .before .before .before .byte .result) (c .before .before .before .before .before .before .before .before .before .before .before .before .before .before .low .result) (c .before .before .before .before .before .before .before .before .before .before .before .before .before .byte2 .result) (c .before .before .before .before .before .before .before .before .before .before .before .before .low2 .result) _ (c .before .before .before .before .before .before .before .before .before .before .before .before .before .before .before .before .before .before .before .before .before .before .before .before .pre .0) (c .before .before .before .before .before .before .before .before .before .before .before .before .before .before .before .before .behind .ensures .0) (c .before .before .before .before .before .before .before .before .before .before .before .before .before .before .before .byte .ensures) (c .before .before .before .before .before .before .before .before .before .before .before .before .before .before .low .ensures .0) (c .before .before .before .before .before .before .before .before .before .before .before .before .before .byte2 .ensures) (c .before .before .before .before .before .before .before .before .before .before .before .before .low2 .ensures .0) (c .before .before .before .before .before .before .before .fill2 .ensures)))
+returns-2 : tie.Need-returns-2
+returns-2 c =
+    let a = c .before .before .before .before .before .before .before .before .before .before .before .before .before .before .before .before .before .before .before .before .before .before .before .before .before .before .before .before .args in
+    case-drawn _ _ (sizesBy (now (a .widths)) (now (a .heights))) (c .before .before .geometry .result) (now (a .records)) _
+    (ap₂ (λ (x y : List Float). frameAt (now (a .flags)) x y (now (a .sources)) (now (a .targets))) (xs-are (now (c .before .before .before .before .before .before .before .before .before .before .before .before .before .before .before .before .before .before .before .before .before .before .before .before .before .before .before .before .args .p)) (c .before .before .before .before .before .before .before .before .before .before .before .before .before .before .before .before .before .before .before .before .behind .result) (c .before .before .before .before .before .before .before .before .before .before .before .before .before .before .before .before .before .before .before .byte .result) (c .before .before .before .before .before .before .before .before .before .before .before .before .before .before .before .before .before .before .low .result) _ (c .before .before .before .before .before .before .before .before .before .before .before .before .before .before .before .before .before .before .before .before .before .before .before .before .before .before .before .before .pre .0) (c .before .before .before .before .before .before .before .before .before .before .before .before .before .before .before .before .before .before .before .before .behind .ensures .0) (c .before .before .before .before .before .before .before .before .before .before .before .before .before .before .before .before .before .before .before .byte .ensures) (c .before .before .before .before .before .before .before .before .before .before .before .before .before .before .before .before .before .before .low .ensures .0) (c .before .before .before .before .before .before .before .before .before .before .before .before .before .before .fill .ensures)) (ys-are (now (c .before .before .before .before .before .before .before .before .before .before .before .before .before .before .before .before .before .before .before .before .before .before .before .before .before .before .before .before .args .p)) (c .before .before .before .before .before .before .before .before .before .before .before .before .before .before .before .before .before .before .before .before .behind .result) (c .before .before .before .before .before .before .before .before .before .before .before .before .before .before .before .before .before .before .before .byte .result) (c .before .before .before .before .before .before .before .before .before .before .before .before .before .before .before .before .before .before .low .result) (c .before .before .before .before .before .before .before .before .before .before .before .before .before .before .before .before .before .byte2 .result) (c .before .before .before .before .before .before .before .before .before .before .before .before .before .before .before .before .low2 .result) _ (c .before .before .before .before .before .before .before .before .before .before .before .before .before .before .before .before .before .before .before .before .before .before .before .before .before .before .before .before .pre .0) (c .before .before .before .before .before .before .before .before .before .before .before .before .before .before .before .before .before .before .before .before .behind .ensures .0) (c .before .before .before .before .before .before .before .before .before .before .before .before .before .before .before .before .before .before .before .byte .ensures) (c .before .before .before .before .before .before .before .before .before .before .before .before .before .before .before .before .before .before .low .ensures .0) (c .before .before .before .before .before .before .before .before .before .before .before .before .before .before .before .before .before .byte2 .ensures) (c .before .before .before .before .before .before .before .before .before .before .before .before .before .before .before .before .low2 .ensures .0) (c .before .before .before .before .before .before .before .before .before .before .before .fill2 .ensures))) (sym (c .before .before .before .before .before .before .before .beyond .ensures) ∙ c .before .before .before .before .before .before .if1 .left) (c .before .before .geometry .ensures .0) (c .before .before .geometry .ensures .1)
 
 pub at-centres-spec : {M : Type 1} → statement M
 at-centres-spec =
@@ -95,9 +118,15 @@ at-centres-spec =
     slice-aggregate-fill-2
     fill-requires-2
     array-share-prefix-xs
-    slice-aggregate-geometry
+    slice-aggregate-beyond
     array-share-prefix-ys
+    slice-aggregate-beyond-2
+    beyond-requires
+    returns
+    array-share-prefix-xs-2
+    slice-aggregate-geometry
+    array-share-prefix-ys-2
     slice-aggregate-geometry-2
     geometry-requires
     same-length
-    returns)
+    returns-2)

@@ -7,7 +7,7 @@ use denote.Ref.{now}
 use Rattle.laws.specs.Put.{put}
 use Rattle.routing.specs.Routing.{Frame, Size}
 use Rattle.routing.specs.Passes.{sizesBy}
-use Rattle.route.specs.Geometry.{answer, numbers}
+use Rattle.route.specs.Geometry.{count, numbers}
 use Rattle.route.proofs.Laws.{centred-frame}
 use borrow.Author.Needs.{needs}
 use Rattle.route.proofs.draw_at.Statement.{statement}
@@ -62,7 +62,7 @@ returns c =
     let p = c .before .before .before .before .before .before .before .before .before .before .before .before .before .before .before .before .before .before .before .before .before .before .before .before .before .before .before .before .before .before .before .before .before .before .before .before .before .before .before .before .before .before .before .before .before .before .before .before .before .before .before .before .pre in
     let sizes : List Size = sizesBy (now (a .widths)) (now (a .heights)) in
     let f = centred-frame (now (a .flags)) (now (a .xs)) (now (a .ys)) _ _ (now (a .sources)) (now (a .targets)) (length (now (a .cx))) (length (now (a .cy))) (omega arith) (omega arith) (c .before .before .before .before .before .before .before .before .before .before .before .before .before .before .before .before .before .before .before .before .before .before .before .before .before .before .before .before .before .before .before .before .before .centred .ensures) (c .before .before .before .before .before .before .before .before .before .before .before .before .before .before .before .before .before .before .before .before .before .before .before .before .before .before .before .before .before .centred2 .ensures) in
-    (c .before .before .before .before .before .before .before .before .before .before .before .before .before .before .before .before .draw .ensures .0 ∙ ap (λ (g : Frame). answer g sizes) f, c .before .before .before .before .before .before .before .before .before .before .before .before .before .before .before .before .draw .ensures .1 ∙ ap (λ (g : Frame). put (now (a .records)) 0 (numbers g sizes)) f)
+    (c .before .before .before .before .before .before .before .before .before .before .before .before .before .before .before .before .draw .ensures .0 ∙ ap (λ (g : Frame). count g sizes) f, c .before .before .before .before .before .before .before .before .before .before .before .before .before .before .before .before .draw .ensures .1 ∙ ap (λ (g : Frame). put (now (a .records)) 0 (numbers g sizes)) f)
 
 pub draw-at-spec : {M : Type 1} → statement M
 draw-at-spec =

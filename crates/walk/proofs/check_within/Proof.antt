@@ -3,7 +3,7 @@ use mathlib.Core.Bool.{not}
 use borrow.Author.Tests.{eq-eqb, ne-eqb}
 use denote.Ref.{now}
 use Rattle.sheet.specs.Accepted.{few}
-use Rattle.sheet.specs.Order.{by-1, by-2, by-3, by-4, by-5, by-6, by-none, verdict-is}
+use Rattle.walk.proofs.Laws.{refused, passed, accepted, check-is}
 use borrow.Author.Needs.{needs}
 use Rattle.walk.proofs.check_within.Statement.{statement}
 use Rattle.walk.proofs.check_within.Tie as tie
@@ -20,40 +20,73 @@ wrong-length-requires : tie.Need-wrong-length-requires
 wrong-length-requires c κs = search needs
 
 returns : tie.Need-returns
-returns c = verdict-is (by-1 (sym (c .before .wrong-length .ensures) ∙ c .if1 .taken))
+returns c = check-is _ _ _ (refused (sym (c .before .wrong-length .ensures) ∙ c .if1 .taken))
 
 word-at-requires : tie.Need-word-at-requires
 word-at-requires c κs = search needs
 
 returns-2 : tie.Need-returns-2
-returns-2 c = verdict-is (by-2 (sym (c .before .before .before .wrong-length .ensures) ∙ c .before .before .if1 .left) (ap not (ne-eqb _ _ (λ e. c .if2 .taken (c .before .word-at .ensures .0 ∙ e)))))
+returns-2 c =
+    check-is _ _ _
+    (passed (sym (c .before .before .before .wrong-length .ensures) ∙ c .before .before .if1 .left)
+    (refused (ap not (ne-eqb _ _ (λ e. c .if2 .taken (c .before .word-at .ensures .0 ∙ e))))))
 
 wrong-bytes-requires : tie.Need-wrong-bytes-requires
 wrong-bytes-requires c κs = search needs
 
 returns-3 : tie.Need-returns-3
-returns-3 c = verdict-is (by-4 (sym (c .before .before .before .before .before .wrong-length .ensures) ∙ c .before .before .before .before .if1 .left) (ap not (eq-eqb _ _ (sym (c .before .before .before .word-at .ensures .0) ∙ c .before .before .if2 .left))) (sym (c .before .wrong-bytes .ensures) ∙ c .if3 .taken))
+returns-3 c =
+    check-is _ _ _
+    (passed (sym (c .before .before .before .before .before .wrong-length .ensures) ∙ c .before .before .before .before .if1 .left)
+    (passed (ap not (eq-eqb _ _ (sym (c .before .before .before .word-at .ensures .0) ∙ c .before .before .if2 .left)))
+    (refused (sym (c .before .wrong-bytes .ensures) ∙ c .if3 .taken))))
 
 wrong-chains-requires : tie.Need-wrong-chains-requires
 wrong-chains-requires c κs = few (now (c .before .before .before .before .before .before .before .args .sheet)) (sym (c .before .before .before .before .before .wrong-length .ensures) ∙ c .before .before .before .before .if1 .left)
 
 returns-4 : tie.Need-returns-4
-returns-4 c = verdict-is (by-3 (sym (c .before .before .before .before .before .before .before .wrong-length .ensures) ∙ c .before .before .before .before .before .before .if1 .left) (ap not (eq-eqb _ _ (sym (c .before .before .before .before .before .word-at .ensures .0) ∙ c .before .before .before .before .if2 .left))) (sym (c .before .before .before .wrong-bytes .ensures) ∙ c .before .before .if3 .left) (sym (c .before .wrong-chains .ensures) ∙ c .if4 .taken))
+returns-4 c =
+    check-is _ _ _
+    (passed (sym (c .before .before .before .before .before .before .before .wrong-length .ensures) ∙ c .before .before .before .before .before .before .if1 .left)
+    (passed (ap not (eq-eqb _ _ (sym (c .before .before .before .before .before .word-at .ensures .0) ∙ c .before .before .before .before .if2 .left)))
+    (passed (sym (c .before .before .before .wrong-bytes .ensures) ∙ c .before .before .if3 .left)
+    (refused (sym (c .before .wrong-chains .ensures) ∙ c .if4 .taken)))))
 
 over-limits-requires : tie.Need-over-limits-requires
 over-limits-requires c κs = search needs
 
 returns-5 : tie.Need-returns-5
-returns-5 c = verdict-is (by-5 (sym (c .before .before .before .before .before .before .before .before .before .wrong-length .ensures) ∙ c .before .before .before .before .before .before .before .before .if1 .left) (ap not (eq-eqb _ _ (sym (c .before .before .before .before .before .before .before .word-at .ensures .0) ∙ c .before .before .before .before .before .before .if2 .left))) (sym (c .before .before .before .before .before .wrong-bytes .ensures) ∙ c .before .before .before .before .if3 .left) (sym (c .before .before .before .wrong-chains .ensures) ∙ c .before .before .if4 .left) (sym (c .before .over-limits .ensures) ∙ c .if5 .taken))
+returns-5 c =
+    check-is _ _ _
+    (passed (sym (c .before .before .before .before .before .before .before .before .before .wrong-length .ensures) ∙ c .before .before .before .before .before .before .before .before .if1 .left)
+    (passed (ap not (eq-eqb _ _ (sym (c .before .before .before .before .before .before .before .word-at .ensures .0) ∙ c .before .before .before .before .before .before .if2 .left)))
+    (passed (sym (c .before .before .before .before .before .wrong-bytes .ensures) ∙ c .before .before .before .before .if3 .left)
+    (passed (sym (c .before .before .before .wrong-chains .ensures) ∙ c .before .before .if4 .left)
+    (refused (sym (c .before .over-limits .ensures) ∙ c .if5 .taken))))))
 
 ill-formed-requires : tie.Need-ill-formed-requires
 ill-formed-requires c κs = search needs
 
 returns-6 : tie.Need-returns-6
-returns-6 c = verdict-is (by-6 (sym (c .before .before .before .before .before .before .before .before .before .before .before .wrong-length .ensures) ∙ c .before .before .before .before .before .before .before .before .before .before .if1 .left) (ap not (eq-eqb _ _ (sym (c .before .before .before .before .before .before .before .before .before .word-at .ensures .0) ∙ c .before .before .before .before .before .before .before .before .if2 .left))) (sym (c .before .before .before .before .before .before .before .wrong-bytes .ensures) ∙ c .before .before .before .before .before .before .if3 .left) (sym (c .before .before .before .before .before .wrong-chains .ensures) ∙ c .before .before .before .before .if4 .left) (sym (c .before .before .before .over-limits .ensures) ∙ c .before .before .if5 .left) (sym (c .before .ill-formed .ensures) ∙ c .if6 .taken))
+returns-6 c =
+    check-is _ _ _
+    (passed (sym (c .before .before .before .before .before .before .before .before .before .before .before .wrong-length .ensures) ∙ c .before .before .before .before .before .before .before .before .before .before .if1 .left)
+    (passed (ap not (eq-eqb _ _ (sym (c .before .before .before .before .before .before .before .before .before .word-at .ensures .0) ∙ c .before .before .before .before .before .before .before .before .if2 .left)))
+    (passed (sym (c .before .before .before .before .before .before .before .wrong-bytes .ensures) ∙ c .before .before .before .before .before .before .if3 .left)
+    (passed (sym (c .before .before .before .before .before .wrong-chains .ensures) ∙ c .before .before .before .before .if4 .left)
+    (passed (sym (c .before .before .before .over-limits .ensures) ∙ c .before .before .if5 .left)
+    (refused (sym (c .before .ill-formed .ensures) ∙ c .if6 .taken)))))))
 
 returns-7 : tie.Need-returns-7
-returns-7 c = verdict-is (by-none (sym (c .before .before .before .before .before .before .before .before .before .before .before .wrong-length .ensures) ∙ c .before .before .before .before .before .before .before .before .before .before .if1 .left) (ap not (eq-eqb _ _ (sym (c .before .before .before .before .before .before .before .before .before .word-at .ensures .0) ∙ c .before .before .before .before .before .before .before .before .if2 .left))) (sym (c .before .before .before .before .before .before .before .wrong-bytes .ensures) ∙ c .before .before .before .before .before .before .if3 .left) (sym (c .before .before .before .before .before .wrong-chains .ensures) ∙ c .before .before .before .before .if4 .left) (sym (c .before .before .before .over-limits .ensures) ∙ c .before .before .if5 .left) (sym (c .before .ill-formed .ensures) ∙ c .if6 .left))
+returns-7 c =
+    check-is _ _ _
+    (passed (sym (c .before .before .before .before .before .before .before .before .before .before .before .wrong-length .ensures) ∙ c .before .before .before .before .before .before .before .before .before .before .if1 .left)
+    (passed (ap not (eq-eqb _ _ (sym (c .before .before .before .before .before .before .before .before .before .word-at .ensures .0) ∙ c .before .before .before .before .before .before .before .before .if2 .left)))
+    (passed (sym (c .before .before .before .before .before .before .before .wrong-bytes .ensures) ∙ c .before .before .before .before .before .before .if3 .left)
+    (passed (sym (c .before .before .before .before .before .wrong-chains .ensures) ∙ c .before .before .before .before .if4 .left)
+    (passed (sym (c .before .before .before .over-limits .ensures) ∙ c .before .before .if5 .left)
+    (passed (sym (c .before .ill-formed .ensures) ∙ c .if6 .left)
+    (accepted)))))))
 
 pub check-within-spec : {M : Type 1} → statement M
 check-within-spec =

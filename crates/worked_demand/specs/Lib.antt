@@ -1,0 +1,4 @@
+pub mod Calls
+pub mod Free
+pub mod Computed
+pub mod Worked

@@ -1,0 +1,1 @@
+// No code: demand 3 on two sheets that differ in one line of one arrow, computed, in specs/.
