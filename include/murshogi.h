@@ -1,7 +1,8 @@
 /* Murshogi: the calls of document 01 for C. Link target/staticlib/libmurshogi.a (`rt staticlib murshogi`) and -lm.
  *
  * Each call returns 0, or the number of the refusal (1 to 11). What it is lent is written only where it returns 0;
- * a refused call leaves all as before, and a longer output keeps its tail. crates/murshogi/src/lib.rt has the contracts.
+ * a refused call leaves all as before, and a longer output keeps its tail. crates/murshogi/src/lib.rt has the contracts
+ * (what stays in a lent array of doubles is proved up to the payload of a NaN; the runs of oracle/ compare every bit).
  *
  * A pointer with a length is to that many elements. No pointer is null, each is aligned for its type, and what a call
  * may write overlaps nothing else that the call is lent. The calls keep nothing between them and use no heap; measured,
