@@ -6,7 +6,7 @@
  *
  * A pointer with a length is to that many elements. No pointer is null, each is aligned for its type, and what a call
  * may write overlaps nothing else that the call is lent. The calls keep nothing between them and use no heap; measured,
- * they need up to 410 KiB of stack.
+ * they need up to 442 KiB of stack.
  */
 #ifndef MURSHOGI_H
 #define MURSHOGI_H
