@@ -9,14 +9,14 @@ rt check listing > /dev/null
 bin=target/examples
 mkdir -p $bin
 rustc --edition 2024 -O examples/sheet.rs -o $bin/sheet
-cc -O2 -std=c99 -Wall -Wextra -Iinclude examples/list.c target/staticlib/libmurshogi.a -lm -o $bin/list-c
-rustc --edition 2024 -O examples/list.rs -L target/staticlib -l static=murshogi -l m -o $bin/list-rs
+cc -O2 -std=c99 -Wall -Wextra -Iinclude examples/list.c target/staticlib/libmurshogi.a -o $bin/list-c
+rustc --edition 2024 -O examples/list.rs -L target/staticlib -l static=murshogi -o $bin/list-rs
 
 # compare SHEET LISTING: what each of the three prints of a sheet is the listing.
 compare() {
     $bin/list-c "$1" > $bin/c || true
     $bin/list-rs "$1" > $bin/rs || true
-    examples/list.sh "$1" > $bin/program
+    target/bin/listing < "$1" > $bin/program
     for output in c rs program; do cmp $bin/$output "$2"; done
 }
 

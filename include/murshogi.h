@@ -1,12 +1,14 @@
-/* Murshogi: the calls of document 01 for C. Link target/staticlib/libmurshogi.a (`rt staticlib murshogi`) and -lm.
+/* Murshogi: the calls of document 01 for C. Link target/staticlib/libmurshogi.a (`rt staticlib murshogi`);
+ * of a C library it calls memcpy, memmove and memset alone.
  *
  * Each call returns 0, or the number of the refusal (1 to 11). What it is lent is written only where it returns 0;
  * a refused call leaves all as before, and a longer output keeps its tail. crates/murshogi/src/lib.rt has the contracts
  * (what stays in a lent array of doubles is proved up to the payload of a NaN; the runs of oracle/ compare every bit).
  *
  * A pointer with a length is to that many elements. No pointer is null, each is aligned for its type, and what a call
- * may write overlaps nothing else that the call is lent. The calls keep nothing between them and use no heap; measured,
- * they need up to 442 KiB of stack.
+ * may write overlaps nothing else that the call is lent. No heap is used, and nothing is kept between calls. The working
+ * space is on the stack: at most about 452,000 bytes for murshogi_list, 411,000 for murshogi_layout, 366,000 for
+ * murshogi_route and 5,400 for murshogi_check.
  */
 #ifndef MURSHOGI_H
 #define MURSHOGI_H
@@ -18,15 +20,25 @@
 extern "C" {
 #endif
 
-/* Layout kinds. */
+/* Layout kinds. A kind is one byte: any other byte is refused by 11, but 256 arrives as 0 and is laid out as AUTO. */
 enum { MURSHOGI_AUTO = 0, MURSHOGI_LAYERED = 1, MURSHOGI_CIRCULAR = 2 };
 
-/* The f64 numbers of a record, and the most of each thing that a sheet holds. */
+/* The f64 numbers of a record, and the most of each thing that a sheet holds: states, arrows, lines of an arrow, bytes
+ * of a line, bytes in all. */
 enum {
     MURSHOGI_RECORD = 20,
     MURSHOGI_STATES = 64,
     MURSHOGI_ARROWS = 256,
+    MURSHOGI_LINES = 8,
+    MURSHOGI_LINE = 96,
     MURSHOGI_SHEET = 65536
+};
+
+/* The most bytes that path text and a listing can have. A written number has at most 17 bytes, so a path with its newline
+ * has at most 148 and the four lines of an arrow 397. */
+enum {
+    MURSHOGI_PATHS = 148 * MURSHOGI_ARROWS,
+    MURSHOGI_LISTING = 41 + (45 + 125) * MURSHOGI_STATES + 397 * MURSHOGI_ARROWS
 };
 
 /* Checks a sheet: 0 where it is accepted. */
@@ -43,23 +55,24 @@ uint8_t murshogi_layout(const uint8_t *sheet, size_t sheet_len, uint8_t kind,
                         double size[2], size_t *states);
 
 /* Routes a sheet at given centres: the records, and the path text, a line for each record. lengths[0] is the f64
- * numbers written, lengths[1] the bytes. Records never need more than MURSHOGI_RECORD * MURSHOGI_ARROWS numbers.
- * Centres that are missing or not finite count as 0. */
+ * numbers written, lengths[1] the bytes. Records never need more than MURSHOGI_RECORD * MURSHOGI_ARROWS numbers, path
+ * text no more than MURSHOGI_PATHS bytes. Centres that are missing or not finite count as 0; where there are none, pass
+ * a length of 0 and any pointer to a double. */
 uint8_t murshogi_route(const uint8_t *sheet, size_t sheet_len,
                        const double *x, size_t x_len, const double *y, size_t y_len,
                        double *records, size_t records_len,
                        uint8_t *text, size_t text_len,
                        size_t lengths[2]);
 
-/* Counts the clutter of a sheet at given centres. */
+/* Counts the clutter of a sheet at given centres, missing ones as above. */
 uint8_t murshogi_clutter(const uint8_t *sheet, size_t sheet_len,
                          const double *x, size_t x_len, const double *y, size_t y_len,
                          size_t *count);
 
-/* Writes a number, with at most two decimals: the bytes written in length. */
+/* Writes a number, with at most two decimals, in at most 17 bytes: the bytes written in length. */
 uint8_t murshogi_write_num(double v, uint8_t *out, size_t out_len, size_t *length);
 
-/* Lists a drawing, laid out by kind: the bytes written in length. */
+/* Lists a drawing, laid out by kind, in at most MURSHOGI_LISTING bytes: the bytes written in length. */
 uint8_t murshogi_list(const uint8_t *sheet, size_t sheet_len, uint8_t kind,
                       uint8_t *out, size_t out_len, size_t *length);
 

@@ -96,7 +96,6 @@ fn link_port(root: &Path) {
         println!("cargo:rustc-link-lib=static={name}");
         println!("cargo:rustc-cfg=port=\"{name}\"");
     }
-    println!("cargo:rustc-link-lib=m");
 }
 
 /// The item whose first line begins with `start`, with the comments and attributes above it.

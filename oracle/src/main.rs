@@ -28,7 +28,12 @@ fn main() {
     match words.as_slice() {
         ["vectors", file] => vectors::write(file),
         ["bench", "root"] => bench::roots(),
+        #[cfg(port = "murshogi")]
         ["bench", "check"] => bench::check(),
+        #[cfg(port = "probes")]
+        ["bench", "angles"] => bench::angles(),
+        #[cfg(port = "probes")]
+        ["compare", "remainders", count, seed] => bench::remainders(count.parse().unwrap(), seed.parse().unwrap()),
         ["differ", "route", count, seed] => differ::routings(count.parse().unwrap(), seed.parse().unwrap()),
         ["differ", "layout", count, seed] => differ::layouts(count.parse().unwrap(), seed.parse().unwrap()),
         ["list", kind] => list(kind.parse().unwrap_or(255)),
@@ -51,7 +56,7 @@ fn main() {
         #[cfg(port = "murshogi")]
         ["compare", turns, seed] => compare::run(turns.parse().unwrap(), seed.parse().unwrap()),
         _ => {
-            eprintln!("usage: oracle vectors FILE | differ (route | layout) COUNT SEED | bench (root | check | calls | counts | stack | sheet NAME) | list KIND < SHEET | compare [[routings | layouts] COUNT SEED]");
+            eprintln!("usage: oracle vectors FILE | differ (route | layout) COUNT SEED | bench (root | angles | check | calls | counts | stack | sheet NAME) | list KIND < SHEET | compare [[routings | layouts | remainders] COUNT SEED]");
             std::process::exit(2);
         }
     }

@@ -88,6 +88,7 @@ pub mod kind {
     pub const PLACE_LABEL: u8 = 44;
     pub const SPOTS: u8 = 45;
     pub const COST: u8 = 46;
+    pub const REM_TAU: u8 = 47;
     pub const ROUTE: u8 = 50;
     pub const LAYOUT: u8 = 51;
     pub const CLUTTER: u8 = 52;

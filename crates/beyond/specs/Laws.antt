@@ -8,11 +8,11 @@ use lib.Dec.{ltb, eqb}
 use lib.ListN.{length, getD, drop}
 use lib.Ieee.{Float}
 use Rattle.laws.specs.Cases.{by-bool}
-use Rattle.laws.specs.Filter.{filter, filter-yes, filter-no}
+use Rattle.laws.specs.Filter.{filter}
 use Rattle.shape.specs.Centres.{centres}
 use Rattle.free.specs.Chords.{chord}
 use Rattle.sheet.specs.Refusals.{any}
-use Rattle.routing.specs.Routing.{Frame, Numbered, numbered, isKept, isLoop, kept, isPaired}
+use Rattle.routing.specs.Routing.{Frame, Numbered, numbered, isKept, isLoop, kept}
 use Rattle.routing.specs.Passes.{frameBy}
 use Rattle.routing.specs.Numbers.{numberedAt}
 use Rattle.routing.specs.Frames.{orZeros}

@@ -2,7 +2,7 @@
 use free::Chord;
 ghost use mathlib.Core.Path.{_≡_};
 ghost use Prim.Native.Nat.{_≤_, _<_};
-ghost use lib.ListN.{length, getD};
+ghost use lib.ListN.{length};
 ghost use Rattle.shape.specs.Centres.{centres};
 ghost use Rattle.routing.specs.Passes.{frameBy};
 ghost use Rattle.route.specs.Geometry.{frameAt};

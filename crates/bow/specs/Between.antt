@@ -1,5 +1,5 @@
 -- The curve of an arrow between two different states, its tip's angle and its shape. It leaves and ends on the rims, of radius 22.
-use mathlib.Core.Bool.{Bool, true, false, cond}
+use mathlib.Core.Bool.{Bool, cond}
 use mathlib.Core.List.{List}
 use Prim.Native.Nat.{ℕ}
 use lib.Ieee.{Float}

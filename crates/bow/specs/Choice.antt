@@ -13,8 +13,8 @@ use Rattle.laws.specs.Cases.{by-bool, holds as yes-of, fails}
 use Rattle.laws.specs.Between.{between, below-num, self-inf}
 use Rattle.laws.specs.Order.{lt-trans, lt-itself}
 use Rattle.laws.specs.Loops.{up, turns, over}
-use Rattle.float.specs.Ops.{_⊗_, lt, le, ne, neg}
-use Rattle.float.specs.Constants.{f10, f0-5, infinity}
+use Rattle.float.specs.Ops.{lt, ne, neg}
+use Rattle.float.specs.Constants.{infinity}
 use Rattle.float.specs.Standins.{min}
 use Rattle.shape.specs.declared.«V».{«V»}
 use Rattle.free.specs.declared.Chord.{Chord}

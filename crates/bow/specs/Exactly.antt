@@ -1,10 +1,10 @@
 -- "`bend` gives 0.0 exactly when the reverse arrow is absent and no blocked interval has lo < 0 < hi": `straight-exactly`, for all floats
 -- and any chord. That no bow between two states is NaN: `bend-number` of `Numbers`. Assumes nothing.
-use mathlib.Core.Path.{_≡_, refl, sym, ap, _∙_, subst}
+use mathlib.Core.Path.{_≡_, refl, ap, _∙_, subst}
 use mathlib.Core.Bool.{Bool, true, false, not, _&&_}
 use mathlib.Core.List.{List}
 use mathlib.Core.Logic.{_⊎_, inl, inr, ⊎-elim}
-use Prim.Native.Nat.{ℕ, _+_, _*_}
+use Prim.Native.Nat.{_+_, _*_}
 use native.Mathlib.Omega.{arith}
 use borrow.Author.Tests.{ne-eqb}
 use lib.Dec.{T, ltb→lt}
@@ -14,7 +14,7 @@ use Rattle.laws.specs.Cases.{by-bool}
 use Rattle.float.specs.Ops.{_⊕_, _⊗_, lt, eq, ne}
 use Rattle.float.specs.Constants.{f0, f1, f24, f28, f48, f64, f0-3}
 use Rattle.float.specs.Standins.{clamp}
-use Rattle.float.specs.Signs.{is-nan}
+use Rattle.laws.specs.Nan.{is-nan}
 use Rattle.shape.specs.declared.«V».{«V»}
 use Rattle.free.specs.declared.Chord.{Chord}
 use Rattle.free.specs.declared.Span.{Span}

@@ -17,7 +17,7 @@ use Rattle.root.specs.Plain.{plain, Plain, squares-plain, bits-plain, root-plai
 use Rattle.float.specs.Ops.{_⊕_, _⊖_, _⊗_, lt, le, eq, ne, neg}
 use Rattle.float.specs.Constants.{f0, f22, infinity}
 use Rattle.float.specs.Standins.{min, root, rootOf}
-use Rattle.float.specs.Signs.{is-nan}
+use Rattle.laws.specs.Nan.{is-nan}
 use Rattle.float.specs.Sizes.{Form, endless, finite, round-form, ordered, apart, itself}
 use Rattle.shape.specs.declared.«V».{«V»}
 use Rattle.shape.specs.Plane.{sub, dist}

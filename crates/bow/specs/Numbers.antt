@@ -2,8 +2,8 @@
 -- below (`single-off`). A chord's length is a root, which is never NaN, and the search moves only to an end that it has compared.
 -- Assumes nothing.
 use mathlib.Core.Path.{_≡_, refl, sym, ap, _∙_, subst}
-use mathlib.Core.Bool.{Bool, true, false, cond, not, _||_, true≢false}
-use mathlib.Core.List.{List, [], _∷_}
+use mathlib.Core.Bool.{Bool, true, false, true≢false}
+use mathlib.Core.List.{List}
 use mathlib.Core.Logic.{_⊎_, inl, inr, ⊎-elim}
 use Prim.Native.Nat.{ℕ, suc, _+_, _*_, _≤_, _<_}
 use native.Mathlib.Nat.{mul-pos}
@@ -22,8 +22,8 @@ use Rattle.laws.specs.Order.{lt-trans}
 use Rattle.root.specs.Plain.{plain, root-plain}
 use Rattle.float.specs.Ops.{_⊕_, _⊗_, lt, ne, neg}
 use Rattle.float.specs.Constants.{f0, f1, f24, f28, f48, f64, f160, f0-3, f1-5}
-use Rattle.float.specs.Standins.{negative, abs, copysign, max, clamp, root}
-use Rattle.float.specs.Signs.{is-num}
+use Rattle.float.specs.Standins.{negative, abs, max, clamp, root}
+use Rattle.laws.specs.Nan.{is-num}
 use Rattle.float.specs.Sizes.{round-form, itself}
 use Rattle.float.specs.RootLaws.{root-is}
 use Rattle.shape.specs.declared.«V».{«V»}
@@ -34,10 +34,9 @@ use Rattle.free.specs.Chords.{chord}
 use Rattle.free.specs.Blocked.{blocked}
 use Rattle.free.specs.Free.{holds, firstFree}
 use Rattle.free.specs.Moves.{ahead, free-keeps}
-use Rattle.bow.specs.Clear.{clearance, verified}
-use Rattle.bow.specs.Choice.{All, none, more-of, verified-has}
+use Rattle.bow.specs.Choice.{none, more-of, verified-has}
 use Rattle.bow.specs.Farther.{square, square-is-plain, dist-root}
-use Rattle.bow.specs.Bend.{base, pairUp, pairBows, pairBow, cap, capped, singleUp, singleDown, downFirst, singleBow, bend}
+use Rattle.bow.specs.Bend.{base, pairUp, pairBow, cap, capped, singleUp, singleDown, downFirst, singleBow, bend}
 
 -- ---- numbers above 0
 

@@ -3,7 +3,7 @@ use free::Chord;
 use shape::Curve;
 use shape::V;
 ghost use mathlib.Core.Path.{_≡_};
-ghost use Prim.Native.Nat.{ℕ, _<_, _≤_};
+ghost use Prim.Native.Nat.{_<_, _≤_};
 ghost use lib.ListN.{length};
 ghost use Rattle.shape.specs.Centres.{centres};
 ghost use Rattle.free.specs.Chords as C;

@@ -9,7 +9,7 @@ use Rattle.laws.specs.Cases.{by-bool}
 use Rattle.float.specs.Ops.{_⊕_, _⊗_, lt, ne}
 use Rattle.float.specs.Constants.{f0, f2, f22}
 use Rattle.float.specs.Standins.{max, root}
-use Rattle.float.specs.Signs.{is-num}
+use Rattle.laws.specs.Nan.{is-num}
 use Rattle.float.specs.RootLaws.{root-is}
 use Rattle.shape.specs.declared.«V».{«V»}
 use Rattle.shape.specs.declared.Rect.{Rect}

@@ -1,6 +1,6 @@
 -- A turn of each loop over slices, and its end; what a push leaves. Assumes nothing.
 use mathlib.Core.Path.{_≡_, refl, sym, ap, ap₂, subst, _∙_}
-use mathlib.Core.Bool.{Bool, _&&_, false, not, true}
+use mathlib.Core.Bool.{Bool, _&&_, false, true}
 use mathlib.Core.List.{List, [], _∷_, _++_, append-nil, append-assoc}
 use Prim.Native.Nat.{ℕ, suc, _+_, _-_, _≤_, _<_}
 use native.Mathlib.Nat.{sub-zero, not-suc-le-zero}
@@ -13,7 +13,7 @@ use Rattle.laws.specs.Filter.{filter, filter-join}
 use Rattle.laws.specs.Flat.{table}
 use Rattle.laws.specs.Loops.{over}
 use Rattle.rim.specs.Rims.{apart}
-use Rattle.columns.specs.Columns.{Arrow, arrow, leaves, arrowsOf, successors, elem, discover, explore, columnsAfter, reached, isNew, unreached, states, concat, columns, lastColumn}
+use Rattle.columns.specs.Columns.{Arrow, arrow, leaves, arrowsOf, successors, elem, discover, explore, columnsAfter, reached, isNew, unreached, concat, columns, lastColumn}
 use Rattle.columns.specs.Found.{Fair, Reached, discover-new, fair-start, explore-turn, explore-end, explore-fair, explore-front, explore-grows, after-none, after-more, after-end}
 use Rattle.columns.specs.Split.{split, split-snoc, split-take, concat-split, sum, sum-snoc}
 

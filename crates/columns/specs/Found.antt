@@ -13,7 +13,7 @@ use Rattle.laws.specs.Cases.{by-bool}
 use Rattle.laws.specs.Filter.{filter}
 use Rattle.laws.specs.Flat.{table}
 use Rattle.laws.specs.Loops.{over, over-join}
-use Rattle.columns.specs.Columns.{Arrow, arrowsOf, source, target, joins, leaves, successors, elem, discover, explore, columnsAfter, reached, states, isNew, unreached}
+use Rattle.columns.specs.Columns.{Arrow, arrowsOf, source, target, joins, leaves, successors, elem, discover, explore, columnsAfter, reached, isNew, unreached}
 use Rattle.columns.specs.Split.{split, sum}
 
 -- those found and those not found are as many as there are states

@@ -16,7 +16,7 @@ use Rattle.laws.specs.Between.{between}
 use Rattle.float.specs.Ops.{lt, ne, neg}
 use Rattle.float.specs.Constants.{infinity}
 use Rattle.float.specs.Standins.{min, max}
-use Rattle.float.specs.Signs.{is-nan}
+use Rattle.laws.specs.Nan.{is-nan}
 use Rattle.float.specs.Laws.{min-first, min-second, max-first, max-second}
 use Rattle.shape.specs.declared.«V».{«V»}
 use Rattle.shape.specs.declared.Rect.{Rect}

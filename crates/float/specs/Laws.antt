@@ -1,8 +1,8 @@
 -- What later crates cite of the stand-ins: the larger and the smaller, and the arctangent at zeros (roots: RootLaws). Assumes nothing.
 -- (`<` of floats is transitive and irreflexive, with NaN and the infinities: `lt-trans`, `lt-itself` of laws.)
-use mathlib.Core.Path.{_≡_, refl, sym, ap, _∙_, subst}
-use mathlib.Core.Bool.{Bool, true, false, not, cond}
-use Prim.Native.Nat.{ℕ, zero, suc, _+_, _-_, _*_, _/_, _%_, _^_, _≤_, _<_}
+use mathlib.Core.Path.{_≡_, refl, ap, _∙_, subst}
+use mathlib.Core.Bool.{Bool, true, false, cond}
+use Prim.Native.Nat.{ℕ, zero, suc, _-_, _*_}
 use native.Mathlib.Nat.{mul-pos, zero-mul}
 use native.Mathlib.Omega.{arith}
 use borrow.Author.Tests.{ne-eqb, le-ltb, ltb-false}

@@ -1,13 +1,12 @@
 -- `root` is a root by the laws of crate `root`: it rises, it passes `min` and `max`, and below 26 is below 676 under it. Assumes nothing.
 use mathlib.Core.Path.{_≡_, refl, sym, ap, _∙_}
-use mathlib.Core.Bool.{Bool, true, false, cond, not}
-use Prim.Native.Nat.{ℕ, _+_, _*_, _%_, _^_, _≤_, _<_}
+use mathlib.Core.Bool.{Bool, true, false}
+use Prim.Native.Nat.{ℕ, _*_, _%_, _^_, _≤_}
 use native.Mathlib.Omega.{arith}
-use lib.Dec.{T, eqb, leb, ltb}
+use lib.Dec.{eqb}
 use borrow.Author.Tests.{eqb-true, eqb-false, le-ltb, le-leb, lt-leb, ne-eqb}
-use lib.Ieee.{Float, binary64, isNan, nanBits, ofBits, toBits}
+use lib.Ieee.{Float, binary64, isNan, ofBits, toBits}
 use lib.Ieee.Bits.{toBits-ofBits, nanBits-is, nanBits-above}
-use Rattle.root.specs.Root.{rootBits}
 use Rattle.root.specs.Plain.{rootPlain, IsRoot, Plain, plain-itself, squares-plain, root-plain, root-le, root-min, root-max, root-lt-first}
 use Rattle.root.specs.Worked.{first-26}
 use Rattle.float.specs.Constants.{f26, f676}

@@ -23,7 +23,8 @@ use Rattle.float.specs.Standins.{negative, root, rootOf}
 use Rattle.float.specs.Laws.{not-below}
 use Rattle.float.specs.TotalOrder.{plain-less}
 use Rattle.float.specs.RootLaws.{root-is}
-use Rattle.float.specs.Signs.{sign-bit, is-num, no-nan-bits}
+use Rattle.laws.specs.Nan.{is-num, no-nan-bits}
+use Rattle.float.specs.Signs.{sign-bit}
 
 -- ---- the special cases: zero and plus infinity give themselves; what is below zero, and NaN, give 0
 pub root-zero : root f0 ≡ f0

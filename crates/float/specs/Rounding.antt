@@ -1,40 +1,23 @@
 -- Rounding to whole numbers by the bits: from 2 ^ 52 on a number is whole; below it the significand is shifted down. Assumes nothing.
 use mathlib.Core.Path.{_≡_, refl, sym, ap, _∙_, subst}
-use mathlib.Core.Bool.{Bool, true, false, not, cond}
-use Prim.Native.Nat.{ℕ, zero, suc, _+_, _-_, _*_, _/_, _%_, _^_, _≤_, _<_, compare}
-use native.Mathlib.Nat.{mul-pos, mul-comm, mul-assoc, mul-one, pow-suc, lt-of-lt-of-le, div-eq-of-lt, div-eq-of-lt-le, add-div-right, div-div-eq-div-mul, mul-right-comm, eq-of-mul-eq-mul-right}
+use mathlib.Core.Bool.{Bool, true, false, cond}
+use Prim.Native.Nat.{ℕ, zero, suc, _+_, _-_, _*_, _/_, _%_, _^_, _≤_, _<_}
+use native.Mathlib.Nat.{mul-pos, mul-assoc, mul-one, pow-suc, lt-of-lt-of-le, div-eq-of-lt, div-eq-of-lt-le, add-div-right, div-div-eq-div-mul, mul-right-comm, eq-of-mul-eq-mul-right}
 use native.Mathlib.Omega.{arith}
-use borrow.Author.Tests.{ne-eqb, lt-leb}
-use lib.Dec.{T, eqb, ltb}
+use lib.Dec.{T}
 use lib.IntN.{ℤ}
 use lib.Pow.{pow-add, pow-pos, pow-mono, shl-lt, shr-le}
-use lib.Ieee.{Float, nan, inf, fin, up, down, binary64, fits, toBits, ofBits, ofInt}
+use lib.Ieee.{Float, nan, inf, fin, up, down, binary64, fits, toBits, ofInt}
 use lib.Ieee as Ieee
-use lib.Ieee.Bits.{ofBits-toBits}
 use lib.Ieee.Exact.{HasValue, round-exact}
 use lib.Ieee.Back.{whole-unique}
 use lib.Ieee.Fits.{down-pos, round-fits}
 use lib.Ieee.Nearest.{div-same}
-use Rattle.laws.specs.Cases.{by-bool, by-lt}
-use Rattle.root.specs.Rounded.{magnitude, bits-value}
+use Rattle.root.specs.Rounded.{magnitude}
 use Rattle.float.specs.Ops.{neg, ne, count}
 use Rattle.float.specs.Standins.{negative, abs, halfUp, round}
-use Rattle.float.specs.Signs.{fits-sign, low-bits}
-
--- ---- the bits of a finite number stay below infinity's
-beyond : (b : ℕ) → 2047 * 2 ^ 52 ≤ b → b < 2 ^ 63 → ofBits binary64 b ≡ cond (eqb (b % 2 ^ 52) 0) (inf false) nan
-unfolding ofBits Ieee.ofFields
-beyond b h l = let e : b % 2 ^ 63 / 2 ^ 52 ≡ 2047 = omega arith in rw (lt-leb (2 ^ 63) b l, e)
-
-not-finite : (t : Bool) (m : ℕ) (e : ℤ) → fin false m e ≡ cond t (inf false) nan → ⊥
-not-finite true m e z = subst (λ (x : Float). HasValue x false (m * up e) (down e)) z (refl, refl)
-not-finite false m e z = subst (λ (x : Float). HasValue x false (m * up e) (down e)) z (refl, refl)
-
-pub finite-bits : (m : ℕ) (e : ℤ) → T (fits binary64 (fin false m e)) → toBits binary64 (fin false m e) < 2047 * 2 ^ 52
-finite-bits m e h =
-    let b = toBits binary64 (fin false m e) in
-    by-lt b (2047 * 2 ^ 52) (λ (l : b < 2047 * 2 ^ 52). l)
-    (λ (l : 2047 * 2 ^ 52 ≤ b). absurd (not-finite (eqb (b % 2 ^ 52) 0) m e (sym (ofBits-toBits binary64 (fin false m e) h) ∙ beyond b l (low-bits m e (fits-sign false true m e h)))))
+use Rattle.remainder.specs.Unique.{fits-sign, finite-bits, size-bits, big}
+use Rattle.remainder.specs.Tau.{neg-round}
 
 -- ---- the size, by the bits
 
@@ -45,23 +28,13 @@ half-same a d b c p q e = div-same (2 * a + d) (2 * d) (2 * b + c) (2 * c) (omeg
     cross : (a d b c : ℕ) → a * c ≡ b * d → (2 * a + d) * (2 * c) ≡ (2 * b + c) * (2 * d)
     cross a d b c e = omega arith
 
--- the size of a finite number, by its bits
-size-bits : (m : ℕ) (e : ℤ) → T (fits binary64 (fin false m e))
-    → m * up e * 2 ^ 1074 ≡ magnitude (toBits binary64 (fin false m e)) * down e
-size-bits m e h =
-    subst (λ (x : Float). HasValue x false (magnitude (toBits binary64 (fin false m e))) (2 ^ 1074)) (ofBits-toBits binary64 (fin false m e) h) (bits-value (toBits binary64 (fin false m e)) (finite-bits m e h)) .1
-
 pub half-bits : (m : ℕ) (e : ℤ) → T (fits binary64 (fin false m e))
     → halfUp (m * up e) (down e) ≡ halfUp (magnitude (toBits binary64 (fin false m e))) (2 ^ 1074)
 half-bits m e h = half-same (m * up e) (down e) (magnitude (toBits binary64 (fin false m e))) (2 ^ 1074) (down-pos e) (pow-pos 1074) (size-bits m e h)
 
 -- ---- below a half, and up to 2 ^ 52
-module _ (b : ℕ) where
-  big : (x : ℕ) → b / 2 ^ 52 ≡ suc x → magnitude b ≡ (2 ^ 52 + b % 2 ^ 52) * 2 ^ x
-  big x e = let z : b / 2 ^ 52 ≡ 0 → ⊥ = λ w. omega arith in let y : b / 2 ^ 52 - 1 ≡ x = omega arith in rw (ne-eqb _ _ z, y)
-
-  tiny : b / 2 ^ 52 ≡ 0 → magnitude b ≡ b % 2 ^ 52
-  tiny e = rw e
+tiny : (b : ℕ) → b / 2 ^ 52 ≡ 0 → magnitude b ≡ b % 2 ^ 52
+tiny b e = rw e
 
 none : (a d : ℕ) → 2 * a < d → halfUp a d ≡ 0
 none a d h = div-eq-of-lt (omega arith)
@@ -145,20 +118,6 @@ round-large s m e h l =
     let own : m * up e ≡ n * down e =
     eq-of-mul-eq-mul-right (2 ^ 1074) (pow-pos 1074) (m * up e) (n * down e) (size-bits m e f ∙ ap (λ (x : ℕ). x * down e) w ∙ mul-right-comm n (2 ^ 1074) (down e)) in
     rw v (whole-unique binary64 (fin s m e) (Ieee.round binary64 s n 1) s n h (round-fits binary64 s n 1) (refl, mul-one (m * up e) ∙ own) exact)
-
--- ---- the sign
-opposite : (q k : ℕ) → neg (Ieee.units binary64 false q k) ≡ Ieee.units binary64 true q k
-unfolding Ieee.units Ieee.neg Ieee.odd
-opposite zero k = by-bool (ltb (zero * 2 ^ k) (2 ^ 2098)) (λ t. rw t) (λ t. rw t)
-opposite (suc q) k = by-bool (ltb (suc q * 2 ^ k) (2 ^ 2098)) (λ t. rw t) (λ t. rw t)
-
-pub neg-round : (n d : ℕ) → neg (Ieee.round binary64 false n d) ≡ Ieee.round binary64 true n d
-unfolding Ieee.round
-neg-round n d =
-    let w = n * 2 ^ 1074 in
-    let k = Ieee.size (w / d) - 53 in
-    let u = d * 2 ^ k in
-    opposite (Ieee.nearest (w / u) (compare (w % u * 2) u)) k
 
 -- ---- what the code finds: q is the size rounded, by the bits
 size-is : (m : ℕ) (x : ℤ) (b q : ℕ) → T (fits binary64 (fin false m x)) → b ≡ toBits binary64 (fin false m x) → q ≡ halfUp (magnitude b) (2 ^ 1074) → q ≡ halfUp (m * up x) (down x)

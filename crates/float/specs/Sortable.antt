@@ -3,13 +3,13 @@ use mathlib.Core.Path.{_≡_, refl, sym, ap, subst, _∙_}
 use mathlib.Core.Bool.{Bool, true, false, true≢false}
 use mathlib.Core.Logic.{⊎-elim}
 use lib.Dec.{T}
-use lib.Ieee.{Float, nan, isNan}
+use lib.Ieee.{Float, isNan}
 use Rattle.laws.specs.Between.{between}
 use Rattle.laws.specs.Cases.{by-bool, holds, fails}
 use Rattle.laws.specs.Order.{lt-trans, lt-itself}
 use Rattle.float.specs.Ops.{lt}
 use Rattle.float.specs.Standins.{negative, precedes}
-use Rattle.float.specs.Signs.{is-nan, nan-test}
+use Rattle.laws.specs.Nan.{is-nan, nan-test}
 use Rattle.float.specs.TotalOrder.{same-sign, minus-plus, plus-minus, nan-before, nan-last}
 
 clash : {b : Bool} → b ≡ true → b ≡ false → ⊥

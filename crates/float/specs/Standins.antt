@@ -1,6 +1,6 @@
 -- The stand-ins of document 01 for the library's float functions, in its words. Each operation rounds once.
 use mathlib.Core.Bool.{Bool, true, false, cond, not, _&&_}
-use Prim.Native.Nat.{ℕ, zero, suc, _+_, _-_, _*_, _/_, _^_}
+use Prim.Native.Nat.{ℕ, _+_, _-_, _*_, _/_, _^_}
 use lib.Dec.{leb, eqb}
 use lib.Ieee.{Float, nan, inf, fin, binary64, isNan, ofBits, toBits, up, down}
 use lib.Ieee as Ieee

@@ -17,7 +17,9 @@ use Rattle.root.specs.Plain.{plain, Plain, plain-bits, plain-order}
 use Rattle.float.specs.Constants.{f0}
 use Rattle.float.specs.Ops.{neg, lt, eq}
 use Rattle.float.specs.Standins.{negative, abs, copysign, minusFirst, precedes, totalCmp}
-use Rattle.float.specs.Signs.{is-nan, nan-test, fits-sign, abs-other}
+use Rattle.laws.specs.Nan.{is-nan, nan-test}
+use Rattle.float.specs.Signs.{abs-other}
+use Rattle.remainder.specs.Unique.{fits-sign}
 use Rattle.float.specs.declared.Ordering.the-variants.{Less, Equal, Greater}
 
 -- ---- the place of a float in the order: its bits without the sign, counted up from the middle, or down where the sign is set; NaN's bits are above infinity's

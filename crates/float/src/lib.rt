@@ -4,6 +4,11 @@ ghost use Prim.Native.Nat.{_*_, _^_, _<_, _≤_};
 ghost use Rattle.root.specs.Rounded.{magnitude};
 ghost use Rattle.float.specs.Standins as S;
 
+// The circle's half turn and its whole turn.
+pub const PI: f64 = 3.141592653589793;
+
+pub const TAU: f64 = remainder::TAU;
+
 // The order of two numbers, as Rust names it.
 pub enum Ordering {
     Less,
@@ -137,23 +142,19 @@ pub fn round(v: f64) -> f64
 pub fn rem_euclid(a: f64) -> f64
     ensures { λ r. ⌜ r ≡ S.remEuclid a ⌝ }
 {
-    let r = a % 6.283185307179586;
-    if r < 0.0 { r + 6.283185307179586 } else { r }
+    let r = remainder::rem_tau(a);
+    if r < 0.0 { r + TAU } else { r }
 }
 
 // An angle brought to -PI .. PI.
 fn reduced(a: f64) -> f64
     ensures { λ r. ⌜ r ≡ S.reduced a ⌝ }
 {
-    let r = a % 6.283185307179586;
-    if r > 3.141592653589793 {
-        return r - 6.283185307179586;
+    let r = remainder::rem_tau(a);
+    if r > PI {
+        return r - TAU;
     }
-    if r < -3.141592653589793 {
-        r + 6.283185307179586
-    } else {
-        r
-    }
+    if r < -PI { r + TAU } else { r }
 }
 
 // The divisor of turn k, for sine and for cosine.
@@ -234,7 +235,7 @@ fn quarter(y: f64, x: f64) -> f64
 {
     let angle = arc(share(min(x, y), max(x, y)));
     if x < y {
-        return 3.141592653589793 / 2.0 - angle;
+        return PI / 2.0 - angle;
     }
     angle
 }
@@ -250,11 +251,7 @@ pub fn atan2(y: f64, x: f64) -> f64
 fn turned(back: bool, angle: f64) -> f64
     ensures { λ r. ⌜ r ≡ S.turned back angle ⌝ }
 {
-    if back {
-        3.141592653589793 - angle
-    } else {
-        angle
-    }
+    if back { PI - angle } else { angle }
 }
 
 // Of equals, -0 stands before 0: whether only the first has its sign bit set.

@@ -1,8 +1,8 @@
 -- Steps of the proofs, by what the code has at hand. Assumes nothing.
 use mathlib.Core.Path.{_≡_, refl, sym, ap, _∙_}
-use mathlib.Core.Bool.{Bool, true, false, cond, _||_}
+use mathlib.Core.Bool.{true, false, _||_}
 use mathlib.Core.List.{List, [], _∷_, _++_, append-nil, append-assoc}
-use Prim.Native.Nat.{ℕ, suc, _+_, _≤_, _<_}
+use Prim.Native.Nat.{ℕ, _+_, _<_}
 use native.Mathlib.Omega.{arith}
 use lib.ListN.{length, take, set, length-set, drop}
 use lib.Ieee.{Float}
@@ -14,7 +14,7 @@ use Rattle.free.specs.declared.Chord.{Chord}
 use Rattle.free.specs.declared.Span.{Span}
 use Rattle.shape.specs.Centres.{centre}
 use Rattle.free.specs.Chords.{isEnd, othersFrom}
-use Rattle.free.specs.Blocked.{distance, passed, spanOf, intervals, blocked, blockedBy, Grown}
+use Rattle.free.specs.Blocked.{distance, passed, spanOf, intervals, blockedBy, Grown}
 use Rattle.free.specs.Free.{span, spans}
 use Rattle.free.specs.Turns.{intervals-turn}
 

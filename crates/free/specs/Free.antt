@@ -1,7 +1,7 @@
 -- The search for a free bow. "Leaving the search for a free bow happens in the first full pass that moves nothing."
 use mathlib.Core.Bool.{Bool, true, false, cond, _&&_, _||_}
 use mathlib.Core.List.{List, [], _∷_}
-use Prim.Native.Nat.{ℕ, zero, suc, _+_}
+use Prim.Native.Nat.{ℕ, zero, suc}
 use lib.ListN.{length}
 use lib.Ieee.{Float}
 use Rattle.laws.specs.Loops.{over}

@@ -1,7 +1,7 @@
 -- What the search for a free bow comes to, for all floats, NaN and the infinities included: a move leaves an interval behind for good, so there are
 -- at most as many moves as intervals (`moves-bound`), and the bow given lies strictly inside none (`free-of`). Assumes nothing.
 use mathlib.Core.Path.{_≡_, refl, sym, ap, subst, _∙_}
-use mathlib.Core.Bool.{Bool, true, false, cond, _&&_, _||_}
+use mathlib.Core.Bool.{Bool, true, false, cond}
 use mathlib.Core.List.{List, [], _∷_}
 use Prim.Native.Nat.{ℕ, zero, suc, _+_, _-_, _≤_, _<_}
 use native.Mathlib.Omega.{arith}

@@ -1,8 +1,8 @@
 -- The turns of the loops over the other states and over the intervals. Assumes nothing.
-use mathlib.Core.Path.{_≡_, refl, sym, ap, _∙_}
-use mathlib.Core.Bool.{Bool, true, false, cond, _||_}
+use mathlib.Core.Path.{_≡_}
+use mathlib.Core.Bool.{true, false}
 use mathlib.Core.List.{List, [], _∷_, _++_}
-use Prim.Native.Nat.{ℕ, suc, _+_, _≤_, _<_}
+use Prim.Native.Nat.{ℕ, _+_, _≤_, _<_}
 use native.Mathlib.Numerals.{add-one}
 use lib.ListN.{length, drop, drop-of-length-le}
 use lib.Seq.{drop-cons}
@@ -15,7 +15,7 @@ use Rattle.free.specs.declared.Chord.{Chord}
 use Rattle.free.specs.declared.Span.{Span}
 use Rattle.shape.specs.Centres.{centre}
 use Rattle.free.specs.Chords.{isEnd, othersFrom}
-use Rattle.free.specs.Blocked.{passed, spanOf, intervals, blockedBy}
+use Rattle.free.specs.Blocked.{passed, intervals, blockedBy}
 use Rattle.free.specs.Free.{inside, holds}
 
 -- the other states from state k on

@@ -1,9 +1,8 @@
 // The bows that states beside an arrow block, and the first free one.
 use shape::V;
 ghost use mathlib.Core.Path.{_≡_};
-ghost use mathlib.Core.List.{_++_};
 ghost use Prim.Native.Nat.{_+_, _<_, _≤_};
-ghost use lib.ListN.{length, take};
+ghost use lib.ListN.{length};
 ghost use Rattle.shape.specs.Centres.{centres};
 ghost use Rattle.free.specs.Chords as C;
 ghost use Rattle.free.specs.Blocked as B;

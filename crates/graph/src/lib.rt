@@ -1,7 +1,7 @@
 // A sheet's graph in slices, one place a state and one an arrow.
 ghost use mathlib.Core.Path.{_≡_};
 ghost use mathlib.Core.List.{map};
-ghost use Prim.Native.Nat.{_<_, _≤_};
+ghost use Prim.Native.Nat.{_≤_};
 ghost use lib.ListN.{length};
 ghost use Rattle.sheet.specs.Sheet as S;
 ghost use Rattle.meaning.specs.Read as M;

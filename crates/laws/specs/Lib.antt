@@ -4,6 +4,7 @@ pub mod Put
 pub mod Writers
 pub mod Order
 pub mod Between
+pub mod Nan
 pub mod Flat
 pub mod Best
 pub mod Search

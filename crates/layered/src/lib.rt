@@ -3,7 +3,6 @@ ghost use mathlib.Core.Path.{_≡_};
 ghost use mathlib.Core.List.{map};
 ghost use Prim.Native.Nat.{_+_, _≤_, _<_};
 ghost use lib.ListN.{length, replicate};
-ghost use lib.Ieee.{Float};
 ghost use Rattle.float.specs.Constants.{f0};
 ghost use Rattle.float.specs.Ops.{_⊗_, count};
 ghost use Rattle.columns.specs.Columns.{arrowsOf, states};

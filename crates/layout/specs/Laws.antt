@@ -1,8 +1,8 @@
 -- What the code answers and leaves, step by step, is what the definitions say. Assumes nothing.
-use mathlib.Core.Path.{_≡_, refl, sym, ap, ap₂, _∙_, subst}
-use mathlib.Core.Bool.{Bool, true, false, cond, _||_}
+use mathlib.Core.Path.{_≡_, sym, ap, ap₂, _∙_, subst}
+use mathlib.Core.Bool.{true, false}
 use mathlib.Core.List.{List, [], _∷_}
-use Prim.Native.Nat.{ℕ, zero, suc, _+_, _≤_, _<_}
+use Prim.Native.Nat.{ℕ, zero, _+_, _≤_}
 use native.Mathlib.Omega.{arith}
 use borrow.Author.Tests.{ne-eqb}
 use lib.Dec.{ltb}
@@ -18,7 +18,7 @@ use Rattle.clutter.specs.Clutter.{clutterOf}
 use Rattle.clutter.specs.Bounds.{clutter-le}
 use Rattle.fit.specs.Fit.{fitXs, fitYs, fitSize}
 use Rattle.fit.specs.declared.Size.{Size}
-use Rattle.layout.specs.Layout.{Plan, many, Placing, placing, layers, ring, frameAt, drawnAt, clutterAt, isDense, isTangled, takesRing, chosen, Layout, noStates, fitted, layoutOf}
+use Rattle.layout.specs.Layout.{Plan, many, Placing, layers, ring, frameAt, drawnAt, clutterAt, isDense, isTangled, takesRing, chosen, noStates, fitted, layoutOf}
 use Rattle.layout.specs.Choice.{Left}
 use Rattle.layout.specs.Slices.{Reads}
 

@@ -1,6 +1,6 @@
 -- What a loop meets at number k: the record, the state, and what is left. How lines grow field by field, and tests in a row. Assumes nothing.
 use mathlib.Core.Path.{_≡_, refl, sym, ap, _∙_}
-use mathlib.Core.Bool.{Bool, true, false, not, cond, _&&_}
+use mathlib.Core.Bool.{Bool, true, false, not, _&&_}
 use mathlib.Core.List.{List, [], _∷_, _++_, append-assoc, append-nil, map, flatMap}
 use Prim.Native.Nat.{ℕ, suc, _+_, _-_, _≤_, _<_}
 use native.Mathlib.Numerals.{add-one}
@@ -17,7 +17,7 @@ use Rattle.shape.specs.Centres.{centres}
 use Rattle.spot.specs.declared.Geometry.{Geometry}
 use Rattle.lines.specs.Every.{every}
 use Rattle.lines.specs.Each.{texts-join, every-join}
-use Rattle.lines.specs.Lines.{Field, TextLine, named, State, stateAt, statesFrom, starts, fieldText, fieldsText, bodyText, lineText, linesText, fieldWritable, fieldsWritable, lineWritable, linesWritable, sizeLine, stateLine, startLine, recordLines, listLines, listText, listWritable}
+use Rattle.lines.specs.Lines.{Field, TextLine, named, stateAt, statesFrom, starts, fieldText, fieldsText, bodyText, lineText, linesText, fieldWritable, fieldsWritable, lineWritable, linesWritable, sizeLine, stateLine, startLine, recordLines, listLines, listWritable}
 
 -- ---- things k .. n - 1 of a table
 module _ {A : Type 0} (g : ℕ → A) where

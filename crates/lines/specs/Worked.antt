@@ -2,7 +2,7 @@
 use mathlib.Core.Path.{_≡_, refl}
 use mathlib.Core.List.{List, [], _∷_, _++_, flatMap}
 use Prim.Native.Nat.{ℕ}
-use lib.Ieee.{Float, binary64, ofBits, ofFields, ofInt, toUnsigned, round, size, span, climb, units, odd, sum, add, sub, mul, div, rem, neg, lt, eq}
+use lib.Ieee.{ofBits, ofFields, ofInt, toUnsigned, round, size, span, climb, units, odd, sum, add, sub, mul, div, rem, neg, lt, eq}
 use lib.Count.{trailingZeros}
 use Rattle.laws.specs.Filter.{filter}
 use Rattle.laws.specs.Loops.{down}

@@ -1,9 +1,8 @@
 -- A written number, in whole hundredths: "at most two decimals, no trailing zeros, never `-0`; not finite gives `0`".
 use mathlib.Core.Bool.{Bool, true, false, cond, not, _&&_}
 use mathlib.Core.List.{List, [], _∷_, _++_}
-use Prim.Native.Nat.{ℕ, _+_, _*_, _/_, _%_}
+use Prim.Native.Nat.{ℕ, _+_, _/_, _%_}
 use lib.Dec.{eqb}
-use lib.ListN.{length}
 use lib.Ieee.{Float, toUnsigned}
 use lib.Ieee.Scale.{finite}
 use Rattle.laws.specs.Writers as W

@@ -1,15 +1,12 @@
 -- What is written just below the limit, and refused at it. Assumes nothing.
 use mathlib.Core.Path.{_≡_, refl}
-use mathlib.Core.Bool.{Bool, true, false}
-use mathlib.Core.List.{List, [], _∷_}
-use Prim.Native.Nat.{ℕ, _^_}
-use lib.Ieee.{Float, binary64, ofBits, ofFields, toUnsigned, round, size, span, climb, units, odd, mul, neg, lt, le, eq}
+use Prim.Native.Nat.{_^_}
+use lib.Ieee.{binary64, ofBits, ofFields, toUnsigned, round, size, span, climb, units, odd, mul, neg, lt, le, eq}
 use lib.Count.{trailingZeros}
 use Rattle.float.specs.Constants.{whole}
 use Rattle.float.specs.Standins as S
 use Rattle.text.specs.Digits.{digits, digitsBy}
 use Rattle.number.specs.Number.{numText, decimal, sizeOf, minusText, fraction, written}
-use Rattle.number.specs.declared.Written.{Written}
 use Rattle.number.specs.declared.Written.the-variants.{Length, Refused}
 
 -- "just under 10^13 accepted, 10^13 refused 10"; 9999999999999.998 is the last f64 below, and its text has 14 bytes

@@ -20,7 +20,7 @@ use Rattle.records.specs.Records.{decodeGeometry}
 use Rattle.lines.specs.Every.{every, every-at, and-first}
 use Rattle.lines.specs.Each.{every-map}
 use Rattle.lines.specs.Lines.{pathsOf, pathsWritable, TextLine, textLine, wholeField, pathField, fieldText, fieldsText, bodyText, fieldWritable, fieldsWritable, lineWritable, linesWritable, State, startTip, sizeLine, recordLines, listLines, listText, listWritable}
-use Rattle.demand.specs.Demand.{Call, Answered, recordAt, pathAt, lineAt}
+use Rattle.demand.specs.Demand.{Call, Answered, pathAt, lineAt}
 use Rattle.demand.specs.Proof.{drawn, stands, path-is}
 use Rattle.shown.specs.Shown.{Lent, Listed, LaidOut, xsLeft, ysLeft, routed, recordsRead, outLeft, lineOf, arrowAt}
 use Rattle.shown.specs.Shown as Shown

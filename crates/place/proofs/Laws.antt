@@ -1,6 +1,6 @@
 -- What one thing adds to a cost, by the code's tests; the costs in a scene of so many things. Assumes nothing.
 use mathlib.Core.Path.{_≡_, refl, sym, ap, subst, _∙_}
-use mathlib.Core.Bool.{Bool, true, false, cond, _&&_}
+use mathlib.Core.Bool.{Bool, true, false, cond}
 use mathlib.Core.List.{List}
 use Prim.Native.Nat.{ℕ, _+_, _*_, _<_}
 use native.Mathlib.Omega.{arith}
@@ -16,7 +16,7 @@ use Rattle.laws.specs.Zip.{zip-length}
 use Rattle.float.specs.Ops.{_⊕_, _⊗_, lt, ne}
 use Rattle.float.specs.Constants.{f0, f4, f22}
 use Rattle.float.specs.Standins.{max}
-use Rattle.float.specs.Signs.{is-num}
+use Rattle.laws.specs.Nan.{is-num}
 use Rattle.float.specs.RootLaws.{hypot-below-26}
 use Rattle.shape.specs.declared.«V».{«V»}
 use Rattle.shape.specs.declared.Rect.{Rect}

@@ -1,12 +1,11 @@
 -- The turn of an arrow that is no loop: every listed place gets its full cost, and the first that no other undercuts is taken.
-use mathlib.Core.Path.{_≡_, sym, ap, subst, _∙_}
+use mathlib.Core.Path.{_≡_}
 use mathlib.Core.Bool.{true}
-use mathlib.Core.List.{List, [], _∷_, _++_}
-use Prim.Native.Nat.{ℕ, suc}
+use Prim.Native.Nat.{ℕ}
 use lib.ListN.{length}
 use Rattle.laws.specs.Best.{best, best-is, FirstLeast}
 use Rattle.shape.specs.declared.Rect.{Rect}
-use Rattle.trace.specs.Traces.{Trace, Owner, nobody, foreign}
+use Rattle.trace.specs.Traces.{Trace, nobody, foreign}
 use Rattle.spot.specs.declared.Turn.{Turn}
 use Rattle.bow.specs.declared.Shape.{Shape}
 use Rattle.bow.specs.declared.Shape.the-variants.{Line, Arc, Loop}

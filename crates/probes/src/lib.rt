@@ -1,8 +1,8 @@
 // Functions below the calls, exported for oracle/ to time and compare.
 ghost use mathlib.Core.Path.{_≡_};
+ghost use Rattle.float.specs.Ops.{rem};
+ghost use Rattle.float.specs.Constants.{τ};
 ghost use Rattle.float.specs.Standins as F;
-ghost use Rattle.diagram.specs.Calls as C;
-ghost use Rattle.probes.specs.Probes as S;
 
 #[no_mangle]
 pub extern "C" fn murshogi_root(v: f64) -> f64
@@ -11,14 +11,23 @@ pub extern "C" fn murshogi_root(v: f64) -> f64
     float::root(v)
 }
 
-// 0 for an accepted sheet, else the number of the refusal.
 #[no_mangle]
-pub extern "C" fn murshogi_check(sheet: &[u8]) -> u8
-    ensures { λ r. ⌜ r ≡ S.code (C.check (now (sheet .entry))) ⌝ }
+pub extern "C" fn murshogi_rem_tau(a: f64) -> f64
+    ensures { λ r. ⌜ r ≡ rem a τ ⌝ }
 {
-    let c = diagram::check(sheet);
-    match c {
-        sheet::Checked::Accepted => 0,
-        sheet::Checked::Refused(n) => n,
-    }
+    remainder::rem_tau(a)
+}
+
+#[no_mangle]
+pub extern "C" fn murshogi_sin(a: f64) -> f64
+    ensures { λ r. ⌜ r ≡ F.sin a ⌝ }
+{
+    float::sin(a)
+}
+
+#[no_mangle]
+pub extern "C" fn murshogi_cos(a: f64) -> f64
+    ensures { λ r. ⌜ r ≡ F.cos a ⌝ }
+{
+    float::cos(a)
 }

@@ -15,7 +15,7 @@ use lib.Ieee as Ieee
 use lib.Ieee.Bits.{ofBits-toBits, nanBits-above, nanBits-is}
 use Rattle.laws.specs.Cases.{by-bool}
 use Rattle.float.specs.Ops.{ne}
-use Rattle.float.specs.Signs.{is-nan, nan-test}
+use Rattle.laws.specs.Nan.{is-nan, nan-test}
 use Rattle.replay.specs.Payload.{after, each}
 
 -- ---- patterns

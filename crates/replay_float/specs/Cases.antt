@@ -4,6 +4,8 @@ use mathlib.Core.List.{List, [], _∷_}
 use Prim.Native.Nat.{ℕ}
 use lib.Dec.{eqb}
 use lib.ListN.{length}
+use Rattle.float.specs.Constants.{τ}
+use Rattle.float.specs.Ops.{rem}
 use Rattle.float.specs.Standins as F
 use Rattle.float.specs.declared.Ordering.{Ordering}
 use Rattle.float.specs.declared.Ordering.the-variants.{Less, Equal, Greater}
@@ -20,6 +22,7 @@ oneAgrees kind p =
     ∷ row 10 (answered p 8 (F.round a))
     ∷ row 11 (answered p 8 (F.abs a))
     ∷ row 13 (answered p 8 (F.signum a))
+    ∷ row 47 (answered p 8 (rem a τ))
     ∷ [])
 
 -- an order is 0 for before, 1 for equal, 2 for after

@@ -37,6 +37,7 @@ fn one_agrees(kind: u8, p: &[u8]) -> bool
         10 => answered(p, 8, float::round(at(p, 0))),
         11 => answered(p, 8, float::abs(at(p, 0))),
         13 => answered(p, 8, float::signum(at(p, 0))),
+        47 => answered(p, 8, remainder::rem_tau(at(p, 0))),
         _ => false,
     }
 }

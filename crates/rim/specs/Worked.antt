@@ -1,6 +1,6 @@
 -- Rims worked out by computation. Assumes nothing.
 use mathlib.Core.Path.{_≡_, refl}
-use mathlib.Core.List.{List, [], _∷_}
+use mathlib.Core.List.{[], _∷_}
 use lib.Count.{trailingZeros}
 use lib.Ieee.{add, sub, div, rem, neg, lt, le, eq, ne, round, size, span, climb, units, odd, sum, ofBits, ofFields, isNan}
 use Rattle.laws.specs.Filter.{filter}

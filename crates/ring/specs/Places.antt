@@ -1,14 +1,13 @@
 -- The places on the ring, each taken once; the start state at the left. Assumes nothing.
 use mathlib.Core.Path.{_≡_, refl, sym, ap, _∙_, subst}
 use mathlib.Core.Bool.{true, false}
-use mathlib.Core.List.{List, [], _∷_}
 use Prim.Native.Nat.{ℕ, zero, suc, _+_, _-_, _*_, _%_, _^_, _≤_, _<_}
 use native.Mathlib.Nat.{mod-eq-of-lt, mod-lt, add-mod-right, mul-pos, zero-mul, add-zero, add-suc, suc-add}
 use native.Mathlib.Omega.{arith}
 use borrow.Author.Tests.{ne-eqb}
 use lib.Dec.{T}
 use lib.IntN.{ℤ}
-use lib.ListN.{length, getD}
+use lib.ListN.{getD}
 use lib.Ieee.{Float, nan, inf, fin, up, down, binary64, ofBits, ofInt, round, sum}
 use lib.Ieee as Ieee
 use lib.Ieee.Exact.{HasValue}

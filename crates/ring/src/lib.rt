@@ -1,12 +1,10 @@
 // The ring: the states on a circle, in their order, the start state at the left.
+use float::PI;
+use float::TAU;
 ghost use mathlib.Core.Path.{_≡_};
 ghost use Prim.Native.Nat.{_<_, _≤_};
 ghost use lib.ListN.{length};
 ghost use Rattle.ring.specs.Ring as S;
-
-const PI: f64 = 3.141592653589793;
-
-const TAU: f64 = 6.283185307179586;
 
 const NODE_RADIUS: f64 = 22.0;
 

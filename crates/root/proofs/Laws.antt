@@ -1,9 +1,7 @@
 -- One turn of each loop, and bounds.
 use mathlib.Core.Path.{_≡_, refl, sym, subst}
-use mathlib.Core.Bool.{Bool, true, false, not}
+use mathlib.Core.Bool.{true, false}
 use lib.Dec.{T}
-use lib.Ieee.{Float, nan, inf, fin, binary64, ne, eq, isNan, nanBits}
-use lib.Ieee.Bits.{nanBits-above}
 use lib.Bits.{bitAnd, and-mask}
 use Prim.Native.Nat.{ℕ, zero, suc, _+_, _-_, _*_, _/_, _%_, _^_, _≤_, _<_}
 use native.Mathlib.Nat.{not-suc-le-zero, mul-le-mul}
@@ -72,16 +70,6 @@ low-square p = mul-le-mul (low-half-lt p) (low-half-lt p)
 -- one way out of a test with a claim for true only
 pub not-claimed : {A : Type 0} → false ≡ true → A
 not-claimed e = absurd (subst T (sym e) tt)
-
--- ---- floats
-pub no-nan : (v : Float) → ne v v ≡ false → T (not (isNan v))
-unfolding isNan ne eq
-no-nan nan e = not-claimed (sym e)
-no-nan (inf s) e = tt
-no-nan (fin s m e′) e = tt
-
-pub no-nan-bits : (n : ℕ) → n < 2047 * 2 ^ 52 → T (not (nanBits binary64 n))
-no-nan-bits n h = rw (nanBits-above binary64 n, le-ltb (2047 * 2 ^ 52) (n % 2 ^ 63) (omega arith)) tt
 
 pub rootBits-is : (b : ℕ) (c : Scaled) (p : ℕ) → c ≡ scaled b → p ≡ nearestRoot (evened c * 2 ^ 52) → packed (c .e) p ≡ rootBits b
 unfolding rootBits

@@ -1,14 +1,14 @@
 -- Of all binary64 numbers the root is the one closest to the exact root, the only such one, and it never falls where the number rises. Assumes nothing.
 use mathlib.Core.Path.{_≡_, refl, sym, ap, _∙_, subst}
-use mathlib.Core.Bool.{Bool, true, false, cond}
+use mathlib.Core.Bool.{Bool, true, false}
 use Prim.Native.Nat.{ℕ, zero, suc, _+_, _-_, _*_, _/_, _%_, _^_, _≤_, _<_}
 use native.Mathlib.Nat.{add-zero, add-suc, add-comm, pow-suc, mul-le-mul, mul-le-mul-right, mul-lt-mul-of-pos-right, mul-mul-mul-comm, le-refl, le-of-eq, le-of-lt, le-antisymm, le-trans, lt-of-lt-of-le, lt-of-le-of-lt, lt-trans}
 use native.Mathlib.Omega.{arith}
-use lib.Dec.{eqb, leb, ltb}
+use lib.Dec.{eqb, ltb}
 use lib.Pow.{pow-pos}
-use borrow.Author.Tests.{eqb-true, eqb-false, ltb-true, ltb-false, lt-ltb, le-ltb, ne-eqb}
+use borrow.Author.Tests.{eqb-true, eqb-false, ltb-true, ltb-false, ne-eqb}
 use Rattle.root.specs.Root.{rootBits}
-use Rattle.root.specs.Rounded.{magnitude, NearestRoot, square, rootDigits, rootPower, rootNumber, root-bits-are, root-number, number-reaches, root-nearest, root-digits, magnitude-of, root-magnitude}
+use Rattle.root.specs.Rounded.{magnitude, NearestRoot, square, rootDigits, rootPower, root-bits-are, root-number, number-reaches, root-nearest, root-digits, magnitude-of}
 
 -- ---- magnitudes are in the order of their bits
 -- by the field x and the digits t

@@ -8,7 +8,7 @@ use lib.Dec.{leb, ltb}
 use borrow.Author.Tests.{leb-true, leb-false, ltb-true, ltb-false, le-leb, lt-leb}
 use Rattle.root.specs.declared.Digits.{Digits}
 use Rattle.root.specs.Root.{wholeRoot, nearestRoot}
-use Rattle.root.specs.Nearest.{WholeRoot, whole-root-unique}
+use Rattle.root.specs.Nearest.{whole-root-unique}
 
 -- `Digits` is the root q of the digits taken so far, the remainder r, and the digits still to come, in the top places of x.
 -- One digit: bring it down, and append 1 to the root if 4 q + 1 fits into the remainder, else 0.

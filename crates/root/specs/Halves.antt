@@ -1,6 +1,6 @@
 -- The nearest root told with numbers below 2 ^ 64, by halves of 26 binary digits: p is the nearest to the root of n where p * (p - 1) < n ≤ p * (p + 1). Assumes nothing.
-use mathlib.Core.Path.{_≡_, refl}
-use Prim.Native.Nat.{ℕ, zero, suc, _+_, _-_, _*_, _/_, _^_, _≤_, _<_}
+use mathlib.Core.Path.{_≡_}
+use Prim.Native.Nat.{ℕ, zero, suc, _+_, _-_, _*_, _^_, _≤_, _<_}
 use native.Mathlib.Omega.{arith}
 use Rattle.root.specs.Root.{nearestRoot}
 use Rattle.root.specs.Nearest.{Nearest, nearest-unique}

@@ -1,13 +1,12 @@
 -- Laws of a root over floats that are no NaN and have the sign clear, zero and infinity included: it rises, it passes `min` and `max`, and a bound on it is a bound on its argument. Assumes nothing.
 use mathlib.Core.Path.{_≡_, refl, sym, ap, ap₂, _∙_, subst}
-use mathlib.Core.Bool.{Bool, true, false, not, _&&_, _||_, cond, true≢false}
+use mathlib.Core.Bool.{Bool, true, false, not, _||_, cond, true≢false}
 use Prim.Native.Nat.{ℕ, zero, suc, _+_, _-_, _*_, _/_, _%_, _^_, _≤_, _<_}
-use native.Mathlib.Nat.{le-refl, le-trans, le-antisymm, lt-of-le-of-lt, lt-of-lt-of-le, le-of-lt}
+use native.Mathlib.Nat.{le-trans, le-antisymm, lt-of-le-of-lt, lt-of-lt-of-le, le-of-lt}
 use native.Mathlib.Omega.{arith}
 use lib.Dec.{T, eqb, leb, ltb}
-use lib.IntN.{ℤ}
-use borrow.Author.Tests.{eqb-true, eqb-false, ltb-true, ltb-false, leb-true, leb-false, lt-ltb, le-ltb, le-leb, lt-leb, eq-eqb, ne-eqb}
-use lib.Ieee.{Float, nan, inf, fin, Format, prec, emax, low, up, down, binary64, fits, isNan, nanBits, ofBits, toBits, ofFields, odd, units, round, sum, add, mul, lt, le, eq, ne}
+use borrow.Author.Tests.{eqb-true, eqb-false, ltb-true, ltb-false, leb-true, leb-false, le-ltb, le-leb, lt-leb, eq-eqb, ne-eqb}
+use lib.Ieee.{Float, nan, inf, fin, Format, prec, emax, low, up, down, binary64, fits, isNan, ofBits, toBits, ofFields, odd, units, round, sum, add, mul, lt, le, eq, ne}
 use lib.Ieee.Exact.{HasValue}
 use lib.Ieee.Fits.{round-is, add-fits}
 use lib.Ieee.Bits.{ofBits-toBits, toBits-lt, ofBits-fits, nanBits-is, nanBits-above}

@@ -1,6 +1,6 @@
 -- The square root of a binary64 that is finite and above zero, from exponent and significand bits, by comparing whole-number squares:
 -- "the f64 nearest the exact square root of v, worked out from exponent and significand bits with whole numbers".
-use mathlib.Core.Bool.{Bool, true, false, cond}
+use mathlib.Core.Bool.{cond}
 use Prim.Native.Nat.{ℕ, zero, suc, _+_, _-_, _*_, _/_, _%_, _^_}
 use lib.Dec.{leb, ltb, eqb}
 use Rattle.root.specs.declared.Scaled.{Scaled}

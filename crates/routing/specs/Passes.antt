@@ -1,10 +1,9 @@
 -- How the code runs the turns: what is known of each arrow before any label is placed, then three passes over all arrows in their order.
 -- A scene and the twenty numbers of each arrow, at 20 times its number, go from turn to turn.
-use mathlib.Core.Bool.{Bool, true, false, not, cond, _&&_}
-use mathlib.Core.List.{List, [], _∷_, _++_, map, flatMap}
+use mathlib.Core.Bool.{Bool, not, cond, _&&_}
+use mathlib.Core.List.{List, [], _∷_, map, flatMap}
 use Prim.Native.Nat.{ℕ, zero, suc, _*_}
 use lib.Dec.{eqb}
-use lib.ListN.{length, getD}
 use lib.Ieee.{Float}
 use Rattle.laws.specs.Flat.{part}
 use Rattle.laws.specs.Loops.{over}
@@ -18,7 +17,7 @@ use Rattle.rim.specs.Rims.{leaveAngle, reachAngle}
 use Rattle.spot.specs.declared.Geometry.{Geometry}
 use Rattle.records.specs.Records.{fields}
 use Rattle.place.specs.Scene.{Scene}
-use Rattle.routing.specs.Routing.{Frame, Ends, Size, Numbered, Item, loop, label, Step, numbered, kept, isKept, isLoop, joined, routeOf, isArc, routeTrace, edgeOf, stepOf, more, cost, after, drawnStep, drawing}
+use Rattle.routing.specs.Routing.{Frame, Ends, Size, Numbered, Item, loop, label, Step, numbered, isKept, isLoop, joined, routeOf, isArc, routeTrace, stepOf, more, cost, after, drawnStep}
 
 -- ---- a frame and sizes from the slices that hold them
 

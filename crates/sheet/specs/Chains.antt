@@ -1,12 +1,12 @@
 -- A chain one record at a time, in the form in which a loop over it has its facts: `left` records to come at most, and i the next index.
 -- Assumes nothing.
-use mathlib.Core.Path.{_≡_, refl, sym, ap, _∙_}
-use mathlib.Core.Bool.{Bool, true, false, _||_}
-use mathlib.Core.List.{List, [], _∷_, _++_, map, flatMap, append-nil}
-use Prim.Native.Nat.{ℕ, zero, suc, _+_, _-_, _*_, _≤_, _<_}
+use mathlib.Core.Path.{_≡_, refl}
+use mathlib.Core.Bool.{Bool, true, false}
+use mathlib.Core.List.{List, [], _∷_, map}
+use Prim.Native.Nat.{ℕ, zero, suc, _+_, _-_}
 use native.Mathlib.Omega.{arith}
 use borrow.Author.Tests.{ne-eqb}
-use lib.ListN.{length, set}
+use lib.ListN.{set}
 use Rattle.laws.specs.Put.{put}
 use native.Mathlib.Numerals.{add-one}
 use Rattle.sheet.specs.Sheet.{next, chainBy}

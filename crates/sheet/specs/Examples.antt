@@ -1,15 +1,15 @@
 -- Sheets and their answers, at the main screen: a list, and one theorem over it. An answer is the number of the refusal; accepted, which has no number in document 01, is a 0 here.
 use mathlib.Core.Path.{_≡_, refl}
-use mathlib.Core.Bool.{Bool, true, false, _&&_, _||_}
+use mathlib.Core.Bool.{Bool, true, false, _&&_}
 use mathlib.Core.List.{List, [], _∷_, _++_, flatMap}
-use Prim.Native.Nat.{ℕ, zero, suc, _+_, _-_, _*_, _/_, _%_, _≤_}
+use Prim.Native.Nat.{ℕ, zero, suc, _+_, _-_, _/_, _%_, _≤_}
 use native.Mathlib.Omega.{arith}
 use lib.Dec.{T, eqb}
 use lib.ListN.{length, getD, replicate}
 use borrow.Author.Tests.{eqb-false}
 use Rattle.laws.specs.Loops.{anyFor, anyUp, over}
 use Rattle.laws.specs.Refusals.{decide}
-use Rattle.sheet.specs.Sheet.{kindOf, byteOne, next, fromOf, toOf, firstLine, firstText, piece, chainBy, metLine, metArrow, met, lineOf, linesFrom, State, Arrow, Graph, arrowOf, statesOf, arrowsOf, meaning}
+use Rattle.sheet.specs.Sheet.{kindOf, byteOne, next, fromOf, toOf, firstLine, firstText, piece, chainBy, metLine, metArrow, met, lineOf, linesFrom, Graph, arrowOf, statesOf, arrowsOf, meaning}
 use Rattle.sheet.specs.Refusals.{any, repeats, isSet, wrongRecord, wrongBytes, indices, wrongChains, largeArrow, overLimits, illArrow, illFormed, mainScreen, checkOf}
 use Rattle.sheet.specs.Renumber.{Renumbered}
 use Rattle.sheet.specs.declared.Checked.{Checked}

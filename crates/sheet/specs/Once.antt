@@ -2,17 +2,17 @@
 -- exactly when this holds. Assumes nothing.
 use mathlib.Core.Path.{_≡_, refl, sym, ap, _∙_}
 use mathlib.Core.Bool.{Bool, true, false, cond, not, _||_}
-use mathlib.Core.List.{List, [], _∷_, _++_, map, flatMap}
-use Prim.Native.Nat.{ℕ, zero, suc, _+_, _*_, _≤_, _<_}
+use mathlib.Core.List.{List, [], _∷_, map, flatMap}
+use Prim.Native.Nat.{ℕ, zero, suc, _+_, _≤_, _<_}
 use native.Mathlib.Omega.{arith}
-use lib.Dec.{ltb, eqb}
+use lib.Dec.{eqb}
 use lib.ListN.{length, getD}
-use borrow.Author.Tests.{ltb-true, ltb-false, le-ltb, lt-ltb, eqb-true, eqb-false, eq-eqb, ne-eqb, not-false, not-true}
+use borrow.Author.Tests.{le-ltb, lt-ltb, eqb-true, eqb-false, eq-eqb, ne-eqb, not-false}
 use Rattle.laws.specs.Cases.{by-bool, by-lt}
 use Rattle.laws.specs.Loops.{anyUp}
 use Rattle.sheet.specs.Sheet.{count, kindOf, next, chainBy, chain, firstText, firstLine, firstState, firstArrow, Met, meet, metAlone, metLine, metArrow, met}
 use Rattle.sheet.specs.Refusals.{any, isAmong, repeats, isAbove, isOther, isMissed, indices, wrongChains}
-use Rattle.sheet.specs.Any.{not-both, or-left, or-right, or-none, any-here, any-later, any-none, any-head, any-rest, any-cases, any-join, any-narrower, any-flat, any-map, none-at, none-all, none-up, up-none}
+use Rattle.sheet.specs.Any.{not-both, or-left, or-right, or-none, any-here, any-none, any-head, any-rest, any-cases, any-join, any-narrower, any-flat, any-map, none-at, none-all, none-up, up-none}
 
 -- how often n stands in a list
 unfoldable pub occurrences : ℕ → List ℕ → ℕ

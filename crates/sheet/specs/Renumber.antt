@@ -1,14 +1,14 @@
 -- The meaning does not depend on where in the file a record stands: a sheet whose records carry other numbers, with the same contents and links, means the same.
 -- Assumes nothing.
 use mathlib.Core.Path.{_≡_, refl, sym, ap, ap₂, _∙_}
-use mathlib.Core.Bool.{Bool, true, false, not, _||_}
+use mathlib.Core.Bool.{Bool, false, _||_}
 use mathlib.Core.List.{List, [], _∷_, _++_, map, flatMap}
-use Prim.Native.Nat.{ℕ, zero, suc, _+_, _≤_, _<_}
+use Prim.Native.Nat.{ℕ, zero, suc, _+_, _≤_}
 use native.Mathlib.Omega.{arith}
 use lib.Dec.{ltb, eqb}
-use borrow.Author.Tests.{ltb-false, eqb-true, eqb-false, ne-eqb, eq-eqb, not-false}
+use borrow.Author.Tests.{ltb-false, eqb-true, eqb-false, ne-eqb, not-false}
 use Rattle.laws.specs.Cases.{by-bool}
-use Rattle.sheet.specs.Sheet.{count, kindOf, byteOne, next, fromOf, toOf, firstState, firstArrow, firstLine, firstText, piece, chainBy, chain, stateChain, arrowChain, lineChain, textChain, Met, meet, metAlone, metLine, metArrow, met, State, Arrow, Graph, lineOf, linesFrom, arrowOf, stateOf, statesOf, arrowsOf, meaning}
+use Rattle.sheet.specs.Sheet.{count, kindOf, byteOne, next, fromOf, toOf, firstState, firstArrow, firstLine, firstText, piece, chainBy, chain, stateChain, arrowChain, lineChain, textChain, Met, meet, metAlone, metLine, metArrow, met, State, Arrow, lineOf, linesFrom, arrowOf, stateOf, statesOf, arrowsOf, meaning}
 use Rattle.sheet.specs.Refusals.{any, isAbove, isOther, wrongChains}
 use Rattle.sheet.specs.Any.{not-both, or-left, or-right, or-none, any-head, any-rest, any-join, any-narrower, any-flat}
 use Rattle.sheet.specs.Once.{chain-nonzero, right-inside, right-kinds}

@@ -1,18 +1,18 @@
 -- In a sheet that passes the test of refusal 3 there are as many records met as the count says, and every chain ends by an index that is zero:
 -- reading `count + 1` records of it at most cuts nothing off. Assumes nothing.
 use mathlib.Core.Path.{_≡_, refl, sym, ap, _∙_}
-use mathlib.Core.Bool.{Bool, true, false, cond}
-use mathlib.Core.List.{List, [], _∷_, _++_, map, flatMap}
-use Prim.Native.Nat.{ℕ, zero, suc, _+_, _*_, _≤_, _<_}
+use mathlib.Core.Bool.{false, cond}
+use mathlib.Core.List.{List, [], _∷_, flatMap}
+use Prim.Native.Nat.{ℕ, zero, suc, _+_, _≤_, _<_}
 use native.Mathlib.Nat.{not-suc-le-zero, le-of-suc-le-suc, suc-add}
 use native.Mathlib.Numerals.{add-one}
 use native.Mathlib.Omega.{arith}
 use lib.Dec.{eqb}
 use lib.ListN.{length, getD, length-append, length-map}
-use borrow.Author.Tests.{eqb-true, eqb-false, eq-eqb, ne-eqb}
+use borrow.Author.Tests.{eq-eqb, ne-eqb}
 use Rattle.laws.specs.Cases.{by-bool, by-lt}
-use Rattle.sheet.specs.Sheet.{count, next, chainBy, chain, stateChain, arrowChain, lineChain, textChain, firstText, firstLine, firstState, firstArrow, Met, meet, metAlone, metLine, metArrow, met}
-use Rattle.sheet.specs.Refusals.{isAmong, indices, wrongChains}
+use Rattle.sheet.specs.Sheet.{count, next, chainBy, chain, stateChain, arrowChain, lineChain, textChain, firstText, firstLine, firstState, firstArrow, Met, metAlone, metLine, metArrow, met}
+use Rattle.sheet.specs.Refusals.{indices, wrongChains}
 use Rattle.sheet.specs.Once.{occurrences, Once, once}
 
 -- ---- a list of numbers from 1 to c, each once, has c elements

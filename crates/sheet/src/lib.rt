@@ -1,6 +1,6 @@
 // A method sheet: its fields, and the bytes of its records.
 ghost use mathlib.Core.Path.{_≡_};
-ghost use Prim.Native.Nat.{_+_, _*_, _<_, _≤_};
+ghost use Prim.Native.Nat.{_+_, _*_, _<_};
 ghost use Rattle.laws.specs.Loops.{anyUp};
 ghost use Rattle.sheet.specs.Sheet as S;
 ghost use Rattle.sheet.specs.Meaning as M;

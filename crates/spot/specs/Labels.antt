@@ -1,5 +1,5 @@
 -- Where the label block of an arrow stands beside a spot, and the drawing of the arrow with it.
-use mathlib.Core.Bool.{Bool, cond}
+use mathlib.Core.Bool.{cond}
 use lib.Ieee.{Float}
 use Rattle.float.specs.Ops.{_⊕_, _⊖_, _⊗_, _⊘_, lt, le}
 use Rattle.float.specs.Constants.{f0, f2, f4, f0-2}

@@ -6,7 +6,7 @@ use shape::Rect;
 use shape::V;
 ghost use mathlib.Core.Path.{_≡_};
 ghost use Prim.Native.Nat.{_<_};
-ghost use lib.ListN.{getD, length};
+ghost use lib.ListN.{getD};
 ghost use Rattle.spot.specs.Spots as S;
 ghost use Rattle.spot.specs.Labels as L;
 

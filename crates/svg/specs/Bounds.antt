@@ -1,5 +1,5 @@
 -- The bounds that Grammar puts on the turns of a sequence and of a path are never met: each is what its production says, with no bound. Assumes nothing.
-use mathlib.Core.Path.{_≡_, refl, sym, ap, _∙_}
+use mathlib.Core.Path.{_≡_, refl, ap}
 use mathlib.Core.Bool.{Bool, true, false, cond, _||_}
 use mathlib.Core.List.{List, [], _∷_, _++_}
 use mathlib.Core.Option.{Option, none, some, bind}
@@ -11,7 +11,7 @@ use lib.ListN.{length}
 use borrow.Author.Tests.{eqb-false}
 use Rattle.laws.specs.Cases.{by-bool}
 use Rattle.number.specs.Reading.{isDigit, leading, following}
-use Rattle.svg.specs.Grammar.{isSpace, skip, isChar, Numeral, numeral, Segment, segment, Reader, CommandReader, orElse, comma, pastCommaWsp, hasCommaWsp, commaWsp, _then_, _apart_, sequenceBy, sequence, sign, someDigits, pointDigits, Plain, plainNumber, Power, exponentOf, raised, signedNumber, number, coordinate, flag, coordinatePair, coordinatePairDouble, coordinatePairTriplet, ellipticalArcArgument, lettered, closepath, firstOf, moveto, lineto, horizontalLineto, verticalLineto, curveto, smoothCurveto, quadraticBezierCurveto, smoothQuadraticBezierCurveto, ellipticalArc, drawtoCommand, drawtoCommands, svgPath}
+use Rattle.svg.specs.Grammar.{isSpace, skip, isChar, Numeral, Segment, Reader, CommandReader, orElse, comma, pastCommaWsp, hasCommaWsp, commaWsp, _then_, _apart_, sequenceBy, sequence, sign, someDigits, pointDigits, Plain, plainNumber, Power, exponentOf, raised, signedNumber, number, coordinate, flag, coordinatePair, coordinatePairDouble, coordinatePairTriplet, ellipticalArcArgument, lettered, closepath, firstOf, moveto, lineto, horizontalLineto, verticalLineto, curveto, smoothCurveto, quadraticBezierCurveto, smoothQuadraticBezierCurveto, ellipticalArc, drawtoCommand, drawtoCommands, svgPath}
 
 -- ---- what was read, taken apart
 module _ {A B : Type 0} where

@@ -1,6 +1,6 @@
 -- Texts that are paths by the grammar, with what they are read as, and texts that are none. Assumes nothing.
 use mathlib.Core.Path.{_≡_, refl}
-use mathlib.Core.Bool.{Bool, true, false}
+use mathlib.Core.Bool.{true, false}
 use mathlib.Core.List.{List, [], _∷_, _++_, map}
 use mathlib.Core.Option.{Option, none, some, bind}
 use Prim.Native.Nat.{ℕ}

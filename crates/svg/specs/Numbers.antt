@@ -3,7 +3,7 @@
 use mathlib.Core.Path.{_≡_, refl, sym, ap, _∙_}
 use mathlib.Core.Bool.{Bool, true, false, cond, _||_, true≢false}
 use mathlib.Core.List.{List, [], _∷_, _++_, append-assoc}
-use mathlib.Core.Option.{Option, none, some, bind}
+use mathlib.Core.Option.{none, some, bind}
 use Prim.Native.Nat.{ℕ, _+_, _*_, _/_, _%_, _^_, _<_}
 use native.Mathlib.Omega.{arith}
 use lib.Dec.{eqb}
@@ -15,7 +15,7 @@ use Rattle.laws.specs.Loops.{over, over-join}
 use Rattle.text.specs.Digits.{digits, placed, value, value-digits}
 use Rattle.number.specs.Number.{Hundredths, hundredths, minusText, fraction, decimal, numText}
 use Rattle.number.specs.Reading.{isDigit, NoDigit, AllDigits, digit-is, digits-all, some-digit, digits-split}
-use Rattle.svg.specs.Grammar.{Numeral, numeral, Plain, plainAs, Power, orElse, sign, someDigits, pointDigits, plainNumber, exponentOf, raised, signedNumber, coordinate}
+use Rattle.svg.specs.Grammar.{Numeral, numeral, plainAs, orElse, sign, someDigits, pointDigits, plainNumber, exponentOf, signedNumber, coordinate}
 
 -- ---- the number that some hundredths are written as: "at most two decimals, no trailing zeros"
 abbrev pub numeralOf : Hundredths → Numeral

@@ -1,6 +1,6 @@
 -- Path text and arrowhead of the worked listing. Assumes nothing.
 use mathlib.Core.Path.{_≡_, refl}
-use lib.Ieee.{binary64, ofBits, ofFields, ofInt, toUnsigned, round, size, span, climb, units, odd, sum, add, sub, mul, div, rem, neg, lt, eq}
+use lib.Ieee.{ofBits, ofFields, ofInt, toUnsigned, round, size, span, climb, units, odd, sum, add, sub, mul, div, rem, neg, lt, eq}
 use lib.Count.{trailingZeros}
 use Rattle.laws.specs.Loops.{down}
 use Rattle.float.specs.Constants.{f0, whole}

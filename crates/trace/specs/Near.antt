@@ -8,7 +8,7 @@ use Rattle.root.specs.Root.{digits, wholeRoot, nearestRoot, scale, rootBits}
 use Rattle.root.specs.Plain.{rootPlain, First, squares-plain, root-lt-first}
 use Rattle.float.specs.Ops.{_⊕_, _⊖_, _⊗_, lt, ne}
 use Rattle.float.specs.Standins.{root}
-use Rattle.float.specs.Signs.{is-nan}
+use Rattle.laws.specs.Nan.{is-nan}
 use Rattle.float.specs.RootLaws.{root-is}
 use Rattle.shape.specs.declared.«V».{«V»}
 use Rattle.trace.specs.Traces.{pointNear}

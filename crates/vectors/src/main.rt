@@ -54,6 +54,9 @@ fn agrees(kind: u8, p: &[u8]) -> bool {
     if kind < 16 {
         return replay_float::agrees(kind, p);
     }
+    if kind == 47 {
+        return replay_float::agrees(kind, p);
+    }
     if kind == 16 {
         return replay_sheet::agrees(p);
     }
@@ -205,7 +208,7 @@ fn name(kind: u8) {
         return say(b"no such kind        ");
     }
     entry(
-        b"none                root                hypot               midpoint            rem_euclid          sin                 cos                 atan2               min                 max                 round               abs                 clamp               signum              copysign            total_cmp           check               label block         written number      path                arrowhead           polar               dot                 len                 angle               unit_or             left                dist                overlaps            spanning            grown               touches             dist to a box       at                  tangent             start and end       segment_hits_rect   segments_cross      trace               trace hits_rect     traces cross        bend                between             first_free          place_label         label_spots         box_cost            no such kind        no such kind        no such kind        route               layout              clutter             no such kind        no such kind        no such kind        no such kind        no such kind        no such kind        no such kind        call of route       call of layout      call of clutter     call of list        call of check       call of label_size  call of write_num   ",
+        b"none                root                hypot               midpoint            rem_euclid          sin                 cos                 atan2               min                 max                 round               abs                 clamp               signum              copysign            total_cmp           check               label block         written number      path                arrowhead           polar               dot                 len                 angle               unit_or             left                dist                overlaps            spanning            grown               touches             dist to a box       at                  tangent             start and end       segment_hits_rect   segments_cross      trace               trace hits_rect     traces cross        bend                between             first_free          place_label         label_spots         box_cost            rem_tau             no such kind        no such kind        route               layout              clutter             no such kind        no such kind        no such kind        no such kind        no such kind        no such kind        no such kind        call of route       call of layout      call of clutter     call of list        call of check       call of label_size  call of write_num   ",
         20 * wide(kind),
     )
 }

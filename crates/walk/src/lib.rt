@@ -1,8 +1,7 @@
 // The check of a sheet: a walk over all chains that marks each record met, and the refusals in their order.
 ghost use mathlib.Core.Path.{_≡_};
-ghost use mathlib.Core.List.{flatMap, [], _∷_};
-ghost use Prim.Native.Nat.{_+_, _*_, _<_, _≤_};
-ghost use lib.ListN.{length};
+ghost use mathlib.Core.List.{flatMap};
+ghost use Prim.Native.Nat.{_+_, _*_, _<_};
 ghost use Rattle.laws.specs.Loops.{anyUp};
 ghost use Rattle.sheet.specs.Sheet as S;
 ghost use Rattle.sheet.specs.Refusals as R;

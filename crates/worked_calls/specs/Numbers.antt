@@ -50,7 +50,7 @@ use Rattle.lines.specs.Every as LinesEvery
 use Rattle.lines.specs.Lines as LinesLines
 use Rattle.draw.specs.Drawn as DrawDrawn
 use Rattle.float.specs.Constants.{whole}
-use Rattle.sheet.specs.Sheet.{Graph, flagsOf}
+use Rattle.sheet.specs.Sheet.{flagsOf}
 use Rattle.sheet.specs.Examples.{smallGraph}
 use Rattle.shape.specs.Centres.{centres}
 use Rattle.spot.specs.declared.Geometry.{Geometry}

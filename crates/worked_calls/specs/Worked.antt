@@ -1,7 +1,7 @@
 -- Document 01, 'Worked drawings': "Sheet: a start state, a second state, an arrow 0 to 1 with the line `a`. Output, whole". What `layout`, `route` and `list` answer and leave of it. Assumes nothing.
 use mathlib.Core.Path.{_≡_, refl, ap, ap₂, _∙_}
 use mathlib.Core.Bool.{Bool, false, not, _&&_, _||_}
-use mathlib.Core.List.{List, [], _∷_, flatMap}
+use mathlib.Core.List.{List, flatMap}
 use Prim.Native.Nat.{ℕ, _≤_}
 use native.Mathlib.Omega.{arith}
 use borrow.Author.Tests.{le-ltb}

@@ -1,5 +1,5 @@
 -- A run at whose turns a place costs nothing and each before it something takes those places: so the places after them need not be costed. Assumes nothing.
-use mathlib.Core.Path.{_≡_, refl, sym, ap, ap₂, _∙_}
+use mathlib.Core.Path.{_≡_, refl, sym, ap, _∙_}
 use mathlib.Core.Bool.{Bool, true, false, _&&_, true≢false}
 use mathlib.Core.List.{List, [], _∷_}
 use Prim.Native.Nat.{ℕ, zero, suc, _≤_, _<_}
@@ -8,7 +8,7 @@ use native.Mathlib.Omega.{arith}
 use borrow.Author.Tests.{ltb-true, eqb-true}
 use lib.Dec.{ltb, eqb}
 use Rattle.laws.specs.Cases.{by-bool, by-lt}
-use Rattle.laws.specs.Best.{FirstLeast, best, best-is, first-least-unique}
+use Rattle.laws.specs.Best.{best, best-is, first-least-unique}
 use Rattle.laws.specs.Run as Run
 
 -- every place before p costs something

@@ -87,6 +87,7 @@ pub fn cases(out: &mut Stream) {
         }
     }
     clamps(out, rng);
+    one(out, kind::REM_TAU, |a| a % TAU, &remainders(rng));
 }
 
 fn one(out: &mut Stream, kind: u8, f: fn(f64) -> f64, list: &[f64]) {
@@ -176,6 +177,23 @@ fn angles(rng: &mut Random, n: usize) -> Vec<f64> {
             1 => ordinary(rng),
             _ => rng.between(-1e6, 1e6),
         });
+    }
+    list
+}
+
+/// Numbers of every exponent and both signs; multiples of TAU, rounded, and the numbers beside them.
+fn remainders(rng: &mut Random) -> Vec<f64> {
+    let mut list = values(rng, 40);
+    for exponent in 0..2047 {
+        let v = f64::from_bits(exponent << 52 | rng.next() >> 12);
+        list.extend([v, -v]);
+    }
+    for i in 1..=400 {
+        let k = if i <= 200 { i as f64 } else { (rng.next() >> 11 >> rng.below(53)) as f64 };
+        let v = k * TAU;
+        for w in [v, beside(v, 1), beside(v, -1)] {
+            list.extend([w, -w]);
+        }
     }
     list
 }

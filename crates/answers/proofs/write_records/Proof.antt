@@ -1,5 +1,5 @@
 -- `answers::write_records` meets its contract.
-use mathlib.Core.Path.{_≡_, refl, sym, ap, _∙_}
+use mathlib.Core.Path.{_≡_, refl, ap, _∙_}
 use mathlib.Core.List.{flatMap}
 use Prim.Native.Nat.{ℕ, _-_, _≤_}
 use native.Mathlib.Omega.{arith}
@@ -9,7 +9,6 @@ use Rattle.laws.specs.Flat.{table}
 use Rattle.laws.specs.Put.{put}
 use Rattle.records.specs.Records.{fields, decodeRecords}
 use Rattle.answers.proofs.Laws.{record-turn}
-use borrow.Author.Needs.{needs}
 use Rattle.answers.proofs.write_records.Statement.{statement}
 use Rattle.answers.proofs.write_records.Tie as tie
 

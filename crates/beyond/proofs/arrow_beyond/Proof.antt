@@ -1,6 +1,5 @@
 -- `beyond::arrow_beyond` meets its contract.
 use mathlib.Core.Path.{sym, _∙_}
-use Prim.Native.Nat.{_<_}
 use native.Mathlib.Omega.{arith}
 use lib.ListN.{length, getD}
 use denote.Ref.{now}

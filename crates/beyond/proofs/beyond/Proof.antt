@@ -1,9 +1,8 @@
 -- `beyond::beyond` meets its contract.
-use mathlib.Core.Path.{sym, _∙_}
+use mathlib.Core.Path.{sym}
 use native.Mathlib.Omega.{arith}
 use lib.ListN.{length-take}
 use lib.Seq.{length-take-le}
-use denote.Ref.{now}
 use borrow.Author.Needs.{needs}
 use Rattle.beyond.proofs.beyond.Statement.{statement}
 use Rattle.beyond.proofs.beyond.Tie as tie

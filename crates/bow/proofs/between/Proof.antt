@@ -1,6 +1,5 @@
 -- `bow::between` meets its contract.
 use mathlib.Core.Path.{ap, _∙_}
-use lib.Ieee.{Float}
 use denote.Ref.{now}
 use Rattle.free.specs.declared.Chord.{Chord}
 use Rattle.shape.specs.Centres.{centres}

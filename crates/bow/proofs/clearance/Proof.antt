@@ -1,8 +1,8 @@
 -- `bow::clearance` meets its contract. The invariant: the points to come, from the clearance so far, give the whole clearance.
-use mathlib.Core.Path.{_≡_, refl, sym, ap, _∙_}
-use Prim.Native.Nat.{_+_, _-_, _≤_, _<_}
+use mathlib.Core.Path.{_≡_, sym, ap, _∙_}
+use Prim.Native.Nat.{_-_, _≤_}
 use native.Mathlib.Omega.{arith}
-use lib.Ieee.{Float, nanBits}
+use lib.Ieee.{nanBits}
 use denote.Ref.{now}
 use borrow.Author.Needs.{needs}
 use Rattle.laws.specs.Loops.{up, up-step, up-done}

@@ -1,6 +1,6 @@
 -- `bow::verified` meets its contract. The invariant: the choice among the bows to come is the choice among all.
-use mathlib.Core.Path.{_≡_, refl, sym, ap, ap₂, _∙_}
-use Prim.Native.Nat.{_+_, _-_, _≤_, _<_}
+use mathlib.Core.Path.{_≡_, refl, sym, ap, _∙_}
+use Prim.Native.Nat.{_+_, _-_, _≤_}
 use native.Mathlib.Omega.{arith}
 use lib.ListN.{length, drop, getD}
 use lib.Ieee.{Float, nan, nanBits}

@@ -1,7 +1,5 @@
 -- `draw::draw_read` meets its contract.
 use Rattle.draw.specs.Read.{frame-read, sizes-read}
-use mathlib.Core.List.{List}
-use lib.Ieee.{Float}
 use denote.Ref.{now}
 use Rattle.sheet.specs.Sheet.{Graph, meaning}
 use mathlib.Core.Path.{sym, _∙_}

@@ -1,6 +1,6 @@
 -- `float::arc_series` meets its contract.
-use mathlib.Core.Path.{_≡_, refl, sym, ap, _∙_}
-use Prim.Native.Nat.{ℕ, _≤_}
+use mathlib.Core.Path.{_≡_, refl, sym, _∙_}
+use Prim.Native.Nat.{_≤_}
 use native.Mathlib.Omega.{arith}
 use Rattle.laws.specs.Loops.{down, down-step, down-done}
 use Rattle.float.specs.Standins.{arcSeries, arcTerm}

@@ -1,6 +1,6 @@
 -- `float::half_up` meets its contract.
-use mathlib.Core.Path.{_≡_, sym, ap, _∙_}
-use Prim.Native.Nat.{ℕ, _+_, _-_, _/_, _%_, _^_, _≤_, _<_}
+use mathlib.Core.Path.{sym}
+use Prim.Native.Nat.{_+_, _-_, _/_, _%_, _^_, _≤_, _<_}
 use native.Mathlib.Omega.{arith}
 use lib.Bits.{bitAnd, and-mask}
 use lib.Pow.{shr-le}

@@ -2,7 +2,8 @@
 use mathlib.Core.Path.{sym, ap}
 use Rattle.laws.specs.Cases.{holds}
 use Rattle.float.specs.Standins.{negative}
-use Rattle.float.specs.Signs.{is-nan, no-nan, sign-bit}
+use Rattle.laws.specs.Nan.{is-nan, no-nan}
+use Rattle.float.specs.Signs.{sign-bit}
 use Rattle.float.proofs.negative.Statement.{statement}
 use Rattle.float.proofs.negative.Tie as tie
 

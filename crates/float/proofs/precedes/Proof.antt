@@ -1,7 +1,6 @@
 -- `float::precedes` meets its contract.
-use lib.Ieee.{isNan}
 use Rattle.float.specs.Standins.{precedes}
-use Rattle.float.specs.Signs.{nan-test}
+use Rattle.laws.specs.Nan.{nan-test}
 use borrow.Author.Needs.{needs}
 use Rattle.float.proofs.precedes.Statement.{statement}
 use Rattle.float.proofs.precedes.Tie as tie

@@ -1,11 +1,10 @@
 -- `float::root` meets its contract.
-use mathlib.Core.Path.{_≡_, ap}
+use mathlib.Core.Path.{ap}
 use native.Mathlib.Omega.{arith}
 use borrow.Author.Tests.{eq-eqb, ne-eqb, le-leb, lt-leb}
 use lib.Ieee.{binary64, ofBits, isNan}
 use Rattle.float.specs.Standins.{root, rootOf}
-use Rattle.float.specs.Signs.{is-nan, is-num, no-nan, no-nan-bits}
-use borrow.Author.Needs.{needs}
+use Rattle.laws.specs.Nan.{is-nan, is-num, no-nan, no-nan-bits}
 use Rattle.float.proofs.root.Statement.{statement}
 use Rattle.float.proofs.root.Tie as tie
 

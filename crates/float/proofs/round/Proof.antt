@@ -1,11 +1,12 @@
 -- `float::round` meets its contract.
-use mathlib.Core.Path.{_≡_, sym, ap, _∙_}
+use mathlib.Core.Path.{sym, ap, _∙_}
 use native.Mathlib.Omega.{arith}
 use lib.Dec.{le→leb}
 use lib.Ieee.{binary64, toBits, inFloat}
 use Prim.Native.Nat.{_^_}
 use Rattle.laws.specs.Cases.{holds}
-use Rattle.float.specs.Signs.{is-nan, no-nan, abs-num}
+use Rattle.laws.specs.Nan.{is-nan, no-nan}
+use Rattle.float.specs.Signs.{abs-num}
 use Rattle.float.specs.Standins.{round}
 use Rattle.float.specs.Rounding.{round-minus, round-plus, round-itself}
 use borrow.Author.Needs.{needs}

@@ -1,8 +1,7 @@
 -- `float::series` meets its contract.
-use mathlib.Core.Path.{_≡_, refl, sym, ap, _∙_}
-use Prim.Native.Nat.{ℕ, _≤_, _-_}
+use mathlib.Core.Path.{_≡_, refl, sym, _∙_}
+use Prim.Native.Nat.{_≤_, _-_}
 use native.Mathlib.Omega.{arith}
-use lib.Ieee.{Float}
 use Rattle.laws.specs.Loops.{down, down-step, down-done}
 use Rattle.float.specs.Standins.{series, divisor, term}
 use borrow.Author.Needs.{needs}

@@ -1,6 +1,5 @@
 -- `float::signum` meets its contract.
-use mathlib.Core.Path.{_∙_}
-use Rattle.float.specs.Signs.{is-nan, is-num}
+use Rattle.laws.specs.Nan.{is-nan, is-num}
 use lib.Ieee.{isNan}
 use borrow.Author.Needs.{needs}
 use Rattle.float.proofs.signum.Statement.{statement}

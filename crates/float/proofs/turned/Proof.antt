@@ -1,5 +1,4 @@
 -- `float::turned` meets its contract.
-use borrow.Author.Needs.{needs}
 use Rattle.float.proofs.turned.Statement.{statement}
 use Rattle.float.proofs.turned.Tie as tie
 

@@ -4,11 +4,6 @@ use Rattle.label.proofs.Laws.{block-is}
 use borrow.Author.Needs.{needs}
 use Rattle.label.proofs.block_at.Statement.{statement}
 use Rattle.label.proofs.block_at.Tie as tie
-use Rattle.label.proofs.block_at.Reads as reads
-use Rattle.label.proofs.block_at.Lts as lts
-use Rattle.label.proofs.height.Reads as height-reads
-use Rattle.label.proofs.widest.Reads as widest-reads
-use Rattle.meaning.proofs.chain_length.Reads as chain-length-reads
 
 widest-requires : tie.Need-widest-requires
 widest-requires c κs = search needs

@@ -3,8 +3,6 @@ use borrow.Author.Tests.{lt-ltb, le-ltb}
 use Rattle.label.specs.Label.{charWidth}
 use Rattle.label.proofs.char_width.Statement.{statement}
 use Rattle.label.proofs.char_width.Tie as tie
-use Rattle.label.proofs.char_width.Reads as reads
-use Rattle.label.proofs.char_width.Lts as lts
 
 returns : tie.Need-returns
 unfolding charWidth

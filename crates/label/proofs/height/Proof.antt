@@ -1,9 +1,6 @@
 -- `label::height` meets its contract.
 use Rattle.label.proofs.height.Statement.{statement}
 use Rattle.label.proofs.height.Tie as tie
-use Rattle.label.proofs.height.Reads as reads
-use Rattle.label.proofs.height.Lts as lts
-use Rattle.std.proofs.num.nearest_u64_to_f64.Reads as nearest-u64-to-f64-reads
 
 nearest-u64-to-f64-requires : tie.Need-nearest-u64-to-f64-requires
 nearest-u64-to-f64-requires c κs = tt

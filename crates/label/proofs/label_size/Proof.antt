@@ -1,5 +1,5 @@
 -- `label::label_size` meets its contract.
-use mathlib.Core.Path.{_≡_, sym, _∙_}
+use mathlib.Core.Path.{sym, _∙_}
 use native.Mathlib.Omega.{arith}
 use lib.ListN.{length}
 use borrow.Author.Tests.{not-true, not-false}
@@ -8,10 +8,6 @@ use Rattle.label.specs.Measuring.{sized-many, sized-unfit, sized-fit}
 use Rattle.label.proofs.Laws.{fit-total}
 use Rattle.label.proofs.label_size.Statement.{statement}
 use Rattle.label.proofs.label_size.Tie as tie
-use Rattle.label.proofs.label_size.Reads as reads
-use Rattle.label.proofs.label_size.Lts as lts
-use Rattle.label.proofs.lengths_fit.Reads as lengths-fit-reads
-use Rattle.label.proofs.lines_size.Reads as lines-size-reads
 
 returns : tie.Need-returns
 returns c = sym (sized-many (c .before .before .before .before .args .m) (now (c .before .before .before .before .args .text)) (now (c .before .before .before .before .args .lengths)) (c .if1 .taken))

@@ -1,6 +1,6 @@
 -- `label::lengths_fit` meets its contract. The invariant: the test of the lengths that are left is the test of all.
-use mathlib.Core.Path.{_≡_, refl, sym, _∙_}
-use Prim.Native.Nat.{ℕ, _+_, _-_, _≤_, _<_}
+use mathlib.Core.Path.{_≡_, refl, _∙_}
+use Prim.Native.Nat.{_-_, _≤_}
 use native.Mathlib.Omega.{arith}
 use lib.ListN.{length, drop}
 use denote.Ref.{now}
@@ -9,8 +9,6 @@ use Rattle.label.proofs.Laws.{fit-over-at, fit-short-at, fit-turn-at, f
 use borrow.Author.Needs.{needs}
 use Rattle.label.proofs.lengths_fit.Statement.{statement}
 use Rattle.label.proofs.lengths_fit.Tie as tie
-use Rattle.label.proofs.lengths_fit.Reads as reads
-use Rattle.label.proofs.lengths_fit.Lts as lts
 
 abbrev Inv-loop : tie.InvT-loop
 Inv-loop lengths most bytes left₀ i₀ i-end left i = (i-end ≡ length lengths) × (i ≤ length lengths) × (lengthsFit most left (drop i lengths) ≡ lengthsFit most bytes lengths)

@@ -1,6 +1,6 @@
 -- `label::lines_size` meets its contract. The invariant: the size continued from this line is the size of all lines.
-use mathlib.Core.Path.{_≡_, refl, sym, ap, _∙_}
-use Prim.Native.Nat.{ℕ, _+_, _-_, _≤_, _<_}
+use mathlib.Core.Path.{_≡_, refl, ap, _∙_}
+use Prim.Native.Nat.{_+_, _-_, _≤_}
 use native.Mathlib.Omega.{arith}
 use lib.Ieee.{Float}
 use lib.ListN.{length, getD, take, drop}
@@ -14,12 +14,6 @@ use Rattle.label.proofs.Laws.{line-ill, line-well, lines-end, total-at}
 use borrow.Author.Needs.{needs}
 use Rattle.label.proofs.lines_size.Statement.{statement}
 use Rattle.label.proofs.lines_size.Tie as tie
-use Rattle.label.proofs.lines_size.Reads as reads
-use Rattle.label.proofs.lines_size.Lts as lts
-use Rattle.float.proofs.max.Reads as max-reads
-use Rattle.label.proofs.height.Reads as height-reads
-use Rattle.label.proofs.measure_part.Reads as measure-part-reads
-use Rattle.label.proofs.start.Reads as start-reads
 
 abbrev Inv-loop : tie.InvT-loop
 Inv-loop text lengths at₀ width₀ i₀ i-end at width i =

@@ -2,11 +2,6 @@
 use Rattle.label.proofs.Laws.{step-done, step-more}
 use Rattle.label.proofs.measure_byte.Statement.{statement}
 use Rattle.label.proofs.measure_byte.Tie as tie
-use Rattle.label.proofs.measure_byte.Reads as reads
-use Rattle.label.proofs.measure_byte.Lts as lts
-use Rattle.label.proofs.char_width.Reads as char-width-reads
-use Rattle.text.proofs.feed.Reads as feed-reads
-use Rattle.text.proofs.gather.Reads as gather-reads
 
 feed-requires : tie.Need-feed-requires
 feed-requires c κs = tt

@@ -1,25 +1,17 @@
 -- `label::measure_line` meets its contract. The invariant: the measure continued from this piece is the measure of the line.
-use mathlib.Core.Path.{_≡_, refl, sym, ap, ap₂, _∙_}
-use mathlib.Core.List.{List, flatMap}
-use Prim.Native.Nat.{ℕ, _+_, _-_, _*_, _<_, _≤_}
+use mathlib.Core.Path.{_≡_, ap, _∙_}
+use mathlib.Core.List.{flatMap}
+use Prim.Native.Nat.{ℕ, _+_, _-_, _*_, _<_}
 use native.Mathlib.Omega.{arith}
 use lib.ListN.{take, drop}
 use denote.Ref.{now}
-use Rattle.sheet.specs.Sheet.{chainBy, next, piece, lineOf}
-use Rattle.label.specs.declared.Measure.{Measure}
+use Rattle.sheet.specs.Sheet.{chainBy, piece, lineOf}
 use Rattle.label.specs.Measuring.{measureOf, measureAll, start}
 use Rattle.label.proofs.Laws.{bytes-end, bytes-cut, bytes-turn, line-start}
 use borrow.Author.Needs.{needs}
 use Rattle.label.proofs.measure_line.Statement.{statement}
 use Rattle.label.proofs.measure_line.Tie as tie
-use Rattle.label.proofs.measure_line.Reads as reads
-use Rattle.label.proofs.measure_line.Lts as lts
-use Rattle.label.proofs.measure_part.Reads as measure-part-reads
-use Rattle.label.proofs.start.Reads as start-reads
 use Rattle.reader.specs.declared.Record.{Record}
-use Rattle.reader.proofs.record_of.Reads as record-of-reads
-use Rattle.reader.proofs.next_of.Reads as next-of-reads
-use Rattle.sheet.proofs.word_at.Reads as word-at-reads
 
 abbrev Inv-loop : tie.InvT-loop
 Inv-loop s k m₀ i₀ left₀ m i left = (measureAll m (flatMap (piece s) (chainBy s left i)) ≡ measureAll start (lineOf s k)) × (i < 65536)

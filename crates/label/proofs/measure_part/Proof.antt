@@ -6,9 +6,6 @@ use Rattle.laws.specs.Loops.{Folds, folds-turn, folds-none, folds-past}
 use Rattle.label.specs.Measuring.{measureAll, measureOf}
 use Rattle.label.proofs.measure_part.Statement.{statement}
 use Rattle.label.proofs.measure_part.Tie as tie
-use Rattle.label.proofs.measure_part.Reads as reads
-use Rattle.label.proofs.measure_part.Lts as lts
-use Rattle.label.proofs.measure_byte.Reads as measure-byte-reads
 
 abbrev Inv-loop : tie.InvT-loop
 Inv-loop s a n m i₀ left₀ t i left = Folds measureOf s (measureAll m (take n (drop a s))) i left t

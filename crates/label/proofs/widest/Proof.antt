@@ -1,23 +1,16 @@
 -- `label::widest` meets its contract. The invariant: the width continued from this line is the width of the block.
-use mathlib.Core.Path.{_≡_, refl, sym, ap, _∙_}
-use mathlib.Core.List.{List, map}
-use Prim.Native.Nat.{ℕ, _+_, _-_, _*_, _<_, _≤_}
+use mathlib.Core.Path.{_≡_, ap, _∙_}
+use mathlib.Core.List.{map}
+use Prim.Native.Nat.{ℕ, _-_, _<_}
 use native.Mathlib.Omega.{arith}
 use denote.Ref.{now}
 use Rattle.laws.specs.Loops.{over}
-use Rattle.float.specs.Constants.{f0}
-use Rattle.sheet.specs.Sheet.{chainBy, next, lineOf, linesFrom}
+use Rattle.sheet.specs.Sheet.{chainBy, lineOf, linesFrom}
 use Rattle.label.specs.Label.{wider, blockWidth}
 use Rattle.label.proofs.Laws.{things-end, things-cut, things-turn, block-start, wider-measured}
 use borrow.Author.Needs.{needs}
 use Rattle.label.proofs.widest.Statement.{statement}
 use Rattle.label.proofs.widest.Tie as tie
-use Rattle.label.proofs.widest.Reads as reads
-use Rattle.label.proofs.widest.Lts as lts
-use Rattle.float.proofs.max.Reads as max-reads
-use Rattle.label.proofs.measure_line.Reads as measure-line-reads
-use Rattle.reader.proofs.next_of.Reads as next-of-reads
-use Rattle.sheet.proofs.word_at.Reads as word-at-reads
 
 abbrev Inv-loop : tie.InvT-loop
 Inv-loop s first w₀ i₀ left₀ w i left = (over wider w (map (lineOf s) (chainBy s left i)) ≡ blockWidth (linesFrom s first)) × (i < 65536)

@@ -6,7 +6,6 @@ use Rattle.routing.specs.Routing.{Frame}
 use Rattle.routing.specs.Passes.{frameBy}
 use Rattle.lay.specs.Numbers.{many-arrows}
 use Rattle.lay.proofs.Laws.{laid-all}
-use borrow.Author.Needs.{needs}
 use Rattle.lay.proofs.lay.Statement.{statement}
 use Rattle.lay.proofs.lay.Tie as tie
 

@@ -1,6 +1,5 @@
 -- `layout::fit_at` meets its contract.
 use native.Mathlib.Omega.{arith}
-use lib.ListN.{length}
 use denote.Ref.{now}
 use Rattle.laws.specs.Zip.{zip-length}
 use Rattle.routing.specs.Passes.{endsBy}

@@ -1,5 +1,5 @@
 -- `lines::put_anchor` meets its contract.
-use mathlib.Core.Path.{_≡_, sym, ap, refl}
+use mathlib.Core.Path.{sym, ap, refl}
 use mathlib.Core.List.{[], _∷_, flatMap}
 use Rattle.laws.specs.Writers.{wrote-as}
 use Rattle.spot.specs.declared.Anchor.{Anchor}

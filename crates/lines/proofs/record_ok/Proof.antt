@@ -1,5 +1,4 @@
 -- `lines::record_ok` meets its contract.
-use mathlib.Core.Path.{sym, _∙_}
 use Rattle.lines.specs.Every.{every}
 use Rattle.lines.specs.Lines.{fieldWritable, fieldsWritable, lineWritable, linesWritable}
 use Rattle.lines.proofs.Laws.{passed, stopped, last}

@@ -1,17 +1,13 @@
-use mathlib.Core.Path.{_≡_, refl, sym, _∙_, ap}
-use Prim.Native.Nat.{ℕ, _+_, _-_, _<_, _≤_}
+use mathlib.Core.Path.{_≡_, _∙_, ap}
+use Prim.Native.Nat.{ℕ, _+_, _-_, _<_}
 use native.Mathlib.Omega.{arith}
 use lib.ListN.{length}
 use denote.Ref.{now}
-use Rattle.sheet.specs.Sheet.{chain, chainBy, count, next}
+use Rattle.sheet.specs.Sheet.{chain, chainBy, count}
 use Rattle.meaning.proofs.Laws.{length-end, length-cut, length-turn}
 use borrow.Author.Needs.{needs}
 use Rattle.meaning.proofs.chain_length.Statement.{statement}
 use Rattle.meaning.proofs.chain_length.Tie as tie
-use Rattle.meaning.proofs.chain_length.Reads as reads
-use Rattle.meaning.proofs.chain_length.Lts as lts
-use Rattle.reader.proofs.next_of.Reads as next-of-reads
-use Rattle.sheet.proofs.word_at.Reads as word-at-reads
 
 abbrev Inv-loop : tie.InvT-loop
 Inv-loop s first i₀ left₀ n₀ i left n = (n + length (chainBy s left i) ≡ length (chain s first)) × (n + left ≡ count s + 1) × (i < 65536) × (count s < 65536)

@@ -1,11 +1,8 @@
-use mathlib.Core.Path.{ap, _∙_}
+use mathlib.Core.Path.{ap}
 use Rattle.reader.specs.declared.Record.{Record}
 use borrow.Author.Needs.{needs}
 use Rattle.meaning.proofs.end_of.Statement.{statement}
 use Rattle.meaning.proofs.end_of.Tie as tie
-use Rattle.meaning.proofs.end_of.Reads as reads
-use Rattle.meaning.proofs.end_of.Lts as lts
-use Rattle.reader.proofs.record_of.Reads as record-of-reads
 
 record-of-requires : tie.Need-record-of-requires
 record-of-requires c κs = search needs

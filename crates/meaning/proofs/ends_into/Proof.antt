@@ -8,12 +8,6 @@ use Rattle.meaning.proofs.Laws.{Fills, fills-start, fills-cut, fills-en
 use borrow.Author.Needs.{needs}
 use Rattle.meaning.proofs.ends_into.Statement.{statement}
 use Rattle.meaning.proofs.ends_into.Tie as tie
-use Rattle.meaning.proofs.ends_into.Reads as reads
-use Rattle.meaning.proofs.ends_into.Lts as lts
-use Rattle.meaning.proofs.end_of.Reads as end-of-reads
-use Rattle.meaning.proofs.store.Reads as store-reads
-use Rattle.reader.proofs.next_of.Reads as next-of-reads
-use Rattle.sheet.proofs.word_at.Reads as word-at-reads
 
 abbrev Inv-loop : tie.InvT-loop
 Inv-loop s to out₀ i₀ left₀ k₀ out i left k = Fills s (endOf s to) (map (endOf s to) (arrowChain s)) out₀ out i left k × (k + left ≡ count s + 1) × (i < 65536) × (count s < 65536)

@@ -1,21 +1,15 @@
-use mathlib.Core.Path.{_≡_, refl, sym, _∙_, ap, ap₂}
+use mathlib.Core.Path.{_≡_, _∙_, ap}
 use mathlib.Core.List.{flatMap}
-use Prim.Native.Nat.{ℕ, _+_, _-_, _*_, _<_, _≤_}
+use Prim.Native.Nat.{ℕ, _-_, _<_}
 use native.Mathlib.Omega.{arith}
 use denote.Ref.{now}
 use Rattle.text.specs.Automaton.{feedAll}
-use Rattle.sheet.specs.Sheet.{chain, chainBy, count, next, piece, lineOf, firstText}
+use Rattle.sheet.specs.Sheet.{chainBy, piece, lineOf}
 use Rattle.meaning.proofs.Laws.{feed-end, feed-cut, feed-turn, feed-start}
 use borrow.Author.Needs.{needs}
 use Rattle.meaning.proofs.feed_line.Statement.{statement}
 use Rattle.meaning.proofs.feed_line.Tie as tie
-use Rattle.meaning.proofs.feed_line.Reads as reads
-use Rattle.meaning.proofs.feed_line.Lts as lts
 use Rattle.reader.specs.declared.Record.{Record}
-use Rattle.reader.proofs.record_of.Reads as record-of-reads
-use Rattle.reader.proofs.next_of.Reads as next-of-reads
-use Rattle.sheet.proofs.word_at.Reads as word-at-reads
-use Rattle.text.proofs.feed_part.Reads as feed-part-reads
 
 abbrev Inv-loop : tie.InvT-loop
 Inv-loop s k i₀ left₀ st₀ i left st = (feedAll st (flatMap (piece s) (chainBy s left i)) ≡ feedAll 0 (lineOf s k)) × (i < 65536)

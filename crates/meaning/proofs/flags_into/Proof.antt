@@ -8,13 +8,7 @@ use Rattle.meaning.proofs.Laws.{Fills, fills-start, fills-cut, fills-en
 use borrow.Author.Needs.{needs}
 use Rattle.meaning.proofs.flags_into.Statement.{statement}
 use Rattle.meaning.proofs.flags_into.Tie as tie
-use Rattle.meaning.proofs.flags_into.Reads as reads
-use Rattle.meaning.proofs.flags_into.Lts as lts
-use Rattle.meaning.proofs.store_u8.Reads as store-u8-reads
-use Rattle.reader.proofs.next_of.Reads as next-of-reads
 use Rattle.reader.specs.declared.Record.{Record}
-use Rattle.reader.proofs.record_of.Reads as record-of-reads
-use Rattle.sheet.proofs.word_at.Reads as word-at-reads
 
 abbrev Inv-loop : tie.InvT-loop
 Inv-loop s out₀ i₀ left₀ k₀ out i left k = Fills s (byteOne s) (map (byteOne s) (stateChain s)) out₀ out i left k × (k + left ≡ count s + 1) × (i < 65536) × (count s < 65536)

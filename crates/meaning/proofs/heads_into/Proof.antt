@@ -7,13 +7,7 @@ use Rattle.meaning.proofs.Laws.{Fills, fills-start, fills-cut, fills-en
 use borrow.Author.Needs.{needs}
 use Rattle.meaning.proofs.heads_into.Statement.{statement}
 use Rattle.meaning.proofs.heads_into.Tie as tie
-use Rattle.meaning.proofs.heads_into.Reads as reads
-use Rattle.meaning.proofs.heads_into.Lts as lts
-use Rattle.meaning.proofs.store_u16.Reads as store-u16-reads
 use Rattle.reader.specs.declared.Record.{Record}
-use Rattle.reader.proofs.record_of.Reads as record-of-reads
-use Rattle.reader.proofs.next_of.Reads as next-of-reads
-use Rattle.sheet.proofs.word_at.Reads as word-at-reads
 
 abbrev Inv-loop : tie.InvT-loop
 Inv-loop s out₀ i₀ left₀ k₀ out i left k = Fills s (firstLine s) (heads s) out₀ out i left k × (k + left ≡ count s + 1) × (i < 65536) × (count s < 65536)

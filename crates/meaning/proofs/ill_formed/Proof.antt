@@ -1,22 +1,16 @@
-use mathlib.Core.Path.{_≡_, refl, sym, _∙_, ap, ap₂}
+use mathlib.Core.Path.{_≡_, _∙_, ap}
 use mathlib.Core.List.{map}
-use Prim.Native.Nat.{ℕ, _+_, _-_, _*_, _<_, _≤_}
+use Prim.Native.Nat.{ℕ, _-_, _<_}
 use native.Mathlib.Omega.{arith}
 use denote.Ref.{now}
-use Rattle.sheet.specs.Sheet.{chainBy, arrowOf, arrowsOf, meaning}
+use Rattle.sheet.specs.Sheet.{chainBy, arrowOf, meaning}
 use Rattle.sheet.specs.Refusals.{any, illArrow, illFormed}
 use Rattle.sheet.specs.Chains.{any-end, any-cut, any-hit, any-miss}
 use Rattle.meaning.proofs.Laws.{arrows-start, ill-arrow}
 use borrow.Author.Needs.{needs}
 use Rattle.meaning.proofs.ill_formed.Statement.{statement}
 use Rattle.meaning.proofs.ill_formed.Tie as tie
-use Rattle.meaning.proofs.ill_formed.Reads as reads
-use Rattle.meaning.proofs.ill_formed.Lts as lts
-use Rattle.meaning.proofs.some_ill.Reads as some-ill-reads
 use Rattle.reader.specs.declared.Record.{Record}
-use Rattle.reader.proofs.record_of.Reads as record-of-reads
-use Rattle.reader.proofs.next_of.Reads as next-of-reads
-use Rattle.sheet.proofs.word_at.Reads as word-at-reads
 
 abbrev Inv-loop : tie.InvT-loop
 Inv-loop s i₀ left₀ i left = (any illArrow (map (arrowOf s) (chainBy s left i)) ≡ illFormed (meaning s)) × (i < 65536)

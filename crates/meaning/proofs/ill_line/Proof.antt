@@ -3,9 +3,6 @@ use Rattle.meaning.proofs.Laws.{ill-line}
 use borrow.Author.Needs.{needs}
 use Rattle.meaning.proofs.ill_line.Statement.{statement}
 use Rattle.meaning.proofs.ill_line.Tie as tie
-use Rattle.meaning.proofs.ill_line.Reads as reads
-use Rattle.meaning.proofs.ill_line.Lts as lts
-use Rattle.meaning.proofs.feed_line.Reads as feed-line-reads
 
 feed-line-requires : tie.Need-feed-line-requires
 feed-line-requires c κs = search needs

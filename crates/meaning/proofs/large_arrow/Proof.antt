@@ -1,16 +1,10 @@
 use mathlib.Core.Path.{ap}
 use denote.Ref.{now}
-use native.Mathlib.Omega.{arith}
 use Rattle.meaning.proofs.Laws.{large-lines, large-rest}
 use borrow.Author.Needs.{needs}
 use Rattle.meaning.proofs.large_arrow.Statement.{statement}
 use Rattle.meaning.proofs.large_arrow.Tie as tie
-use Rattle.meaning.proofs.large_arrow.Reads as reads
-use Rattle.meaning.proofs.large_arrow.Lts as lts
-use Rattle.meaning.proofs.chain_length.Reads as chain-length-reads
-use Rattle.meaning.proofs.some_long.Reads as some-long-reads
 use Rattle.reader.specs.declared.Record.{Record}
-use Rattle.reader.proofs.record_of.Reads as record-of-reads
 
 record-of-requires : tie.Need-record-of-requires
 record-of-requires c κs = search needs

@@ -1,21 +1,15 @@
-use mathlib.Core.Path.{_≡_, refl, sym, _∙_, ap, ap₂}
+use mathlib.Core.Path.{_≡_, _∙_, ap}
 use mathlib.Core.List.{flatMap}
 use Prim.Native.Nat.{ℕ, _+_, _-_, _*_, _<_, _≤_}
 use native.Mathlib.Omega.{arith}
 use lib.ListN.{length}
 use denote.Ref.{now}
-use Rattle.sheet.specs.Sheet.{chain, chainBy, count, next, piece, lineOf, firstText}
+use Rattle.sheet.specs.Sheet.{chainBy, piece, lineOf}
 use Rattle.meaning.proofs.Laws.{bytes-end, bytes-cut, bytes-turn, line-start}
 use borrow.Author.Needs.{needs}
 use Rattle.meaning.proofs.line_length.Statement.{statement}
 use Rattle.meaning.proofs.line_length.Tie as tie
-use Rattle.meaning.proofs.line_length.Reads as reads
-use Rattle.meaning.proofs.line_length.Lts as lts
-use Rattle.meaning.proofs.piece_end.Reads as piece-end-reads
 use Rattle.reader.specs.declared.Record.{Record}
-use Rattle.reader.proofs.record_of.Reads as record-of-reads
-use Rattle.reader.proofs.next_of.Reads as next-of-reads
-use Rattle.sheet.proofs.word_at.Reads as word-at-reads
 
 abbrev Inv-loop : tie.InvT-loop
 Inv-loop s k i₀ left₀ n₀ i left n = (n + length (flatMap (piece s) (chainBy s left i)) ≡ length (lineOf s k)) × (n + 255 * left ≤ 16711680) × (i < 65536)

@@ -5,11 +5,6 @@ use Rattle.meaning.proofs.Laws.{states-by, arrows-by, over-states, over
 use borrow.Author.Needs.{needs}
 use Rattle.meaning.proofs.over_limits.Statement.{statement}
 use Rattle.meaning.proofs.over_limits.Tie as tie
-use Rattle.meaning.proofs.over_limits.Reads as reads
-use Rattle.meaning.proofs.over_limits.Lts as lts
-use Rattle.meaning.proofs.chain_length.Reads as chain-length-reads
-use Rattle.meaning.proofs.some_large.Reads as some-large-reads
-use Rattle.sheet.proofs.word_at.Reads as word-at-reads
 
 word-at-requires : tie.Need-word-at-requires
 word-at-requires c κs = search needs

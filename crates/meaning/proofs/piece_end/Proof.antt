@@ -1,14 +1,11 @@
-use mathlib.Core.Path.{_≡_, refl, sym, _∙_, ap}
+use mathlib.Core.Path.{ap}
 use native.Mathlib.Omega.{arith}
 use denote.Ref.{now}
 use Rattle.meaning.proofs.Laws.{piece-in, piece-over, piece-out}
 use borrow.Author.Needs.{needs}
 use Rattle.meaning.proofs.piece_end.Statement.{statement}
 use Rattle.meaning.proofs.piece_end.Tie as tie
-use Rattle.meaning.proofs.piece_end.Reads as reads
-use Rattle.meaning.proofs.piece_end.Lts as lts
 use Rattle.reader.specs.declared.Record.{Record}
-use Rattle.reader.proofs.record_of.Reads as record-of-reads
 
 mul-a : tie.Need-mul-a
 mul-a c = search needs

@@ -1,6 +1,6 @@
-use mathlib.Core.Path.{_≡_, refl, sym, _∙_, ap, ap₂}
+use mathlib.Core.Path.{_≡_, sym, _∙_, ap}
 use mathlib.Core.List.{map}
-use Prim.Native.Nat.{ℕ, _+_, _-_, _*_, _<_, _≤_}
+use Prim.Native.Nat.{ℕ, _-_, _<_}
 use native.Mathlib.Omega.{arith}
 use denote.Ref.{now}
 use Rattle.sheet.specs.Sheet.{chainBy, lineOf, linesFrom}
@@ -10,11 +10,6 @@ use Rattle.meaning.proofs.Laws.{lines-start}
 use borrow.Author.Needs.{needs}
 use Rattle.meaning.proofs.some_ill.Statement.{statement}
 use Rattle.meaning.proofs.some_ill.Tie as tie
-use Rattle.meaning.proofs.some_ill.Reads as reads
-use Rattle.meaning.proofs.some_ill.Lts as lts
-use Rattle.meaning.proofs.ill_line.Reads as ill-line-reads
-use Rattle.reader.proofs.next_of.Reads as next-of-reads
-use Rattle.sheet.proofs.word_at.Reads as word-at-reads
 
 abbrev Inv-loop : tie.InvT-loop
 Inv-loop s first i₀ left₀ i left = (any illLine (map (lineOf s) (chainBy s left i)) ≡ any illLine (linesFrom s first)) × (i < 65536)

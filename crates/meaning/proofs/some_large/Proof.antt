@@ -1,6 +1,6 @@
-use mathlib.Core.Path.{_≡_, refl, sym, _∙_, ap, ap₂}
+use mathlib.Core.Path.{_≡_, sym, _∙_, ap}
 use mathlib.Core.List.{map}
-use Prim.Native.Nat.{ℕ, _+_, _-_, _*_, _<_, _≤_}
+use Prim.Native.Nat.{ℕ, _-_, _<_}
 use native.Mathlib.Omega.{arith}
 use denote.Ref.{now}
 use Rattle.sheet.specs.Sheet.{chainBy, arrowOf, arrowsOf}
@@ -10,11 +10,6 @@ use Rattle.meaning.proofs.Laws.{arrows-start}
 use borrow.Author.Needs.{needs}
 use Rattle.meaning.proofs.some_large.Statement.{statement}
 use Rattle.meaning.proofs.some_large.Tie as tie
-use Rattle.meaning.proofs.some_large.Reads as reads
-use Rattle.meaning.proofs.some_large.Lts as lts
-use Rattle.meaning.proofs.large_arrow.Reads as large-arrow-reads
-use Rattle.reader.proofs.next_of.Reads as next-of-reads
-use Rattle.sheet.proofs.word_at.Reads as word-at-reads
 
 abbrev Inv-loop : tie.InvT-loop
 Inv-loop s m i₀ left₀ i left = (any (largeArrow m) (map (arrowOf s) (chainBy s left i)) ≡ any (largeArrow m) (arrowsOf s)) × (i < 65536)

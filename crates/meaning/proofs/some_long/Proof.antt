@@ -1,6 +1,6 @@
-use mathlib.Core.Path.{_≡_, refl, sym, _∙_, ap, ap₂}
+use mathlib.Core.Path.{_≡_, sym, _∙_, ap}
 use mathlib.Core.List.{map}
-use Prim.Native.Nat.{ℕ, _+_, _-_, _*_, _<_, _≤_}
+use Prim.Native.Nat.{ℕ, _-_, _<_}
 use native.Mathlib.Omega.{arith}
 use borrow.Author.Tests.{lt-ltb, le-ltb}
 use denote.Ref.{now}
@@ -12,11 +12,6 @@ use Rattle.meaning.proofs.Laws.{lines-start}
 use borrow.Author.Needs.{needs}
 use Rattle.meaning.proofs.some_long.Statement.{statement}
 use Rattle.meaning.proofs.some_long.Tie as tie
-use Rattle.meaning.proofs.some_long.Reads as reads
-use Rattle.meaning.proofs.some_long.Lts as lts
-use Rattle.meaning.proofs.line_length.Reads as line-length-reads
-use Rattle.reader.proofs.next_of.Reads as next-of-reads
-use Rattle.sheet.proofs.word_at.Reads as word-at-reads
 
 abbrev Inv-loop : tie.InvT-loop
 Inv-loop s first m i₀ left₀ i left = (any (longLine m) (map (lineOf s) (chainBy s left i)) ≡ any (longLine m) (linesFrom s first)) × (i < 65536)

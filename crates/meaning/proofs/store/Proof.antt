@@ -4,8 +4,6 @@ use denote.Ref.{now}
 use borrow.Author.Needs.{needs}
 use Rattle.meaning.proofs.store.Statement.{statement}
 use Rattle.meaning.proofs.store.Tie as tie
-use Rattle.meaning.proofs.store.Reads as reads
-use Rattle.meaning.proofs.store.Lts as lts
 
 mul-out : tie.Need-mul-out
 mul-out c = search needs

@@ -4,8 +4,6 @@ use denote.Ref.{now}
 use borrow.Author.Needs.{needs}
 use Rattle.meaning.proofs.store_u16.Statement.{statement}
 use Rattle.meaning.proofs.store_u16.Tie as tie
-use Rattle.meaning.proofs.store_u16.Reads as reads
-use Rattle.meaning.proofs.store_u16.Lts as lts
 
 mul-out : tie.Need-mul-out
 mul-out c = search needs

@@ -4,8 +4,6 @@ use denote.Ref.{now}
 use borrow.Author.Needs.{needs}
 use Rattle.meaning.proofs.store_u8.Statement.{statement}
 use Rattle.meaning.proofs.store_u8.Tie as tie
-use Rattle.meaning.proofs.store_u8.Reads as reads
-use Rattle.meaning.proofs.store_u8.Lts as lts
 
 slice-write-out : tie.Need-slice-write-out
 slice-write-out c = search needs

@@ -2,7 +2,7 @@
 use mathlib.Core.Path.{ap, _∙_}
 use Prim.Native.Nat.{ℕ}
 use denote.Ref.{now}
-use Rattle.place.specs.Scene.{Scene, scene}
+use Rattle.place.specs.Scene.{scene}
 use Rattle.place.specs.Turn.{drawnAt}
 use Rattle.place.proofs.Laws.{taken-inside}
 use borrow.Author.Needs.{needs}

@@ -1,5 +1,4 @@
 -- `plan::kind_beyond` meets its contract.
-use mathlib.Core.Path.{_≡_}
 use native.Mathlib.Omega.{arith}
 use denote.Ref.{now}
 use Rattle.layout.specs.Layout.{Plan, planBy}

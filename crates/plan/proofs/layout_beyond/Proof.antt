@@ -1,5 +1,4 @@
 -- `plan::layout_beyond` meets its contract.
-use mathlib.Core.Path.{_≡_}
 use denote.Ref.{now}
 use Rattle.layout.specs.Layout.{Plan, planBy}
 use Rattle.plan.specs.Laws.{none-refused, some-refused}

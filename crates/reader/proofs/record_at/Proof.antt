@@ -1,13 +1,6 @@
 use borrow.Author.Needs.{needs}
 use Rattle.reader.proofs.record_at.Statement.{statement}
 use Rattle.reader.proofs.record_at.Tie as tie
-use Rattle.reader.proofs.record_at.Reads as reads
-use Rattle.reader.proofs.record_at.Lts as lts
-use Rattle.sheet.proofs.first_line_at.Reads as first-line-at-reads
-use Rattle.sheet.proofs.first_text_at.Reads as first-text-at-reads
-use Rattle.sheet.proofs.kind_at.Reads as kind-at-reads
-use Rattle.sheet.proofs.one_at.Reads as one-at-reads
-use Rattle.sheet.proofs.word_at.Reads as word-at-reads
 
 kind-at-requires : tie.Need-kind-at-requires
 kind-at-requires c κs = search needs

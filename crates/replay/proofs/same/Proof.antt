@@ -1,7 +1,7 @@
 -- `replay::same` meets its contract. Assumes nothing.
 use mathlib.Core.Path.{sym}
 use Rattle.laws.specs.Cases.{holds}
-use Rattle.float.specs.Signs.{no-nan}
+use Rattle.laws.specs.Nan.{no-nan}
 use Rattle.replay.specs.Payload.{alike}
 use Rattle.replay.specs.Laws.{bits-of-nan, bits-of-number}
 use Rattle.replay.proofs.same.Statement.{statement}

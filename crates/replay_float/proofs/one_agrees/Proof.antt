@@ -3,6 +3,9 @@ use mathlib.Core.Path.{ap, _∙_}
 use denote.Ref.{now}
 use borrow.Author.Tests.{ne-eqb}
 use Rattle.replay.specs.Payload.{answered, chosen}
+use lib.Ieee.{Float}
+use Rattle.float.specs.Constants.{τ}
+use Rattle.float.specs.Ops.{rem}
 use Rattle.float.specs.Standins as F
 use Rattle.replay_float.specs.Cases.{oneAgrees}
 use borrow.Author.Needs.{needs}
@@ -72,6 +75,15 @@ signum-requires c κs = search needs
 answered-requires-7 : tie.Need-answered-requires-7
 answered-requires-7 c κs = search needs
 
+float-requires-8 : tie.Need-float-requires-8
+float-requires-8 c κs = search needs
+
+rem-tau-requires : tie.Need-rem-tau-requires
+rem-tau-requires c κs = search needs
+
+answered-requires-8 : tie.Need-answered-requires-8
+answered-requires-8 c κs = search needs
+
 returns : tie.Need-returns
 unfolding oneAgrees chosen
 returns c = rw (c .before .before .before .match .keys1) (c .answered .ensures ∙ ap (answered (now (c .before .before .before .before .before .args .p)) 8) (c .before .root .ensures ∙ ap F.root (c .before .before .float .ensures)))
@@ -102,7 +114,11 @@ returns-7 c = rw (c .before .before .before .match .keys7) (c .answered7 .ensure
 
 returns-8 : tie.Need-returns-8
 unfolding oneAgrees chosen
-returns-8 c = rw (ne-eqb _ _ (c .match .rest .0 .0 .0 .0 .0 .0 .1), ne-eqb _ _ (c .match .rest .0 .0 .0 .0 .0 .1), ne-eqb _ _ (c .match .rest .0 .0 .0 .0 .1), ne-eqb _ _ (c .match .rest .0 .0 .0 .1), ne-eqb _ _ (c .match .rest .0 .0 .1), ne-eqb _ _ (c .match .rest .0 .1), ne-eqb _ _ (c .match .rest .1))
+returns-8 c = rw (c .before .before .before .match .keys8) (c .answered8 .ensures ∙ ap (answered (now (c .before .before .before .before .before .args .p)) 8) (c .before .rem-tau .ensures ∙ ap (λ (a : Float). rem a τ) (c .before .before .float8 .ensures)))
+
+returns-9 : tie.Need-returns-9
+unfolding oneAgrees chosen
+returns-9 c = rw (ne-eqb _ _ (c .match .rest .0 .0 .0 .0 .0 .0 .0 .1), ne-eqb _ _ (c .match .rest .0 .0 .0 .0 .0 .0 .1), ne-eqb _ _ (c .match .rest .0 .0 .0 .0 .0 .1), ne-eqb _ _ (c .match .rest .0 .0 .0 .0 .1), ne-eqb _ _ (c .match .rest .0 .0 .0 .1), ne-eqb _ _ (c .match .rest .0 .0 .1), ne-eqb _ _ (c .match .rest .0 .1), ne-eqb _ _ (c .match .rest .1))
 
 pub one-agrees-spec : {M : Type 1} → statement M
 one-agrees-spec =
@@ -129,6 +145,9 @@ one-agrees-spec =
     float-requires-7
     signum-requires
     answered-requires-7
+    float-requires-8
+    rem-tau-requires
+    answered-requires-8
     returns
     returns-2
     returns-3
@@ -136,4 +155,5 @@ one-agrees-spec =
     returns-5
     returns-6
     returns-7
-    returns-8)
+    returns-8
+    returns-9)

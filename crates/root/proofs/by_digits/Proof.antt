@@ -7,9 +7,6 @@ use Rattle.root.specs.Digits.{digits-up, digits-stay}
 use Rattle.root.proofs.Laws.{nearest-fits}
 use Rattle.root.proofs.by_digits.Statement.{statement}
 use Rattle.root.proofs.by_digits.Tie as tie
-use Rattle.root.proofs.by_digits.Reads as reads
-use Rattle.root.proofs.by_digits.Lts as lts
-use Rattle.root.proofs.whole_root.Reads as whole-root-reads
 
 whole-root-requires : tie.Need-whole-root-requires
 whole-root-requires c κs = search needs

@@ -2,12 +2,10 @@
 use native.Mathlib.Omega.{arith}
 use lib.Ieee.{binary64, toBits}
 use borrow.Author.Needs.{needs}
-use Rattle.root.proofs.Laws.{low-is, no-nan, no-nan-bits}
+use Rattle.laws.specs.Nan.{no-nan, no-nan-bits}
+use Rattle.root.proofs.Laws.{low-is}
 use Rattle.root.proofs.guess.Statement.{statement}
 use Rattle.root.proofs.guess.Tie as tie
-use Rattle.root.proofs.guess.Reads as reads
-use Rattle.root.proofs.guess.Lts as lts
-use Rattle.root.proofs.near_root.Reads as near-root-reads
 
 float-from-bits-x : tie.Need-float-from-bits-x
 float-from-bits-x c = no-nan-bits (c .args .b) (omega arith)

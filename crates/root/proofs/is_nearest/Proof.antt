@@ -8,8 +8,6 @@ use Rattle.root.specs.Halves.{halves}
 use Rattle.root.proofs.Laws.{low-half-is, high-square, cross-small, low-square, not-claimed}
 use Rattle.root.proofs.is_nearest.Statement.{statement}
 use Rattle.root.proofs.is_nearest.Tie as tie
-use Rattle.root.proofs.is_nearest.Reads as reads
-use Rattle.root.proofs.is_nearest.Lts as lts
 
 mul-hh : tie.Need-mul-hh
 mul-hh c = omega (arith, high-square (c .args .p) (c .pre .1))

@@ -2,7 +2,7 @@
 use mathlib.Core.Path.{_∙_}
 use native.Mathlib.Omega.{arith}
 use denote.Ref.{now}
-use Rattle.routing.specs.Passes.{frameBy, sizesBy}
+use Rattle.routing.specs.Passes.{sizesBy}
 use Rattle.lay.specs.Numbers.{many-arrows}
 use Rattle.route.proofs.Laws.{loops-in, drawn-of}
 use borrow.Author.Needs.{needs}

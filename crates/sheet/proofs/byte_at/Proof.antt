@@ -5,8 +5,6 @@ use denote.Ref.{now}
 use borrow.Author.Needs.{needs}
 use Rattle.sheet.proofs.byte_at.Statement.{statement}
 use Rattle.sheet.proofs.byte_at.Tie as tie
-use Rattle.sheet.proofs.byte_at.Reads as reads
-use Rattle.sheet.proofs.byte_at.Lts as lts
 
 shared-slice-read-result : tie.Need-shared-slice-read-result
 shared-slice-read-result c = search needs

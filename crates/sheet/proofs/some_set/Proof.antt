@@ -1,6 +1,6 @@
 use mathlib.Core.Path.{_≡_, refl, sym, _∙_, ap}
 use mathlib.Core.Bool.{not}
-use Prim.Native.Nat.{ℕ, _-_, _<_, _≤_}
+use Prim.Native.Nat.{_-_}
 use native.Mathlib.Omega.{arith}
 use borrow.Author.Tests.{ne-eqb, eq-eqb}
 use denote.Ref.{now}
@@ -9,9 +9,6 @@ use Rattle.sheet.specs.Refusals.{isSet}
 use borrow.Author.Needs.{needs}
 use Rattle.sheet.proofs.some_set.Statement.{statement}
 use Rattle.sheet.proofs.some_set.Tie as tie
-use Rattle.sheet.proofs.some_set.Reads as reads
-use Rattle.sheet.proofs.some_set.Lts as lts
-use Rattle.sheet.proofs.byte_at.Reads as byte-at-reads
 
 abbrev Inv-loop : tie.InvT-loop
 Inv-loop s a e i₀ i = anyUp (isSet s) i e ≡ anyUp (isSet s) a e

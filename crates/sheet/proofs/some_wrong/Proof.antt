@@ -1,5 +1,5 @@
-use mathlib.Core.Path.{_≡_, refl, sym, _∙_, ap}
-use Prim.Native.Nat.{ℕ, _+_, _-_, _<_, _≤_}
+use mathlib.Core.Path.{_≡_, refl, sym, _∙_}
+use Prim.Native.Nat.{_+_, _-_}
 use native.Mathlib.Omega.{arith}
 use denote.Ref.{now}
 use Rattle.laws.specs.Loops.{anyUp, any-hit, any-miss, any-done}
@@ -7,9 +7,6 @@ use Rattle.sheet.specs.Refusals.{wrongRecord}
 use borrow.Author.Needs.{needs}
 use Rattle.sheet.proofs.some_wrong.Statement.{statement}
 use Rattle.sheet.proofs.some_wrong.Tie as tie
-use Rattle.sheet.proofs.some_wrong.Reads as reads
-use Rattle.sheet.proofs.some_wrong.Lts as lts
-use Rattle.sheet.proofs.wrong_record.Reads as wrong-record-reads
 
 abbrev Inv-loop : tie.InvT-loop
 Inv-loop s n k₀ k = anyUp (wrongRecord s) k (n + 1) ≡ anyUp (wrongRecord s) 1 (n + 1)

@@ -1,13 +1,8 @@
-use mathlib.Core.Path.{_≡_, refl, sym, _∙_, ap}
+use mathlib.Core.Path.{sym}
 use Rattle.sheet.specs.Refusals.{wrongBytes}
 use borrow.Author.Needs.{needs}
 use Rattle.sheet.proofs.wrong_bytes.Statement.{statement}
 use Rattle.sheet.proofs.wrong_bytes.Tie as tie
-use Rattle.sheet.proofs.wrong_bytes.Reads as reads
-use Rattle.sheet.proofs.wrong_bytes.Lts as lts
-use Rattle.sheet.proofs.some_set.Reads as some-set-reads
-use Rattle.sheet.proofs.some_wrong.Reads as some-wrong-reads
-use Rattle.sheet.proofs.word_at.Reads as word-at-reads
 
 some-set-requires : tie.Need-some-set-requires
 some-set-requires c κs = search needs

@@ -1,14 +1,9 @@
-use mathlib.Core.Path.{_≡_, refl, sym, _∙_, ap}
-use borrow.Author.Tests.{ne-eqb, eq-eqb, lt-ltb, le-ltb}
+use mathlib.Core.Path.{sym}
+use borrow.Author.Tests.{ne-eqb, lt-ltb, le-ltb}
 use Rattle.sheet.specs.Refusals.{wrongRecord}
 use borrow.Author.Needs.{needs}
 use Rattle.sheet.proofs.wrong_record.Statement.{statement}
 use Rattle.sheet.proofs.wrong_record.Tie as tie
-use Rattle.sheet.proofs.wrong_record.Reads as reads
-use Rattle.sheet.proofs.wrong_record.Lts as lts
-use Rattle.sheet.proofs.kind_at.Reads as kind-at-reads
-use Rattle.sheet.proofs.one_at.Reads as one-at-reads
-use Rattle.sheet.proofs.some_set.Reads as some-set-reads
 
 mul-b : tie.Need-mul-b
 mul-b c = search needs

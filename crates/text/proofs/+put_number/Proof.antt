@@ -1,5 +1,5 @@
 -- `text::put_number` meets its contract, by recursion on the number.
-use mathlib.Core.Path.{_≡_, sym, ap, _∙_}
+use mathlib.Core.Path.{sym, ap, _∙_}
 use mathlib.Core.List.{[], _∷_, _++_}
 use native.Mathlib.Omega.{arith}
 use Rattle.laws.specs.Writers.{wrote-as, wrote-more}

@@ -4,10 +4,6 @@ use Rattle.text.specs.Automaton.{feedOf}
 use borrow.Author.Needs.{needs}
 use Rattle.text.proofs.feed.Statement.{statement}
 use Rattle.text.proofs.feed.Tie as tie
-use Rattle.text.proofs.feed.Reads as reads
-use Rattle.text.proofs.feed.Lts as lts
-use Rattle.text.proofs.first.Reads as first-reads
-use Rattle.text.proofs.in_range.Reads as in-range-reads
 
 first-requires : tie.Need-first-requires
 first-requires c κs = search needs

@@ -6,9 +6,6 @@ use Rattle.laws.specs.Loops.{Folds, folds-turn, folds-none, folds-past}
 use Rattle.text.specs.Automaton.{feedAll, feedOf}
 use Rattle.text.proofs.feed_part.Statement.{statement}
 use Rattle.text.proofs.feed_part.Tie as tie
-use Rattle.text.proofs.feed_part.Reads as reads
-use Rattle.text.proofs.feed_part.Lts as lts
-use Rattle.text.proofs.feed.Reads as feed-reads
 
 abbrev Inv-loop : tie.InvT-loop
 Inv-loop s a n st t₀ i₀ left₀ t i left = Folds feedOf s (feedAll st (take n (drop a s))) i left t

@@ -3,8 +3,6 @@ use borrow.Author.Tests.{le-leb, lt-leb}
 use Rattle.text.specs.Automaton.{lead}
 use Rattle.text.proofs.first.Statement.{statement}
 use Rattle.text.proofs.first.Tie as tie
-use Rattle.text.proofs.first.Reads as reads
-use Rattle.text.proofs.first.Lts as lts
 
 returns : tie.Need-returns
 unfolding lead

@@ -4,9 +4,6 @@ use borrow.Author.Tests.{eq-eqb, ne-eqb}
 use Rattle.text.specs.Automaton.{gatherOf}
 use Rattle.text.proofs.gather.Statement.{statement}
 use Rattle.text.proofs.gather.Tie as tie
-use Rattle.text.proofs.gather.Reads as reads
-use Rattle.text.proofs.gather.Lts as lts
-use Rattle.text.proofs.payload.Reads as payload-reads
 
 payload-requires : tie.Need-payload-requires
 payload-requires c κs = search needs

@@ -2,8 +2,6 @@
 use borrow.Author.Tests.{le-leb, lt-leb}
 use Rattle.text.proofs.in_range.Statement.{statement}
 use Rattle.text.proofs.in_range.Tie as tie
-use Rattle.text.proofs.in_range.Reads as reads
-use Rattle.text.proofs.in_range.Lts as lts
 
 returns : tie.Need-returns
 returns c = simp (le-leb _ _ (c .before .if1 .taken), le-leb _ _ (c .if2 .taken))

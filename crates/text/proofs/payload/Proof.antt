@@ -3,8 +3,6 @@ use borrow.Author.Tests.{lt-ltb, le-ltb}
 use Rattle.text.specs.Utf8.{payload}
 use Rattle.text.proofs.payload.Statement.{statement}
 use Rattle.text.proofs.payload.Tie as tie
-use Rattle.text.proofs.payload.Reads as reads
-use Rattle.text.proofs.payload.Lts as lts
 
 returns : tie.Need-returns
 unfolding payload

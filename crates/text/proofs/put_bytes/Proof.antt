@@ -1,6 +1,6 @@
 -- `text::put_bytes` meets its contract. The invariant: the bytes passed are written.
-use mathlib.Core.Path.{_≡_, refl, sym, _∙_}
-use Prim.Native.Nat.{ℕ, _+_, _-_, _≤_, _<_}
+use mathlib.Core.Path.{_≡_, refl, _∙_}
+use Prim.Native.Nat.{_-_, _≤_}
 use native.Mathlib.Omega.{arith}
 use lib.ListN.{length, take}
 use lib.Seq.{take-all}
@@ -8,9 +8,6 @@ use denote.Ref.{now}
 use Rattle.laws.specs.Writers.{Wrote, wrote-none, wrote-next, wrote-as}
 use Rattle.text.proofs.put_bytes.Statement.{statement}
 use Rattle.text.proofs.put_bytes.Tie as tie
-use Rattle.text.proofs.put_bytes.Reads as reads
-use Rattle.text.proofs.put_bytes.Lts as lts
-use Rattle.text.proofs.put_byte.Reads as put-byte-reads
 
 abbrev Inv-loop : tie.InvT-loop
 Inv-loop out₀ at s next₀ i₀ i-end out next i = (i-end ≡ length s) × (i ≤ length s) × (length out ≡ length out₀) × Wrote out₀ at out next (take i s)

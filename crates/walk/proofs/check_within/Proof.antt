@@ -1,4 +1,4 @@
-use mathlib.Core.Path.{_≡_, refl, sym, _∙_, ap}
+use mathlib.Core.Path.{sym, _∙_, ap}
 use mathlib.Core.Bool.{not}
 use borrow.Author.Tests.{eq-eqb, ne-eqb}
 use denote.Ref.{now}
@@ -7,14 +7,6 @@ use Rattle.walk.proofs.Laws.{refused, passed, accepted, check-is}
 use borrow.Author.Needs.{needs}
 use Rattle.walk.proofs.check_within.Statement.{statement}
 use Rattle.walk.proofs.check_within.Tie as tie
-use Rattle.walk.proofs.check_within.Reads as reads
-use Rattle.walk.proofs.check_within.Lts as lts
-use Rattle.meaning.proofs.ill_formed.Reads as ill-formed-reads
-use Rattle.meaning.proofs.over_limits.Reads as over-limits-reads
-use Rattle.sheet.proofs.word_at.Reads as word-at-reads
-use Rattle.sheet.proofs.wrong_bytes.Reads as wrong-bytes-reads
-use Rattle.walk.proofs.wrong_chains.Reads as wrong-chains-reads
-use Rattle.walk.proofs.wrong_length.Reads as wrong-length-reads
 
 wrong-length-requires : tie.Need-wrong-length-requires
 wrong-length-requires c κs = search needs

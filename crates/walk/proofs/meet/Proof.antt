@@ -1,17 +1,11 @@
 use mathlib.Core.Path.{sym, _∙_, ap}
-use Prim.Native.Nat.{ℕ, _<_}
 use native.Mathlib.Omega.{arith}
-use lib.ListN.{set, length-set}
 use denote.Ref.{now}
 use Rattle.walk.proofs.Laws.{meet-above, meet-other, meet-past, meet-again, meet-first}
 use borrow.Author.Needs.{needs}
 use Rattle.walk.proofs.meet.Statement.{statement}
 use Rattle.walk.proofs.meet.Tie as tie
-use Rattle.walk.proofs.meet.Reads as reads
-use Rattle.walk.proofs.meet.Lts as lts
 use Rattle.reader.specs.declared.Record.{Record}
-use Rattle.reader.proofs.record_of.Reads as record-of-reads
-use Rattle.sheet.proofs.word_at.Reads as word-at-reads
 
 word-at-requires : tie.Need-word-at-requires
 word-at-requires c κs = search needs

@@ -1,5 +1,5 @@
-use mathlib.Core.Path.{_≡_, refl, sym, _∙_, ap}
-use Prim.Native.Nat.{ℕ, _+_, _-_, _<_, _≤_}
+use mathlib.Core.Path.{_≡_, refl, sym, _∙_}
+use Prim.Native.Nat.{_+_, _-_}
 use native.Mathlib.Omega.{arith}
 use borrow.Author.Tests.{ne-eqb, eq-eqb}
 use denote.Ref.{now}
@@ -8,9 +8,6 @@ use Rattle.walk.specs.Walk.{unmarked}
 use borrow.Author.Needs.{needs}
 use Rattle.walk.proofs.some_unmarked.Statement.{statement}
 use Rattle.walk.proofs.some_unmarked.Tie as tie
-use Rattle.walk.proofs.some_unmarked.Reads as reads
-use Rattle.walk.proofs.some_unmarked.Lts as lts
-use Rattle.sheet.proofs.byte_at.Reads as byte-at-reads
 
 abbrev Inv-loop : tie.InvT-loop
 Inv-loop marks n k₀ k = anyUp (unmarked marks) k (n + 1) ≡ anyUp (unmarked marks) 1 (n + 1)

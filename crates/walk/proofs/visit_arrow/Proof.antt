@@ -7,12 +7,7 @@ use Rattle.walk.proofs.Laws.{then-bad, then-on}
 use borrow.Author.Needs.{needs}
 use Rattle.walk.proofs.visit_arrow.Statement.{statement}
 use Rattle.walk.proofs.visit_arrow.Tie as tie
-use Rattle.walk.proofs.visit_arrow.Reads as reads
-use Rattle.walk.proofs.visit_arrow.Lts as lts
 use Rattle.reader.specs.declared.Record.{Record}
-use Rattle.reader.proofs.record_of.Reads as record-of-reads
-use Rattle.walk.proofs.meet.Reads as meet-reads
-use Rattle.walk.proofs.walk_lines.Reads as walk-lines-reads
 
 meet-requires : tie.Need-meet-requires
 meet-requires c κs = search needs

@@ -7,12 +7,7 @@ use Rattle.walk.proofs.Laws.{then-bad, then-on}
 use borrow.Author.Needs.{needs}
 use Rattle.walk.proofs.visit_line.Statement.{statement}
 use Rattle.walk.proofs.visit_line.Tie as tie
-use Rattle.walk.proofs.visit_line.Reads as reads
-use Rattle.walk.proofs.visit_line.Lts as lts
 use Rattle.reader.specs.declared.Record.{Record}
-use Rattle.reader.proofs.record_of.Reads as record-of-reads
-use Rattle.walk.proofs.meet.Reads as meet-reads
-use Rattle.walk.proofs.walk_alone.Reads as walk-alone-reads
 
 meet-requires : tie.Need-meet-requires
 meet-requires c κs = search needs

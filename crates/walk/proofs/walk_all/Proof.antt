@@ -5,11 +5,6 @@ use Rattle.walk.proofs.Laws.{all-bad, all-on}
 use borrow.Author.Needs.{needs}
 use Rattle.walk.proofs.walk_all.Statement.{statement}
 use Rattle.walk.proofs.walk_all.Tie as tie
-use Rattle.walk.proofs.walk_all.Reads as reads
-use Rattle.walk.proofs.walk_all.Lts as lts
-use Rattle.sheet.proofs.word_at.Reads as word-at-reads
-use Rattle.walk.proofs.walk_alone.Reads as walk-alone-reads
-use Rattle.walk.proofs.walk_arrows.Reads as walk-arrows-reads
 
 word-at-requires : tie.Need-word-at-requires
 word-at-requires c κs = search needs

@@ -7,11 +7,6 @@ use Rattle.walk.proofs.Laws.{Walks, walks-start, walks-cut, walks-end, 
 use borrow.Author.Needs.{needs}
 use Rattle.walk.proofs.walk_alone.Statement.{statement}
 use Rattle.walk.proofs.walk_alone.Tie as tie
-use Rattle.walk.proofs.walk_alone.Reads as reads
-use Rattle.walk.proofs.walk_alone.Lts as lts
-use Rattle.reader.proofs.next_of.Reads as next-of-reads
-use Rattle.sheet.proofs.word_at.Reads as word-at-reads
-use Rattle.walk.proofs.meet.Reads as meet-reads
 
 abbrev Inv-loop : tie.InvT-loop
 Inv-loop s kind first marks₀ i₀ left₀ marks i left = Walks s (metAlone kind) first marks₀ marks i left × (i < 65536)

@@ -7,11 +7,6 @@ use Rattle.walk.proofs.Laws.{Walks, walks-start, walks-cut, walks-end, 
 use borrow.Author.Needs.{needs}
 use Rattle.walk.proofs.walk_arrows.Statement.{statement}
 use Rattle.walk.proofs.walk_arrows.Tie as tie
-use Rattle.walk.proofs.walk_arrows.Reads as reads
-use Rattle.walk.proofs.walk_arrows.Lts as lts
-use Rattle.reader.proofs.next_of.Reads as next-of-reads
-use Rattle.sheet.proofs.word_at.Reads as word-at-reads
-use Rattle.walk.proofs.visit_arrow.Reads as visit-arrow-reads
 
 abbrev Inv-loop : tie.InvT-loop
 Inv-loop s first marks₀ i₀ left₀ marks i left = Walks s (metArrow s) first marks₀ marks i left × (i < 65536)

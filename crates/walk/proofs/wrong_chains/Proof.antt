@@ -1,22 +1,14 @@
-use mathlib.Core.Path.{_≡_, sym, _∙_, ap, subst}
+use mathlib.Core.Path.{sym, _∙_, ap}
 use mathlib.Core.Bool.{Bool}
-use mathlib.Core.List.{List}
 use Prim.Native.Nat.{ℕ, _+_}
-use lib.ListN.{replicate}
 use borrow.Author.Tests.{not-true, not-false}
 use denote.Ref.{now}
 use Rattle.laws.specs.Loops.{anyUp}
-use Rattle.sheet.specs.Sheet.{met}
-use Rattle.walk.specs.Walk.{at, walk, unmarked}
+use Rattle.walk.specs.Walk.{at, unmarked}
 use Rattle.walk.specs.Marks.{chains-wrong, chains-marked}
 use borrow.Author.Needs.{needs}
 use Rattle.walk.proofs.wrong_chains.Statement.{statement}
 use Rattle.walk.proofs.wrong_chains.Tie as tie
-use Rattle.walk.proofs.wrong_chains.Reads as reads
-use Rattle.walk.proofs.wrong_chains.Lts as lts
-use Rattle.sheet.proofs.word_at.Reads as word-at-reads
-use Rattle.walk.proofs.some_unmarked.Reads as some-unmarked-reads
-use Rattle.walk.proofs.walk_all.Reads as walk-all-reads
 
 slice-aggregate-walk-all : tie.Need-slice-aggregate-walk-all
 slice-aggregate-walk-all c = search needs

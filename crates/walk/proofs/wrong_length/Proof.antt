@@ -1,11 +1,8 @@
-use mathlib.Core.Path.{_≡_, refl, sym, _∙_, ap}
+use mathlib.Core.Path.{sym}
 use borrow.Author.Tests.{lt-ltb, le-ltb}
 use borrow.Author.Needs.{needs}
 use Rattle.walk.proofs.wrong_length.Statement.{statement}
 use Rattle.walk.proofs.wrong_length.Tie as tie
-use Rattle.walk.proofs.wrong_length.Reads as reads
-use Rattle.walk.proofs.wrong_length.Lts as lts
-use Rattle.sheet.proofs.word_at.Reads as word-at-reads
 
 returns : tie.Need-returns
 returns c = simp (lt-ltb _ _ (c .if1 .taken))
