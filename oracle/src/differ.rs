@@ -10,8 +10,9 @@ use crate::calls::{Turns, bowed, turns};
 use crate::generate::{SORTS, sort_of_starts};
 use crate::random::Random;
 use crate::route::geometry;
-use crate::vectors::graphs::{Drawing, clutter_case, layout_case, route_case, size};
-use crate::vectors::{Stream, kind};
+use crate::sheet::read;
+use crate::vectors::graphs::{drawn, size};
+use crate::vectors::{Calls, Stream, plenty};
 
 /// Drawings in one run of the program.
 const RUN: usize = 500;
@@ -89,21 +90,23 @@ pub fn routings(count: usize, seed: u64) {
     let (mut all, mut arrows, mut left_out, mut refused) = (Turns::default(), 0, 0, 0);
     for i in 0..count {
         let size = size(rng);
-        let d = Drawing::new(rng, size);
-        runs.starts[sort_of_starts(&d.graph)] += 1;
-        match bowed(|| geometry(&d.graph, &d.xs, &d.ys)) {
+        let d = drawn(rng, size);
+        let graph = read(&d.sheet).unwrap().graph();
+        runs.starts[sort_of_starts(&graph)] += 1;
+        match bowed(|| geometry(&graph, &d.xs, &d.ys)) {
             Ok(list) => {
-                let t = turns(&d.graph, &d.xs, &d.ys);
+                let t = turns(&graph, &d.xs, &d.ys);
                 assert_eq!(t.taken.iter().sum::<usize>(), list.len());
                 all.add(t);
-                arrows += d.graph.edges.len();
-                left_out += d.graph.edges.len() - list.len();
+                arrows += graph.edges.len();
+                left_out += graph.edges.len() - list.len();
             }
             Err(_) => refused += 1,
         }
-        runs.out.case(kind::ROUTE, route_case(&d));
+        let mut c = Calls::new(&mut runs.out, 0);
+        c.route(&d, plenty);
+        c.clutter(&d);
         runs.made("route");
-        runs.out.case(kind::CLUTTER, clutter_case(&d));
         runs.made("clutter");
         if (i + 1) % RUN == 0 || i + 1 == count {
             runs.replay();
@@ -124,12 +127,16 @@ pub fn layouts(count: usize, seed: u64) {
     let (mut states, mut arrows) = (0, 0);
     for i in 0..count {
         let size = size(rng);
-        let d = Drawing::new(rng, size);
-        runs.starts[sort_of_starts(&d.graph)] += 1;
-        states += d.graph.nodes.len();
-        arrows += d.graph.edges.len();
-        for number in 0..3 {
-            runs.out.case(kind::LAYOUT, layout_case(&d.graph, number));
+        let d = drawn(rng, size);
+        let graph = read(&d.sheet).unwrap().graph();
+        runs.starts[sort_of_starts(&graph)] += 1;
+        states += graph.nodes.len();
+        arrows += graph.edges.len();
+        let mut c = Calls::new(&mut runs.out, 0);
+        for by in 0..3 {
+            c.layout(&d, by, plenty);
+        }
+        for _ in 0..3 {
             runs.made("layout");
         }
         if (i + 1) % RUN == 0 || i + 1 == count {

@@ -4,20 +4,19 @@
 //! payload: the arguments and then the oracle's answer. A float is its eight bytes, the least
 //! first. The stream ends with a case of kind 0, whose payload is the number of cases before it.
 
-mod borders;
 mod bows;
 mod calls;
+mod edges;
 mod float;
 pub mod graphs;
-mod places;
-mod shapes;
+mod numbers;
 mod sheets;
-mod texts;
 
 use std::collections::BTreeMap;
 
 use crate::random::Random;
 
+pub use calls::{Calls, Drawn, plenty};
 #[cfg(port = "murshogi")]
 pub use calls::unsound;
 #[cfg(port = "murshogi")]
@@ -57,48 +56,14 @@ pub mod kind {
     pub const SIGNUM: u8 = 13;
     pub const COPYSIGN: u8 = 14;
     pub const TOTAL_CMP: u8 = 15;
-    pub const CHECK: u8 = 16;
-    pub const LABEL_SIZE: u8 = 17;
-    pub const NUMBER: u8 = 18;
-    pub const PATH: u8 = 19;
-    pub const ARROWHEAD: u8 = 20;
-    pub const POLAR: u8 = 21;
-    pub const DOT: u8 = 22;
-    pub const LEN: u8 = 23;
-    pub const ANGLE: u8 = 24;
-    pub const UNIT_OR: u8 = 25;
-    pub const LEFT: u8 = 26;
-    pub const DIST: u8 = 27;
-    pub const OVERLAPS: u8 = 28;
-    pub const SPANNING: u8 = 29;
-    pub const GROWN: u8 = 30;
-    pub const TOUCHES: u8 = 31;
-    pub const BOX_DIST: u8 = 32;
-    pub const AT: u8 = 33;
-    pub const TANGENT: u8 = 34;
-    pub const ENDS: u8 = 35;
-    pub const SEGMENT_HITS: u8 = 36;
-    pub const SEGMENTS_CROSS: u8 = 37;
-    pub const TRACE: u8 = 38;
-    pub const TRACE_HITS: u8 = 39;
-    pub const TRACES_CROSS: u8 = 40;
-    pub const BEND: u8 = 41;
-    pub const BETWEEN: u8 = 42;
-    pub const FIRST_FREE: u8 = 43;
-    pub const PLACE_LABEL: u8 = 44;
-    pub const SPOTS: u8 = 45;
-    pub const COST: u8 = 46;
-    pub const REM_TAU: u8 = 47;
-    pub const ROUTE: u8 = 50;
-    pub const LAYOUT: u8 = 51;
-    pub const CLUTTER: u8 = 52;
-    pub const ROUTE_CALL: u8 = 60;
-    pub const LAYOUT_CALL: u8 = 61;
-    pub const CLUTTER_CALL: u8 = 62;
-    pub const LIST_CALL: u8 = 63;
-    pub const CHECK_CALL: u8 = 64;
-    pub const LABEL_CALL: u8 = 65;
-    pub const NUMBER_CALL: u8 = 66;
+    pub const REM_TAU: u8 = 16;
+    pub const ROUTE: u8 = 60;
+    pub const LAYOUT: u8 = 61;
+    pub const CLUTTER: u8 = 62;
+    pub const LIST: u8 = 63;
+    pub const CHECK: u8 = 64;
+    pub const LABEL_SIZE: u8 = 65;
+    pub const NUMBER: u8 = 66;
     /// A kind and its payload with another answer.
     pub const SPOILED: u8 = 255;
 }
@@ -137,23 +102,6 @@ impl Payload {
         let bits = if v.is_nan() { 0x7ff8 << 48 } else { v.to_bits() };
         self.0.extend_from_slice(&bits.to_le_bytes());
         self
-    }
-
-    pub fn flag(self, b: bool) -> Self {
-        self.byte(u8::from(b))
-    }
-
-    pub fn point(self, p: (f64, f64)) -> Self {
-        self.floats(&[p.0, p.1])
-    }
-
-    /// A curve: the number of its points, and eight coordinates, those not used 0.
-    pub fn curve(self, points: &[(f64, f64)]) -> Self {
-        let mut p = self.byte(points.len() as u8);
-        for i in 0..4 {
-            p = p.point(points.get(i).copied().unwrap_or((0.0, 0.0)));
-        }
-        p
     }
 
     pub fn floats(self, vs: &[f64]) -> Self {
@@ -195,13 +143,14 @@ impl Stream {
 pub fn write(file: &str) {
     let mut out = Stream::default();
     float::cases(&mut out);
-    sheets::cases(&mut out);
-    texts::cases(&mut out);
-    shapes::cases(&mut out);
-    bows::cases(&mut out);
-    places::cases(&mut out);
-    graphs::cases(&mut out);
-    calls::cases(&mut out);
+    let mut c = Calls::new(&mut out, 12);
+    sheets::cases(&mut c);
+    numbers::cases(&mut c);
+    bows::cases(&mut c);
+    edges::cases(&mut c);
+    graphs::cases(&mut c);
+    calls::cases(&mut c);
+    c.end();
     for (kind, count) in &out.kinds {
         println!("kind {kind}: {count}");
     }

@@ -2,15 +2,15 @@
 use mathlib.Core.Bool.{Bool, not, _&&_}
 use mathlib.Core.List.{List}
 use Prim.Native.Nat.{ℕ}
+use Rattle.laws.specs.Any.{anyOf}
 use Rattle.float.specs.Ops.{lt}
 use Rattle.float.specs.Constants.{f1e9}
 use Rattle.shape.specs.declared.«V».{«V»}
 use Rattle.free.specs.declared.Chord.{Chord}
 use Rattle.free.specs.Chords.{chord}
 use Rattle.free.specs.Blocked.{blocked}
-use Rattle.bow.specs.Bend.{pairUp, leads}
-use Rattle.sheet.specs.Refusals.{any}
-use Rattle.routing.specs.Routing.{Frame, Numbered, isKept, isLoop, crossing, isPaired}
+use Rattle.bend.specs.Bend.{pairUp, leads}
+use Rattle.routing.specs.Routing.{Frame, Numbered, isKeptIn, isLoop, crossing, isPaired}
 
 -- the first free bow of a pair along a chord, past the states at these centres
 abbrev pub pairBeyond : Chord → List «V» → Bool
@@ -22,7 +22,7 @@ isBeyond f a = isPaired f a && pairBeyond (chord (f .centres) (a .ends .source) 
 
 -- some arrow of the drawing
 unfoldable pub beyond : Frame → Bool
-beyond f = any (isBeyond f) (crossing f)
+beyond f = anyOf (isBeyond f) (crossing f)
 
 -- ---- as the code decides it
 
@@ -32,4 +32,4 @@ endsBeyond ps sources targets a b = leads sources targets b a && pairBeyond (cho
 
 -- of any arrow
 abbrev pub isRefused : Frame → Numbered → Bool
-isRefused f a = isKept f a && (not (isLoop a) && isBeyond f a)
+isRefused f a = isKeptIn f a && (not (isLoop a) && isBeyond f a)

@@ -4,9 +4,9 @@ ghost use mathlib.Core.Path.{_≡_};
 ghost use Prim.Native.Nat.{_≤_, _<_};
 ghost use lib.ListN.{length};
 ghost use Rattle.shape.specs.Centres.{centres};
-ghost use Rattle.routing.specs.Passes.{frameBy};
-ghost use Rattle.route.specs.Geometry.{frameAt};
-ghost use Rattle.lay.specs.Steps.{Ready, arrowAt};
+ghost use Rattle.routing.specs.Sheets.{frameBy};
+ghost use Rattle.geometry.specs.Geometry.{frameFrom};
+ghost use Rattle.curves.specs.Steps.{Ready, arrowBy};
 ghost use Rattle.beyond.specs.Beyond as S;
 
 // Whether the first free bow of a two-way pair along c exceeds 10^9.
@@ -17,7 +17,7 @@ pub fn pair_beyond(xs: &[f64], ys: &[f64], c: Chord) -> bool
     let mut lo = [0.0f64; 64];
     let mut hi = [0.0f64; 64];
     let n = free::blocked(xs, ys, c, &mut lo, &mut hi);
-    let up = bow::pair_up(c, &lo[..n], &hi[..n]);
+    let up = bend::pair_up(c, &lo[..n], &hi[..n]);
     up > 1e9
 }
 
@@ -30,10 +30,17 @@ fn ends_beyond(
     a: usize,
     b: usize,
 ) -> bool
-    requires { ⌜ (length (now ys) ≡ length (now xs)) × (length (now xs) ≤ 64) × (length (now targets) ≡ length (now sources)) × (a < length (now xs)) × (b < length (now xs)) ⌝ }
-    ensures { λ r. ⌜ r ≡ S.endsBeyond (centres (now (xs .entry)) (now (ys .entry))) (now (sources .entry)) (now (targets .entry)) a b ⌝ }
+    requires { let states = length (now xs) in
+        ⌜ (length (now ys) ≡ states)
+        × (states ≤ 64)
+        × (length (now targets) ≡ length (now sources))
+        × (a < states)
+        × (b < states) ⌝ }
+    ensures { λ r.
+        let nodes = centres (now (xs .entry)) (now (ys .entry)) in
+        ⌜ r ≡ S.endsBeyond nodes (now (sources .entry)) (now (targets .entry)) a b ⌝ }
 {
-    if bow::leads(sources, targets, b, a) {
+    if bend::leads(sources, targets, b, a) {
         return pair_beyond(xs, ys, free::chord_of(xs, ys, a, b));
     }
     false
@@ -48,12 +55,18 @@ fn arrow_beyond(
     targets: &[usize],
     i: usize,
 ) -> bool
-    requires { ⌜ Ready (length (now xs)) (length (now ys)) (length (now flags)) (length (now sources)) (length (now targets)) × (i < length (now sources)) ⌝ }
-    ensures { λ r. ⌜ r ≡ S.isRefused (frameBy (now (flags .entry)) (now (xs .entry)) (now (ys .entry)) (now (sources .entry)) (now (targets .entry))) (arrowAt (now (sources .entry)) (now (targets .entry)) i) ⌝ }
+    requires { ⌜
+        Ready (length (now xs)) (length (now ys)) (length (now flags)) (length (now sources)) (length (now targets))
+        × (i < length (now sources))
+        ⌝ }
+    ensures { λ r.
+        let frame = frameBy (now (flags .entry)) (centres (now (xs .entry)) (now (ys .entry)))
+        (now (sources .entry)) (now (targets .entry)) in
+        ⌜ r ≡ S.isRefused frame (arrowBy (now (sources .entry)) (now (targets .entry)) i) ⌝ }
 {
     let a = sources[i];
     let b = targets[i];
-    if rim::apart(flags.len(), a, b) {
+    if directions::is_between(flags.len(), a, b) {
         return ends_beyond(xs, ys, sources, targets, a, b);
     }
     false
@@ -61,8 +74,13 @@ fn arrow_beyond(
 
 // Some arrow.
 fn some_beyond(xs: &[f64], ys: &[f64], flags: &[u8], sources: &[usize], targets: &[usize]) -> bool
-    requires { ⌜ Ready (length (now xs)) (length (now ys)) (length (now flags)) (length (now sources)) (length (now targets)) ⌝ }
-    ensures { λ r. ⌜ r ≡ S.beyond (frameBy (now (flags .entry)) (now (xs .entry)) (now (ys .entry)) (now (sources .entry)) (now (targets .entry))) ⌝ }
+    requires { ⌜
+        Ready (length (now xs)) (length (now ys)) (length (now flags)) (length (now sources)) (length (now targets))
+        ⌝ }
+    ensures { λ r.
+        let frame = frameBy (now (flags .entry)) (centres (now (xs .entry)) (now (ys .entry)))
+        (now (sources .entry)) (now (targets .entry)) in
+        ⌜ r ≡ S.beyond frame ⌝ }
 {
     for i in 0..sources.len() {
         if arrow_beyond(xs, ys, flags, sources, targets, i) {
@@ -82,18 +100,30 @@ fn beyond_at(
     cx: &mut [f64],
     cy: &mut [f64],
 ) -> bool
-    requires { ⌜ Ready (length (now cx)) (length (now cy)) (length (now flags)) (length (now sources)) (length (now targets)) ⌝ }
-    ensures { λ r. ⌜ r ≡ S.beyond (frameAt (now (flags .entry)) (now (xs .entry)) (now (ys .entry)) (now (sources .entry)) (now (targets .entry))) ⌝ }
+    requires { ⌜
+        Ready (length (now cx)) (length (now cy)) (length (now flags)) (length (now sources)) (length (now targets))
+        ⌝ }
+    ensures { λ r.
+        let frame = frameFrom (now (flags .entry)) (now (xs .entry)) (now (ys .entry))
+        (now (sources .entry)) (now (targets .entry)) in
+        ⌜ r ≡ S.beyond frame ⌝ }
 {
-    lay::centred(xs, cx);
-    lay::centred(ys, cy);
+    curves::centred(xs, cx);
+    curves::centred(ys, cy);
     some_beyond(cx, cy, flags, sources, targets)
 }
 
 // Whether the drawing of a graph at these centres is refused by 9.
 pub fn beyond(flags: &[u8], sources: &[usize], targets: &[usize], xs: &[f64], ys: &[f64]) -> bool
-    requires { ⌜ (length (now flags) ≤ 64) × (length (now sources) ≤ 256) × (length (now targets) ≡ length (now sources)) ⌝ }
-    ensures { λ r. ⌜ r ≡ S.beyond (frameAt (now (flags .entry)) (now (xs .entry)) (now (ys .entry)) (now (sources .entry)) (now (targets .entry))) ⌝ }
+    requires { ⌜
+        (length (now flags) ≤ 64)
+        × (length (now sources) ≤ 256)
+        × (length (now targets) ≡ length (now sources))
+        ⌝ }
+    ensures { λ r.
+        let frame = frameFrom (now (flags .entry)) (now (xs .entry)) (now (ys .entry))
+        (now (sources .entry)) (now (targets .entry)) in
+        ⌜ r ≡ S.beyond frame ⌝ }
 {
     let mut cx = [0.0f64; 64];
     let mut cy = [0.0f64; 64];

@@ -3,16 +3,16 @@ use mathlib.Core.List.{List, [], _∷_, _++_, map}
 use Prim.Native.Nat.{_+_, _*_, _≤_}
 use native.Mathlib.Omega.{arith}
 use lib.ListN.{length, length-map}
-use Rattle.laws.specs.Counting.{number-le, worth-le}
+use Rattle.laws.specs.Counting.{howMany-le, worth-le}
 use Rattle.shape.specs.declared.«V».{«V»}
 use Rattle.trace.specs.Traces.{Trace, crosses}
-use Rattle.spot.specs.declared.Geometry.{Geometry}
-use Rattle.clutter.specs.Clutter.{drawn, crossings, collides, collisions, clutterOf}
+use Rattle.label_spots.specs.declared.Geometry.{Geometry}
+use Rattle.clutter.specs.Clutter.{recordTrace, crossings, collides, collisions, clutterOf}
 
 crossings-le : (ts : List Trace) → length ts ≤ 256 → crossings ts ≤ 256 * length ts
 unfolding crossings
 crossings-le [] h = omega arith
-crossings-le (t ∷ ts) h = omega (arith, number-le (crosses t) ts, crossings-le ts (omega arith))
+crossings-le (t ∷ ts) h = omega (arith, howMany-le (crosses t) ts, crossings-le ts (omega arith))
 
 collisions-le : (cs : List «V») (ts : List Trace) (before gs : List Geometry) → collisions cs ts before gs ≤ length gs
 unfolding collisions
@@ -21,4 +21,4 @@ collisions-le cs ts before (g ∷ gs) = omega (arith, worth-le (collides cs ts (
 
 pub clutter-le : (cs : List «V») (gs : List Geometry) → length gs ≤ 256 → clutterOf cs gs ≤ 65792
 unfolding clutterOf
-clutter-le cs gs h = omega (arith, length-map gs drawn, crossings-le (map drawn gs) (omega (arith, length-map gs drawn)), collisions-le cs (map drawn gs) [] gs)
+clutter-le cs gs h = omega (arith, length-map gs recordTrace, crossings-le (map recordTrace gs) (omega (arith, length-map gs recordTrace)), collisions-le cs (map recordTrace gs) [] gs)

@@ -1,5 +1,5 @@
 pub mod Clutter
 pub mod Near
-pub mod Turns
+pub mod Steps
 pub mod Bounds
 pub mod Worked

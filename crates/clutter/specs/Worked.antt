@@ -5,22 +5,22 @@ use Prim.Native.Nat.{ℕ}
 use lib.Count.{trailingZeros}
 use lib.Ieee.{ofBits, ofFields, toBits, isNan, round, size, span, climb, units, odd, sum}
 use lib.Ieee as Ieee
-use Rattle.laws.specs.Counting.{number}
+use Rattle.laws.specs.Counting.{howMany}
 use Rattle.laws.specs.Loops.{over}
-use Rattle.root.specs.Root.{rootBits, nearestRoot, wholeRoot, digits, scale}
+use Rattle.laws.specs.Any.{anyOf}
+use Rattle.root.specs.Root.{rootBits, nearestRoot, wholeRoot, tryDigits, scale}
 use Rattle.float.specs.Constants.{f0, whole}
 use Rattle.float.specs.Standins as F
-use Rattle.sheet.specs.Refusals.{any}
 use Rattle.shape.specs.declared.«V».{«V»}
 use Rattle.shape.specs.declared.Rect.{Rect}
 use Rattle.shape.specs.declared.Curve.the-variants.{Line}
-use Rattle.shape.specs.Plane.{vec, rect, overlaps, touches, spanning, outside}
+use Rattle.shape.specs.Plane.{vec, rect, overlaps, touches, spanning, outside, extended}
 use Rattle.shape.specs.Clipping.{test, side, meets, segmentHitsRect, segmentsCross}
-use Rattle.trace.specs.Traces.{traceOf, samples, boundsOf, extended, foreign, anySegment, hitsRect, pairCross, segmentCrosses, crosses}
-use Rattle.spot.specs.declared.Anchor.the-variants.{Start}
-use Rattle.spot.specs.declared.Geometry.{Geometry}
-use Rattle.place.specs.Scene.{struck}
-use Rattle.clutter.specs.Clutter.{crossings, near, collides, collisions, clutterOf}
+use Rattle.trace.specs.Traces.{traceOf, samples, boundsOf, foreign, anySegment, hitsRect, pairCross, segmentCrosses, crosses}
+use Rattle.label_spots.specs.declared.Anchor.the-variants.{Start}
+use Rattle.label_spots.specs.declared.Geometry.{Geometry}
+use Rattle.scene.specs.Scene.{struck}
+use Rattle.clutter.specs.Clutter.{crossings, near24, collides, collisions, clutterOf}
 
 abbrev point : ℕ → ℕ → «V»
 point x y = vec (whole x) (whole y)
@@ -30,7 +30,7 @@ box x0 y0 x1 y1 = rect (whole x0) (whole y0) (whole x1) (whole y1)
 
 -- a straight arrow from p to q, its label in the box b
 abbrev straight : ℕ → «V» → «V» → Rect → Geometry
-straight n p q b = record { edge = n; curve = Line p q; tip = q; angle = f0; label = vec (b .x0) (b .y0); anchor = Start; bounds = b }
+straight n p q b = record { edge = n; curve = Line p q; tip = q; «tip_angle» = f0; label = vec (b .x0) (b .y0); anchor = Start; «label_box» = b }
 
 -- an arrow to the right, one beside it, one down across both, one across all three
 abbrev level : Rect → Geometry
@@ -46,16 +46,16 @@ abbrev slanting : Rect → Geometry
 slanting b = straight 3 (point 0 40) (point 100 90) b
 
 -- states, arrows, and the clutter
-pub record Drawing : Type 0 where
+pub record CountedDrawing : Type 0 where
   pub states : List «V»
   pub arrows : List Geometry
   pub clutter : ℕ
 
-abbrev drawing : List «V» → List Geometry → ℕ → Drawing
+abbrev drawing : List «V» → List Geometry → ℕ → CountedDrawing
 drawing cs gs n = record { states = cs; arrows = gs; clutter = n }
 
-abbrev pub drawings : List Drawing
-drawings =
+abbrev pub countedDrawings : List CountedDrawing
+countedDrawings =
     drawing [] [] 0
     -- side by side; one pair that crosses; all pairs of four but one
     ∷ drawing [] (level (box 0 200 10 210) ∷ beside (box 20 200 30 210) ∷ []) 0
@@ -73,6 +73,6 @@ drawings =
     ∷ drawing (point 50 80 ∷ []) (level (box 45 65 55 75) ∷ beside (box 10 200 20 210) ∷ []) 1
     ∷ []
 
-worked : map (λ d. clutterOf (d .states) (d .arrows)) drawings ≡ map (λ d. d .clutter) drawings
-unfolding clutterOf crossings collisions collides near outside struck any number over traceOf samples boundsOf extended foreign anySegment hitsRect pairCross segmentCrosses crosses overlaps touches spanning test side meets segmentHitsRect segmentsCross F.root F.rootOf rootBits nearestRoot wholeRoot digits scale Ieee.add Ieee.sub Ieee.mul Ieee.div Ieee.neg Ieee.lt Ieee.le Ieee.eq Ieee.ne sum round size span climb units odd ofBits ofFields toBits trailingZeros isNan
+worked : map (λ d. clutterOf (d .states) (d .arrows)) countedDrawings ≡ map (λ d. d .clutter) countedDrawings
+unfolding clutterOf crossings collisions collides near24 outside struck anyOf howMany over traceOf samples boundsOf extended foreign anySegment hitsRect pairCross segmentCrosses crosses overlaps touches spanning test side meets segmentHitsRect segmentsCross F.root F.rootOf rootBits nearestRoot wholeRoot tryDigits scale Ieee.add Ieee.sub Ieee.mul Ieee.div Ieee.neg Ieee.lt Ieee.le Ieee.eq Ieee.ne sum round size span climb units odd ofBits ofFields toBits trailingZeros isNan
 worked = refl

@@ -1,28 +1,36 @@
-// How cluttered a drawing is, over its records: pairs of arrows that cross, labels that collide with something. Records are
-// twenty numbers each, traces forty.
+// How cluttered a drawing is, over its records: pairs of arrows that cross, labels that collide with something.
+// Records are twenty numbers each, traces forty.
+use shape::NODE_RADIUS;
 use shape::Rect;
+use shape::V;
 ghost use mathlib.Core.Path.{_≡_};
 ghost use mathlib.Core.List.{[], _++_, map};
 ghost use Prim.Native.Nat.{_+_, _-_, _*_, _≤_, _<_};
 ghost use lib.ListN.{length};
-ghost use Rattle.laws.specs.Counting.{number, worth};
+ghost use Rattle.laws.specs.Counting.{howMany, worth};
 ghost use Rattle.laws.specs.Flat.{part};
-ghost use Rattle.sheet.specs.Refusals.{any};
-ghost use Rattle.shape.specs.Plane.{vec};
+ghost use Rattle.laws.specs.Any.{anyOf};
 ghost use Rattle.shape.specs.Centres.{centres};
 ghost use Rattle.trace.specs.Traces.{crosses};
 ghost use Rattle.trace.specs.Form.{decodeTrace, decodeTraces};
 ghost use Rattle.records.specs.Records.{decodeGeometry, decodeRecords};
 ghost use Rattle.records.specs.Back.{Small};
-ghost use Rattle.place.specs.Scene.{struck};
+ghost use Rattle.scene.specs.Scene.{struck};
 ghost use Rattle.clutter.specs.Clutter as S;
+
+// The square of the distance below which a state is too near to a label.
+const NEAR_SQUARED: f64 = (NODE_RADIUS + 2.0) * (NODE_RADIUS + 2.0);
 
 // ---- traces
 
 // The traces of the arrows of the first n records.
 fn fill_traces(records: &[f64], n: usize, traces: &mut [f64])
-    requires { ⌜ (20 * n ≤ length (now records)) × (40 * n ≤ length (now traces)) × Small (decodeRecords n (now records)) ⌝ }
-    ensures { λ _. ⌜ decodeTraces n (now (traces .exit)) ≡ map S.drawn (decodeRecords n (now (records .entry))) ⌝ }
+    requires { ⌜
+        (20 * n ≤ length (now records))
+        × (40 * n ≤ length (now traces))
+        × Small (decodeRecords n (now records))
+        ⌝ }
+    ensures { λ _. ⌜ decodeTraces n (now (traces .exit)) ≡ map S.recordTrace (decodeRecords n (now (records .entry))) ⌝ }
 {
     let mut k: usize = 0;
     while k < n {
@@ -37,7 +45,10 @@ fn fill_traces(records: &[f64], n: usize, traces: &mut [f64])
 // 1 where traces i and j cross.
 fn cross_add(traces: &[f64], i: usize, j: usize) -> usize
     requires { ⌜ (40 * i + 40 ≤ length (now traces)) × (40 * j + 40 ≤ length (now traces)) ⌝ }
-    ensures { λ r. ⌜ (r ≡ worth (crosses (decodeTrace (part 40 i (now (traces .entry))))) 1 (decodeTrace (part 40 j (now (traces .entry))))) × (r ≤ 1) ⌝ }
+    ensures { λ r.
+        let one = decodeTrace (part 40 i (now (traces .entry))) in
+        let other = decodeTrace (part 40 j (now (traces .entry))) in
+        ⌜ (r ≡ worth (crosses one) 1 other) × (r ≤ 1) ⌝ }
 {
     let a = 40 * i;
     let b = 40 * j;
@@ -52,7 +63,9 @@ fn cross_add(traces: &[f64], i: usize, j: usize) -> usize
 // How many of the n traces from `from` on trace i crosses.
 fn crossed(traces: &[f64], i: usize, from: usize, n: usize) -> usize
     requires { ⌜ (40 * i + 40 ≤ length (now traces)) × (40 * from + 40 * n ≤ length (now traces)) ⌝ }
-    ensures { λ r. ⌜ (r ≡ number (crosses (decodeTrace (part 40 i (now (traces .entry))))) (S.tracesFrom (now (traces .entry)) from n)) × (r ≤ n) ⌝ }
+    ensures { λ r.
+        let one = decodeTrace (part 40 i (now (traces .entry))) in
+        ⌜ (r ≡ howMany (crosses one) (S.tracesFrom (now (traces .entry)) from n)) × (r ≤ n) ⌝ }
 {
     let mut sum: usize = 0;
     let mut k = from;
@@ -83,22 +96,20 @@ fn crossings(traces: &[f64], n: usize) -> usize
 
 // ---- labels
 
-// Whether a state is nearer to the box than 24: its distance is below 24 exactly where the sum of the squares is below 576.
-fn near(b: Rect, x: f64, y: f64) -> bool
-    ensures { λ r. ⌜ r ≡ S.near b (vec x y) ⌝ }
+// Whether a state with centre c is nearer to the box than its radius and 2, by the squares.
+fn near24(b: Rect, c: V) -> bool
+    ensures { λ r. ⌜ r ≡ S.near24 b c ⌝ }
 {
-    let dx = shape::outside(b.x0, b.x1, x);
-    let dy = shape::outside(b.y0, b.y1, y);
-    dx * dx + dy * dy < 576.0
+    b.dist_squared(c) < NEAR_SQUARED
 }
 
 fn any_state(xs: &[f64], ys: &[f64], b: Rect) -> bool
     requires { ⌜ length (now ys) ≡ length (now xs) ⌝ }
-    ensures { λ r. ⌜ r ≡ any (S.near b) (centres (now (xs .entry)) (now (ys .entry))) ⌝ }
+    ensures { λ r. ⌜ r ≡ anyOf (S.near24 b) (centres (now (xs .entry)) (now (ys .entry))) ⌝ }
 {
     let mut k: usize = 0;
     while k < xs.len() {
-        if near(b, xs[k], ys[k]) {
+        if near24(b, V { x: xs[k], y: ys[k] }) {
             return true;
         }
         k += 1;
@@ -109,7 +120,7 @@ fn any_state(xs: &[f64], ys: &[f64], b: Rect) -> bool
 // The label's box of the record in twenty numbers.
 fn label_of(part: &[f64]) -> Rect
     requires { ⌜ 20 ≤ length (now part) ⌝ }
-    ensures { λ r. ⌜ r ≡ decodeGeometry (now (part .entry)) .bounds ⌝ }
+    ensures { λ r. ⌜ r ≡ decodeGeometry (now (part .entry)) .«label_box» ⌝ }
 {
     Rect {
         x0: part[16],
@@ -132,7 +143,7 @@ fn label_over(records: &[f64], k: usize, b: Rect) -> bool
 // Whether a label of the n records from `from` on overlaps the box.
 fn any_label(records: &[f64], from: usize, n: usize, b: Rect) -> bool
     requires { ⌜ 20 * from + 20 * n ≤ length (now records) ⌝ }
-    ensures { λ r. ⌜ r ≡ any (S.labelOver b) (S.recordsFrom (now (records .entry)) from n) ⌝ }
+    ensures { λ r. ⌜ r ≡ anyOf (S.labelOver b) (S.recordsFrom (now (records .entry)) from n) ⌝ }
 {
     let mut k = from;
     let mut left = n;
@@ -170,7 +181,7 @@ fn strikes_at(traces: &[f64], k: usize, own: usize, b: Rect) -> bool
 
 fn any_trace(traces: &[f64], n: usize, own: usize, b: Rect) -> bool
     requires { ⌜ 40 * n ≤ length (now traces) ⌝ }
-    ensures { λ r. ⌜ r ≡ any (struck own b) (decodeTraces n (now (traces .entry))) ⌝ }
+    ensures { λ r. ⌜ r ≡ anyOf (struck own b) (decodeTraces n (now (traces .entry))) ⌝ }
 {
     let mut k: usize = 0;
     let mut left = n;
@@ -186,11 +197,22 @@ fn any_trace(traces: &[f64], n: usize, own: usize, b: Rect) -> bool
 
 // 1 where the label of record i, of n, collides.
 fn label_add(xs: &[f64], ys: &[f64], records: &[f64], traces: &[f64], n: usize, i: usize) -> usize
-    requires { ⌜ (length (now ys) ≡ length (now xs)) × (20 * n ≤ length (now records)) × (40 * n ≤ length (now traces)) × (i < n) ⌝ }
-    ensures { λ r. ⌜ (r ≡ worth (S.collides (centres (now (xs .entry)) (now (ys .entry))) (decodeTraces n (now (traces .entry))) (S.recordsFrom (now (records .entry)) 0 i ++ S.recordsFrom (now (records .entry)) (i + 1) (n - i - 1))) 1 (decodeGeometry (part 20 i (now (records .entry))))) × (r ≤ 1) ⌝ }
+    requires { ⌜
+        (length (now ys) ≡ length (now xs))
+        × (20 * n ≤ length (now records))
+        × (40 * n ≤ length (now traces))
+        × (i < n)
+        ⌝ }
+    ensures { λ r.
+        let traced = decodeTraces n (now (traces .entry)) in
+        let nodes = centres (now (xs .entry)) (now (ys .entry)) in
+        let others = S.recordsFrom (now (records .entry)) 0 i
+        ++ S.recordsFrom (now (records .entry)) (i + 1) (n - i - 1) in
+        let collides = S.collides nodes traced others in
+        ⌜ (r ≡ worth collides 1 (decodeGeometry (part 20 i (now (records .entry))))) × (r ≤ 1) ⌝ }
 {
     let g = records::geometry_at(records, i);
-    let b = g.bounds;
+    let b = g.label_box;
     if any_state(xs, ys, b) {
         return 1;
     }
@@ -208,8 +230,16 @@ fn label_add(xs: &[f64], ys: &[f64], records: &[f64], traces: &[f64], n: usize, 
 
 // The labels that collide.
 fn collisions(xs: &[f64], ys: &[f64], records: &[f64], traces: &[f64], n: usize) -> usize
-    requires { ⌜ (length (now ys) ≡ length (now xs)) × (20 * n ≤ length (now records)) × (40 * n ≤ length (now traces)) ⌝ }
-    ensures { λ r. ⌜ (r ≡ S.collisions (centres (now (xs .entry)) (now (ys .entry))) (decodeTraces n (now (traces .entry))) [] (decodeRecords n (now (records .entry)))) × (r ≤ n) ⌝ }
+    requires { ⌜
+        (length (now ys) ≡ length (now xs))
+        × (20 * n ≤ length (now records))
+        × (40 * n ≤ length (now traces))
+        ⌝ }
+    ensures { λ r.
+        let traced = decodeTraces n (now (traces .entry)) in
+        let drawn = decodeRecords n (now (records .entry)) in
+        let nodes = centres (now (xs .entry)) (now (ys .entry)) in
+        ⌜ (r ≡ S.collisions nodes traced [] drawn) × (r ≤ n) ⌝ }
 {
     let mut sum: usize = 0;
     let mut i: usize = 0;
@@ -224,8 +254,16 @@ fn collisions(xs: &[f64], ys: &[f64], records: &[f64], traces: &[f64], n: usize)
 
 // The clutter of the drawing that the first `count` records hold, of arrows with numbers below 65,536.
 pub fn clutter(xs: &[f64], ys: &[f64], records: &[f64], count: usize) -> usize
-    requires { ⌜ (length (now ys) ≡ length (now xs)) × (20 * count ≤ length (now records)) × (count ≤ 256) × Small (decodeRecords count (now records)) ⌝ }
-    ensures { λ r. ⌜ r ≡ S.clutterOf (centres (now (xs .entry)) (now (ys .entry))) (decodeRecords count (now (records .entry))) ⌝ }
+    requires { ⌜
+        (length (now ys) ≡ length (now xs))
+        × (20 * count ≤ length (now records))
+        × (count ≤ 256)
+        × Small (decodeRecords count (now records))
+        ⌝ }
+    ensures { λ r.
+        let drawn = decodeRecords count (now (records .entry)) in
+        let nodes = centres (now (xs .entry)) (now (ys .entry)) in
+        ⌜ r ≡ S.clutterOf nodes drawn ⌝ }
 {
     let mut traces = [0.0f64; 10240];
     fill_traces(records, count, &mut traces);

@@ -1,7 +1,7 @@
 -- The columns that are reached are the breadth-first distances: column k has exactly the states that k arrows reach from the start and no fewer do; the states that
 -- no arrows reach are in the last column. Assumes nothing.
 use mathlib.Core.Path.{_≡_, refl, sym, ap, subst, _∙_}
-use mathlib.Core.Bool.{Bool, true, false, cond, not, _||_}
+use mathlib.Core.Bool.{Bool, true, false, cond, _||_}
 use mathlib.Core.List.{List, [], _∷_, _++_, flatMap, append-nil}
 use mathlib.Core.Logic.{_⊎_, inl, inr, ⊎-elim}
 use Prim.Native.Nat.{ℕ, zero, suc, _+_, _-_, _≤_, _<_}
@@ -11,23 +11,24 @@ use borrow.Author.Tests.{eq-eqb, eqb-true, eqb-false}
 use lib.Dec.{eqb}
 use lib.ListN.{length, getD, drop, length-append}
 use Rattle.laws.specs.Cases.{by-bool, by-lt}
-use Rattle.laws.specs.Filter.{filter}
-use Rattle.columns.specs.Columns.{Arrow, successors, elem, explore, columnsAfter, reached, concat, states, isNew, unreached}
+use Rattle.laws.specs.Filter.{filterBy}
+use Rattle.laws.specs.Bools.{or-first, or-second, or-cases, clash, not-holds}
+use Rattle.columns.specs.Columns.{EndPair, successors, elem, explore, columnsAfter, reached, concat, stateNumbers, isNew, unreached}
 use Rattle.columns.specs.Found.{Fair, explore-fair, fair-start, after-none, after-more, after-end}
 use Rattle.columns.specs.Once.{is-new}
-use Rattle.columns.specs.Elements.{times, or-left, or-right, or-cases, clash, elem-join, times-join, times-some, elem-explore, elem-flat, flat-elem, single-explore, single-one, found-new, concat-cons, concat-none, columns-more}
+use Rattle.columns.specs.Elements.{times, elem-join, times-join, times-some, elem-explore, elem-flat, flat-elem, single-explore, single-one, found-new, concat-cons, concat-none, columns-more}
 
 -- what a filter keeps passes the test
-kept : (p : ℕ → Bool) (v : ℕ) (l : List ℕ) → elem v (filter p l) ≡ true → p v ≡ true
-unfolding filter elem
+kept : (p : ℕ → Bool) (v : ℕ) (l : List ℕ) → elem v (filterBy p l) ≡ true → p v ≡ true
+unfolding filterBy elem
 kept p v [] e = absurd (clash e refl)
 kept p v (x ∷ l) e =
     by-bool (p x)
-    (λ t. ⊎-elim (λ (h : eqb x v ≡ true). ap p (sym (eqb-true x v h)) ∙ t) (λ (h : elem v (filter p l) ≡ true). kept p v l h)
-    (or-cases (eqb x v) (elem v (filter p l)) (sym (ap (λ (b : Bool). elem v (cond b (x ∷ filter p l) (filter p l))) t) ∙ e)))
-    (λ t. kept p v l (sym (ap (λ (b : Bool). elem v (cond b (x ∷ filter p l) (filter p l))) t) ∙ e))
+    (λ t. ⊎-elim (λ (h : eqb x v ≡ true). ap p (sym (eqb-true x v h)) ∙ t) (λ (h : elem v (filterBy p l) ≡ true). kept p v l h)
+    (or-cases (eqb x v) (elem v (filterBy p l)) (sym (ap (λ (b : Bool). elem v (cond b (x ∷ filterBy p l) (filterBy p l))) t) ∙ e)))
+    (λ t. kept p v l (sym (ap (λ (b : Bool). elem v (cond b (x ∷ filterBy p l) (filterBy p l))) t) ∙ e))
 
-module _ (n : ℕ) (arrows : List Arrow) (start : ℕ) where
+module _ (n : ℕ) (arrows : List EndPair) (start : ℕ) where
   -- v is reached from the start by k arrows
   pub data Walk : ℕ → ℕ → Type 0 where
     here : Walk 0 start
@@ -63,7 +64,7 @@ module _ (n : ℕ) (arrows : List Arrow) (start : ℕ) where
       at v e = ⊎-elim (λ (h : eqb start v ≡ true). subst (Walk 0) (eqb-true start v h) here) (λ (h : false ≡ true). absurd (clash h refl)) (or-cases (eqb start v) false e)
 
       zero-walk : (j v : ℕ) → j ≤ 0 → Walk j v → eqb start v || false ≡ true
-      zero-walk zero v h here = or-left (eqb start start) false (eq-eqb start start refl)
+      zero-walk zero v h here = or-first (eqb start start) false (eq-eqb start start refl)
       zero-walk (suc j) v h w = absurd (not-suc-le-zero h)
 
   -- ---- one column more
@@ -81,7 +82,7 @@ module _ (n : ℕ) (arrows : List Arrow) (start : ℕ) where
     either v e = or-cases (elem v found) (elem v (flatMap (successors n arrows) column)) (sym (elem-explore v n arrows found column) ∙ e)
 
     old : (v : ℕ) → elem v found ≡ true → elem v all ≡ true
-    old v e = elem-explore v n arrows found column ∙ or-left (elem v found) (elem v (flatMap (successors n arrows) column)) e
+    old v e = elem-explore v n arrows found column ∙ or-first (elem v found) (elem v (flatMap (successors n arrows) column)) e
 
     parts : (v : ℕ) → elem v all ≡ elem v found || elem v new
     parts v = ap (elem v) (sym (found-new n arrows found column)) ∙ elem-join v found new
@@ -95,7 +96,7 @@ module _ (n : ℕ) (arrows : List Arrow) (start : ℕ) where
     extend v (onward {v = u} w e) =
         ⊎-elim
         (λ (r : (j : ℕ) × (j < k) × Walk j u). old v (s .full (suc (r .0)) v (r .1) (onward (r .2) e)))
-        (λ (h : elem u column ≡ true). elem-explore v n arrows found column ∙ or-right (elem v found) (elem v (flatMap (successors n arrows) column)) (flat-elem (successors n arrows) v u column h e))
+        (λ (h : elem u column ≡ true). elem-explore v n arrows found column ∙ or-second (elem v found) (elem v (flatMap (successors n arrows) column)) (flat-elem (successors n arrows) v u column h e))
         (s .last u w)
 
     within-all : (j v : ℕ) → j ≤ suc k → Walk j v → elem v all ≡ true
@@ -109,7 +110,7 @@ module _ (n : ℕ) (arrows : List Arrow) (start : ℕ) where
       single = single-explore n arrows found column (s .single);
       sound = λ v e. ⊎-elim (λ (h : elem v found ≡ true). wider (s .sound v h)) (λ (h : elem v (flatMap (successors n arrows) column) ≡ true). (suc k, omega arith, by-arrow v h)) (either v e);
       full = within-all;
-      there = λ v e. (arrived v e (either v (parts v ∙ or-right (elem v found) (elem v new) e)), λ j h w. fresh v e (s .full j v (omega arith) w));
+      there = λ v e. (arrived v e (either v (parts v ∙ or-second (elem v found) (elem v new) e)), λ j h w. fresh v e (s .full j v (omega arith) w));
       last = λ v w. ⊎-elim (λ (h : elem v found ≡ true). inl (before (s .sound v h))) (λ (h : elem v new ≡ true). inr h) (or-cases (elem v found) (elem v new) (sym (parts v) ∙ extend v w));
     }
       where
@@ -178,7 +179,7 @@ module _ (n : ℕ) (arrows : List Arrow) (start : ℕ) where
   complete zero k found column s f h j v w = absurd (omega (arith, f))
   complete (suc most) k found column s f h j v w =
       by-bool (eqb (length (more most found column)) 0)
-      (λ t. elem-join v found (concat (columnsAfter n arrows (suc most) found column)) ∙ or-left (elem v found) (elem v (concat (columnsAfter n arrows (suc most) found column))) (closed k found column s (eqb-true (length (more most found column)) 0 t) w))
+      (λ t. elem-join v found (concat (columnsAfter n arrows (suc most) found column)) ∙ or-first (elem v found) (elem v (concat (columnsAfter n arrows (suc most) found column))) (closed k found column s (eqb-true (length (more most found column)) 0 t) w))
       (λ t.
       let d : length (more most found column) ≡ 0 → ⊥ = eqb-false (length (more most found column)) 0 t in
       let g : length (explore n arrows found column) ≡ length found + length (more most found column) = ap length (sym (found-new n arrows found column)) ∙ length-append found (more most found column) in
@@ -220,11 +221,7 @@ module _ (n : ℕ) (arrows : List Arrow) (start : ℕ) where
   -- no arrows reach a state of the last column
   pub unreached-never : start < n → (v : ℕ) → elem v (unreached n (concat (reached n arrows start))) ≡ true → (k : ℕ) → Walk k v → ⊥
   unfolding unreached
-  unreached-never h v e k w = clash (reached-all h k v w) (not-true (elem v (concat (reached n arrows start))) (kept (isNew (concat (reached n arrows start))) v (states n) e))
-    where
-      not-true : (b : Bool) → not b ≡ true → b ≡ false
-      not-true true t = sym t
-      not-true false t = refl
+  unreached-never h v e k w = clash (reached-all h k v w) (not-holds (elem v (concat (reached n arrows start))) (kept (isNew (concat (reached n arrows start))) v (stateNumbers n) e))
 
   -- and a state that no arrows reach is there
   pub never-unreached : (v : ℕ) → v < n → ((k : ℕ) → Walk k v → ⊥) → elem v (unreached n (concat (reached n arrows start))) ≡ true

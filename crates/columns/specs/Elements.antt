@@ -1,8 +1,8 @@
 -- What a list of states holds, and how often, after each step of the search. Assumes nothing.
 use mathlib.Core.Path.{_≡_, refl, sym, ap, subst, _∙_}
-use mathlib.Core.Bool.{Bool, true, false, cond, _||_, true≢false}
+use mathlib.Core.Bool.{Bool, true, false, cond, _||_}
 use mathlib.Core.List.{List, [], _∷_, _++_, flatMap, append-nil, append-assoc}
-use mathlib.Core.Logic.{_⊎_, inl, inr, ⊎-elim}
+use mathlib.Core.Logic.{_⊎_, ⊎-elim}
 use Prim.Native.Nat.{ℕ, zero, suc, _+_, _-_, _≤_, _<_}
 use native.Mathlib.Omega.{arith}
 use borrow.Author.Tests.{eq-eqb, eqb-true, eqb-false}
@@ -10,38 +10,15 @@ use lib.Dec.{eqb}
 use lib.ListN.{length, drop, take-append-drop}
 use lib.Seq.{take-length}
 use Rattle.laws.specs.Cases.{by-bool}
-use Rattle.laws.specs.Counting.{number}
+use Rattle.laws.specs.Counting.{howMany}
 use Rattle.laws.specs.Loops.{over}
-use Rattle.columns.specs.Columns.{Arrow, successors, elem, discover, explore, columnsAfter, concat}
+use Rattle.laws.specs.Bools.{clash, or-first, or-second, or-assoc, or-false, or-cases}
+use Rattle.columns.specs.Columns.{EndPair, successors, elem, discover, explore, columnsAfter, concat}
 use Rattle.columns.specs.Found.{discover-old, discover-new, explore-front, after-none, after-more, after-end}
 
 -- how often a list has v
 abbrev pub times : ℕ → List ℕ → ℕ
-times v l = number (λ (w : ℕ). eqb w v) l
-
--- ---- Bools
-
-or-assoc : (a b c : Bool) → (a || b) || c ≡ a || (b || c)
-or-assoc true b c = refl
-or-assoc false b c = refl
-
-or-false : (b : Bool) → b || false ≡ b
-or-false true = refl
-or-false false = refl
-
-pub or-left : (a b : Bool) → a ≡ true → a || b ≡ true
-or-left a b e = rw e
-
-pub or-right : (a b : Bool) → b ≡ true → a || b ≡ true
-or-right true b e = refl
-or-right false b e = e
-
-pub or-cases : (a b : Bool) → a || b ≡ true → (a ≡ true) ⊎ (b ≡ true)
-or-cases true b e = inl refl
-or-cases false b e = inr e
-
-pub clash : {b : Bool} → b ≡ true → b ≡ false → ⊥
-clash p q = true≢false (sym p ∙ q)
+times v l = howMany (λ (w : ℕ). eqb w v) l
 
 -- ---- lists joined
 
@@ -51,17 +28,17 @@ elem-join v [] m = refl
 elem-join v (x ∷ l) m = ap (λ (b : Bool). eqb x v || b) (elem-join v l m) ∙ sym (or-assoc (eqb x v) (elem v l) (elem v m))
 
 pub times-join : (v : ℕ) (l m : List ℕ) → times v (l ++ m) ≡ times v l + times v m
-unfolding number
+unfolding howMany
 times-join v [] m = omega arith
 times-join v (x ∷ l) m = omega (arith, times-join v l m)
 
 pub times-none : (v : ℕ) (l : List ℕ) → elem v l ≡ false → times v l ≡ 0
-unfolding number elem
+unfolding howMany elem
 times-none v [] e = refl
-times-none v (x ∷ l) e = by-bool (eqb x v) (λ t. absurd (clash (or-left (eqb x v) (elem v l) t) e)) (λ t. rw t (omega (arith, times-none v l (ap (λ (b : Bool). b || elem v l) (sym t) ∙ e))))
+times-none v (x ∷ l) e = by-bool (eqb x v) (λ t. absurd (clash (or-first (eqb x v) (elem v l) t) e)) (λ t. rw t (omega (arith, times-none v l (ap (λ (b : Bool). b || elem v l) (sym t) ∙ e))))
 
 pub times-some : (v : ℕ) (l : List ℕ) → elem v l ≡ true → 0 < times v l
-unfolding number elem
+unfolding howMany elem
 times-some v [] e = absurd (clash e refl)
 times-some v (x ∷ l) e =
     by-bool (eqb x v) (λ t. rw t (omega arith))
@@ -74,11 +51,11 @@ unfolding elem
 elem-one v w = or-false (eqb w v)
 
 times-one : (v w : ℕ) → times v (w ∷ []) ≡ cond (eqb w v) 1 0
-unfolding number
+unfolding howMany
 times-one v w = by-bool (eqb w v) (λ t. rw t) (λ t. rw t)
 
 known : (v : ℕ) (found : List ℕ) (w : ℕ) → elem w found ≡ true → (b : Bool) → eqb w v ≡ b → elem v found ≡ elem v found || b
-known v found w t true e = ap (λ (u : ℕ). elem u found) (sym (eqb-true w v e)) ∙ t ∙ sym (or-right (elem v found) true refl)
+known v found w t true e = ap (λ (u : ℕ). elem u found) (sym (eqb-true w v e)) ∙ t ∙ sym (or-second (elem v found) true refl)
 known v found w t false e = sym (or-false (elem v found))
 
 elem-discover : (v : ℕ) (found : List ℕ) (w : ℕ) → elem v (discover found w) ≡ elem v found || eqb w v
@@ -94,7 +71,7 @@ elem-over v found (w ∷ ws) =
     elem-over v (discover found w) ws ∙ ap (λ (b : Bool). b || elem v ws) (elem-discover v found w) ∙ or-assoc (elem v found) (eqb w v) (elem v ws)
 
 -- what is found from a column: what was found, and where its arrows lead
-pub elem-explore : (v n : ℕ) (arrows : List Arrow) (found column : List ℕ) → elem v (explore n arrows found column) ≡ elem v found || elem v (flatMap (successors n arrows) column)
+pub elem-explore : (v n : ℕ) (arrows : List EndPair) (found column : List ℕ) → elem v (explore n arrows found column) ≡ elem v found || elem v (flatMap (successors n arrows) column)
 unfolding explore
 elem-explore v n arrows found column = elem-over v found (flatMap (successors n arrows) column)
 
@@ -103,12 +80,12 @@ unfolding flatMap elem
 elem-flat f v [] e = absurd (clash e refl)
 elem-flat f v (x ∷ l) e =
     ⊎-elim
-    (λ (h : elem v (f x) ≡ true). (x, or-left (eqb x x) (elem x l) (eq-eqb x x refl), h))
+    (λ (h : elem v (f x) ≡ true). (x, or-first (eqb x x) (elem x l) (eq-eqb x x refl), h))
     (λ (h : elem v (flatMap f l) ≡ true). further (elem-flat f v l h))
     (or-cases (elem v (f x)) (elem v (flatMap f l)) (sym (elem-join v (f x) (flatMap f l)) ∙ e))
   where
     further : ((u : ℕ) × (elem u l ≡ true) × (elem v (f u) ≡ true)) → (u : ℕ) × (eqb x u || elem u l ≡ true) × (elem v (f u) ≡ true)
-    further r = (r .0, or-right (eqb x (r .0)) (elem (r .0) l) (r .1), r .2)
+    further r = (r .0, or-second (eqb x (r .0)) (elem (r .0) l) (r .1), r .2)
 
 pub flat-elem : (f : ℕ → List ℕ) (v u : ℕ) (l : List ℕ) → elem u l ≡ true → elem v (f u) ≡ true → elem v (flatMap f l) ≡ true
 unfolding flatMap elem
@@ -116,8 +93,8 @@ flat-elem f v u [] e h = absurd (clash e refl)
 flat-elem f v u (x ∷ l) e h =
     elem-join v (f x) (flatMap f l)
     ∙ ⊎-elim
-    (λ (t : eqb x u ≡ true). or-left (elem v (f x)) (elem v (flatMap f l)) (ap (λ (y : ℕ). elem v (f y)) (eqb-true x u t) ∙ h))
-    (λ (t : elem u l ≡ true). or-right (elem v (f x)) (elem v (flatMap f l)) (flat-elem f v u l t h))
+    (λ (t : eqb x u ≡ true). or-first (elem v (f x)) (elem v (flatMap f l)) (ap (λ (y : ℕ). elem v (f y)) (eqb-true x u t) ∙ h))
+    (λ (t : elem u l ≡ true). or-second (elem v (f x)) (elem v (flatMap f l)) (flat-elem f v u l t h))
     (or-cases (eqb x u) (elem u l) e)
 
 -- ---- none twice
@@ -136,7 +113,7 @@ unfolding over
 single-over found [] s = s
 single-over found (w ∷ ws) s = single-over (discover found w) ws (single-discover found w s)
 
-pub single-explore : (n : ℕ) (arrows : List Arrow) (found column : List ℕ) → ((v : ℕ) → times v found ≤ 1) → (v : ℕ) → times v (explore n arrows found column) ≤ 1
+pub single-explore : (n : ℕ) (arrows : List EndPair) (found column : List ℕ) → ((v : ℕ) → times v found ≤ 1) → (v : ℕ) → times v (explore n arrows found column) ≤ 1
 unfolding explore
 single-explore n arrows found column s = single-over found (flatMap (successors n arrows) column) s
 
@@ -145,7 +122,7 @@ single-one start v = by-bool (eqb start v) (λ e. omega (arith, times-one v star
 
 -- ---- all columns
 
-pub found-new : (n : ℕ) (arrows : List Arrow) (found column : List ℕ) → found ++ drop (length found) (explore n arrows found column) ≡ explore n arrows found column
+pub found-new : (n : ℕ) (arrows : List EndPair) (found column : List ℕ) → found ++ drop (length found) (explore n arrows found column) ≡ explore n arrows found column
 found-new n arrows found column =
     ap (λ (l : List ℕ). l ++ drop (length found) (explore n arrows found column)) (sym (explore-front (length found) n arrows found column (omega arith) ∙ take-length found))
     ∙ take-append-drop (length found) (explore n arrows found column)
@@ -158,7 +135,7 @@ pub concat-none : concat [] ≡ []
 unfolding concat flatMap
 concat-none = refl
 
-pub columns-more : (n : ℕ) (arrows : List Arrow) (most : ℕ) (found column : List ℕ) → (length (drop (length found) (explore n arrows found column)) ≡ 0 → ⊥)
+pub columns-more : (n : ℕ) (arrows : List EndPair) (most : ℕ) (found column : List ℕ) → (length (drop (length found) (explore n arrows found column)) ≡ 0 → ⊥)
     → found ++ concat (columnsAfter n arrows (suc most) found column)
     ≡ explore n arrows found column ++ concat (columnsAfter n arrows most (explore n arrows found column) (drop (length found) (explore n arrows found column)))
 columns-more n arrows most found column d =
@@ -172,7 +149,7 @@ columns-more n arrows most found column d =
     ∙ ap (λ (l : List ℕ). l ++ concat rest) (found-new n arrows found column)
 
 -- what each step of the search keeps, all columns have
-pub search-keeps : (n : ℕ) (arrows : List Arrow) (P : List ℕ → Type 0) → ((found column : List ℕ) → P found → P (explore n arrows found column)) → (most : ℕ) (found column : List ℕ) → P found
+pub search-keeps : (n : ℕ) (arrows : List EndPair) (P : List ℕ → Type 0) → ((found column : List ℕ) → P found → P (explore n arrows found column)) → (most : ℕ) (found column : List ℕ) → P found
     → P (found ++ concat (columnsAfter n arrows most found column))
 search-keeps n arrows P keeps zero found column p = subst P (sym (ap (λ (cs : List (List ℕ)). found ++ concat cs) (after-end n arrows 0 found column (omega arith)) ∙ ap (λ (l : List ℕ). found ++ l) concat-none ∙ append-nil found)) p
 search-keeps n arrows P keeps (suc most) found column p =

@@ -10,57 +10,42 @@ use lib.Dec.{ltb, eqb}
 use lib.ListN.{length, take, drop, length-append}
 use lib.Seq.{take-append-le, take-take, length-take-le}
 use Rattle.laws.specs.Cases.{by-bool}
-use Rattle.laws.specs.Filter.{filter}
+use Rattle.laws.specs.Filter.{filterBy}
 use Rattle.laws.specs.Flat.{table}
-use Rattle.laws.specs.Loops.{over, over-join}
-use Rattle.columns.specs.Columns.{Arrow, arrowsOf, source, target, joins, leaves, successors, elem, discover, explore, columnsAfter, reached, isNew, unreached}
-use Rattle.columns.specs.Split.{split, sum}
+use Rattle.laws.specs.Loops.{over, over-join, less-one}
+use Rattle.laws.specs.Split.{split, sumAll}
+use Rattle.laws.specs.Bools.{and-first, and-second, or-second, or-assoc, or-false}
+use Rattle.columns.specs.Columns.{EndPair, endPairs, source, target, pairBetween, leaves, successors, elem, discover, explore, columnsAfter, reached, isNew, unreached}
 
 -- those found and those not found are as many as there are states
 abbrev pub Fair : ℕ → List ℕ → Type 0
 Fair n found = length found + length (unreached n found) ≡ n
 
 -- what is found when one arrow is followed from v
-unfoldable pub follow : ℕ → ℕ → List ℕ → Arrow → List ℕ
+unfoldable pub follow : ℕ → ℕ → List ℕ → EndPair → List ℕ
 follow n v found a = let more = discover found (target a) in cond (leaves n v a) more found
 
 -- k columns of p states are all that are reached
 abbrev pub Reached : List ℕ → List ℕ → ℕ → List ℕ → List ℕ → ℕ → ℕ → Type 0
 Reached sources targets start order sizes k p =
-    (p ≤ length order) × (k ≤ length order + 1) × Fair (length order) (take p order) × (sum (take k sizes) ≡ p) × (split (take k sizes) (take p order) ≡ reached (length order) (arrowsOf sources targets) start)
+    (p ≤ length order) × (k ≤ length order + 1) × Fair (length order) (take p order) × (sumAll (take k sizes) ≡ p) × (split (take k sizes) (take p order) ≡ reached (length order) (endPairs sources targets) start)
 
 -- ---- one state more
 
 pub elem-snoc : (w x : ℕ) (l : List ℕ) → elem w (l ++ (x ∷ [])) ≡ elem w l || eqb x w
 unfolding elem
 elem-snoc w x [] = or-false (eqb x w)
-  where
-    or-false : (b : Bool) → b || false ≡ b
-    or-false true = refl
-    or-false false = refl
-elem-snoc w x (y ∷ l) = ap (λ (b : Bool). eqb y w || b) (elem-snoc w x l) ∙ or-assoc (eqb y w) (elem w l) (eqb x w)
-  where
-    or-assoc : (a b c : Bool) → a || (b || c) ≡ (a || b) || c
-    or-assoc true b c = refl
-    or-assoc false b c = refl
-
-or-false : (b : Bool) → b || false ≡ b
-or-false true = refl
-or-false false = refl
-
-or-true : (b : Bool) → b || true ≡ true
-or-true true = refl
-or-true false = refl
+elem-snoc w x (y ∷ l) = ap (λ (b : Bool). eqb y w || b) (elem-snoc w x l) ∙ sym (or-assoc (eqb y w) (elem w l) (eqb x w))
 
 module _ (found : List ℕ) (w : ℕ) where
   other-new : (v : ℕ) → (w ≡ v → ⊥) → isNew (found ++ (w ∷ [])) v ≡ isNew found v
   other-new v d = ap not (elem-snoc v w found ∙ ap (λ (b : Bool). elem v found || b) (ne-eqb w v d) ∙ or-false (elem v found))
 
   not-new : isNew (found ++ (w ∷ [])) w ≡ false
-  not-new = ap not (elem-snoc w w found ∙ ap (λ (b : Bool). elem w found || b) (eq-eqb w w refl) ∙ or-true (elem w found))
+  not-new = ap not (elem-snoc w w found ∙ ap (λ (b : Bool). elem w found || b) (eq-eqb w w refl) ∙ or-second (elem w found) true refl)
 
-  above : (k m : ℕ) → w < k → filter (isNew (found ++ (w ∷ []))) (table (λ (v : ℕ). v) k m) ≡ filter (isNew found) (table (λ (v : ℕ). v) k m)
-  unfolding table filter
+  above : (k m : ℕ) → w < k → filterBy (isNew (found ++ (w ∷ []))) (table (λ (v : ℕ). v) k m) ≡ filterBy (isNew found) (table (λ (v : ℕ). v) k m)
+  unfolding table filterBy
   above k zero h = refl
   above k (suc m) h = rw (other-new k (λ e. not-self k (subst (λ (j : ℕ). j < k) e h)), above (suc k) m (omega arith))
     where
@@ -68,8 +53,8 @@ module _ (found : List ℕ) (w : ℕ) where
       not-self k h = omega arith
 
   one-less : isNew found w ≡ true → (k m : ℕ) → k ≤ w → w < k + m
-      → length (filter (isNew found) (table (λ (v : ℕ). v) k m)) ≡ suc (length (filter (isNew (found ++ (w ∷ []))) (table (λ (v : ℕ). v) k m)))
-  unfolding table filter
+      → length (filterBy (isNew found) (table (λ (v : ℕ). v) k m)) ≡ suc (length (filterBy (isNew (found ++ (w ∷ []))) (table (λ (v : ℕ). v) k m)))
+  unfolding table filterBy
   one-less t k zero h i = absurd (omega arith)
   one-less t k (suc m) h i =
       by-bool (eqb w k)
@@ -103,8 +88,8 @@ discover-fair : (n : ℕ) (found : List ℕ) (w : ℕ) → Fair n found → w < 
 discover-fair n found w f h =
     by-bool (elem w found) (λ e. rw (discover-old found w e) f) (λ e. rw (discover-new found w e) (fair-more n found w f h e))
 
-all-new : (k m : ℕ) → length (filter (isNew []) (table (λ (v : ℕ). v) k m)) ≡ m
-unfolding table filter elem
+all-new : (k m : ℕ) → length (filterBy (isNew []) (table (λ (v : ℕ). v) k m)) ≡ m
+unfolding table filterBy elem
 all-new k zero = refl
 all-new k (suc m) = ap suc (all-new (suc k) m)
 
@@ -114,59 +99,50 @@ fair-start n start h = discover-fair n [] start (omega (arith, all-new 0 n)) h
 
 -- ---- arrow by arrow
 
-and-left : (a b : Bool) → a && b ≡ true → a ≡ true
-and-left true b e = refl
-and-left false b e = e
-
-and-right : (a b : Bool) → a && b ≡ true → b ≡ true
-and-right true b e = e
-and-right false true e = refl
-and-right false false e = e
-
 module _ (n v : ℕ) where
   -- an arrow that counts leads to one of the states
-  pub target-in : (a : Arrow) → leaves n v a ≡ true → target a < n
+  pub target-in : (a : EndPair) → leaves n v a ≡ true → target a < n
   target-in a e =
       ltb-true (target a) n
-      (and-right (ltb (source a) n) (ltb (target a) n) (and-left (ltb (source a) n && ltb (target a) n) (not (eqb (source a) (target a))) (and-left (joins n a) (eqb (source a) v) e)))
+      (and-second (ltb (source a) n) (ltb (target a) n) (and-first (ltb (source a) n && ltb (target a) n) (not (eqb (source a) (target a))) (and-first (pairBetween n a) (eqb (source a) v) e)))
 
-  pub follow-yes : (found : List ℕ) (a : Arrow) → leaves n v a ≡ true → follow n v found a ≡ discover found (target a)
+  pub follow-yes : (found : List ℕ) (a : EndPair) → leaves n v a ≡ true → follow n v found a ≡ discover found (target a)
   unfolding follow
   follow-yes found a e = rw e
 
-  pub follow-no : (found : List ℕ) (a : Arrow) → leaves n v a ≡ false → follow n v found a ≡ found
+  pub follow-no : (found : List ℕ) (a : EndPair) → leaves n v a ≡ false → follow n v found a ≡ found
   unfolding follow
   follow-no found a e = rw e
 
-  pub follow-fair : (found : List ℕ) (a : Arrow) → Fair n found → Fair n (follow n v found a)
+  pub follow-fair : (found : List ℕ) (a : EndPair) → Fair n found → Fair n (follow n v found a)
   follow-fair found a f =
       by-bool (leaves n v a)
       (λ e. rw (follow-yes found a e) (discover-fair n found (target a) f (target-in a e)))
       (λ e. rw (follow-no found a e) f)
 
-  follows-fair : (found : List ℕ) (arrows : List Arrow) → Fair n found → Fair n (over (follow n v) found arrows)
+  follows-fair : (found : List ℕ) (arrows : List EndPair) → Fair n found → Fair n (over (follow n v) found arrows)
   unfolding over
   follows-fair found [] f = f
   follows-fair found (a ∷ l) f = follows-fair (follow n v found a) l (follow-fair found a f)
 
   -- the arrows that leave v, followed in their order
-  pub follows : (found : List ℕ) (arrows : List Arrow) → over (follow n v) found arrows ≡ over discover found (successors n arrows v)
-  unfolding over successors filter
+  pub follows : (found : List ℕ) (arrows : List EndPair) → over (follow n v) found arrows ≡ over discover found (successors n arrows v)
+  unfolding over successors filterBy
   follows found [] = refl
   follows found (a ∷ l) =
       by-bool (leaves n v a)
       (λ e. rw (follow-yes found a e, e) (follows (discover found (target a)) l))
       (λ e. rw (follow-no found a e, e) (follows found l))
 
-pub visit-fair : (n v : ℕ) (found : List ℕ) (arrows : List Arrow) → Fair n found → Fair n (over discover found (successors n arrows v))
+pub visit-fair : (n v : ℕ) (found : List ℕ) (arrows : List EndPair) → Fair n found → Fair n (over discover found (successors n arrows v))
 visit-fair n v found arrows f = subst (Fair n) (follows n v found arrows) (follows-fair n v found arrows f)
 
 -- ---- column by column
 
-module _ (n : ℕ) (arrows : List Arrow) where
-  pub explore-turn : (found : List ℕ) (v : ℕ) (column : List ℕ) → explore n arrows (over discover found (successors n arrows v)) column ≡ explore n arrows found (v ∷ column)
+module _ (n : ℕ) (arrows : List EndPair) where
+  pub explore-one : (found : List ℕ) (v : ℕ) (column : List ℕ) → explore n arrows (over discover found (successors n arrows v)) column ≡ explore n arrows found (v ∷ column)
   unfolding explore flatMap
-  explore-turn found v column = sym (over-join discover found (successors n arrows v) (flatMap (successors n arrows) column))
+  explore-one found v column = sym (over-join discover found (successors n arrows v) (flatMap (successors n arrows) column))
 
   pub explore-end : (found : List ℕ) → explore n arrows found [] ≡ found
   unfolding explore flatMap over
@@ -175,7 +151,7 @@ module _ (n : ℕ) (arrows : List Arrow) where
   pub explore-fair : (found column : List ℕ) → Fair n found → Fair n (explore n arrows found column)
   explore-fair found [] f = rw (explore-end found) f
   explore-fair found (v ∷ column) f =
-      rw (← (explore-turn found v column)) (explore-fair (over discover found (successors n arrows v)) column (visit-fair n v found arrows f))
+      rw (← (explore-one found v column)) (explore-fair (over discover found (successors n arrows v)) column (visit-fair n v found arrows f))
 
 -- ---- what is found stays where it is
 
@@ -207,10 +183,7 @@ front-kept k p q l m ws h i j e =
 
 -- ---- the columns after a column, by what is found
 
-down : (k : ℕ) → suc k - 1 ≡ k
-down k = omega arith
-
-module _ (n : ℕ) (arrows : List Arrow) (found column all : List ℕ) (e : all ≡ explore n arrows found column) where
+module _ (n : ℕ) (arrows : List EndPair) (found column all : List ℕ) (e : all ≡ explore n arrows found column) where
   pub after-none : (most : ℕ) → length (drop (length found) all) ≡ 0 → columnsAfter n arrows most found column ≡ []
   unfolding columnsAfter
   after-none zero h = refl
@@ -220,17 +193,17 @@ module _ (n : ℕ) (arrows : List Arrow) (found column all : List ℕ) (e : all 
       → columnsAfter n arrows most found column ≡ drop (length found) all ∷ columnsAfter n arrows (most - 1) all (drop (length found) all)
   unfolding columnsAfter
   after-more zero h d = absurd (not-suc-le-zero h)
-  after-more (suc most) h d = rw (← e, ne-eqb (length (drop (length found) all)) 0 d, down)
+  after-more (suc most) h d = rw (← e, ne-eqb (length (drop (length found) all)) 0 d, less-one)
 
-pub after-end : (n : ℕ) (arrows : List Arrow) (most : ℕ) (found column : List ℕ) → most ≤ 0 → columnsAfter n arrows most found column ≡ []
+pub after-end : (n : ℕ) (arrows : List EndPair) (most : ℕ) (found column : List ℕ) → most ≤ 0 → columnsAfter n arrows most found column ≡ []
 unfolding columnsAfter
 after-end n arrows zero found column h = refl
 after-end n arrows (suc most) found column h = absurd (not-suc-le-zero h)
 
-pub explore-front : (k : ℕ) (n : ℕ) (arrows : List Arrow) (found column : List ℕ) → k ≤ length found → take k (explore n arrows found column) ≡ take k found
+pub explore-front : (k : ℕ) (n : ℕ) (arrows : List EndPair) (found column : List ℕ) → k ≤ length found → take k (explore n arrows found column) ≡ take k found
 unfolding explore
 explore-front k n arrows found column h = over-front k found (flatMap (successors n arrows) column) h
 
-pub explore-grows : (n : ℕ) (arrows : List Arrow) (found column : List ℕ) → length found ≤ length (explore n arrows found column)
+pub explore-grows : (n : ℕ) (arrows : List EndPair) (found column : List ℕ) → length found ≤ length (explore n arrows found column)
 unfolding explore
 explore-grows n arrows found column = over-grows found (flatMap (successors n arrows) column)

@@ -1,6 +1,4 @@
-pub mod Lists
 pub mod Columns
-pub mod Split
 pub mod Found
 pub mod Elements
 pub mod Once

@@ -8,26 +8,27 @@ use native.Mathlib.Omega.{arith}
 use borrow.Author.Tests.{eqb-true, eqb-false}
 use lib.Dec.{eqb}
 use Rattle.laws.specs.Cases.{by-bool}
-use Rattle.laws.specs.Counting.{number}
-use Rattle.laws.specs.Filter.{filter}
+use Rattle.laws.specs.Counting.{howMany}
+use Rattle.laws.specs.Filter.{filterBy}
 use Rattle.laws.specs.Flat.{table}
-use Rattle.columns.specs.Columns.{Arrow, target, leaves, successors, elem, columnsAfter, reached, isNew, unreached, concat, lastColumn, columns}
+use Rattle.laws.specs.Bools.{or-cases, clash}
+use Rattle.columns.specs.Columns.{EndPair, target, leaves, successors, elem, columnsAfter, reached, isNew, unreached, concat, lastColumn, columns}
 use Rattle.columns.specs.Found.{target-in}
-use Rattle.columns.specs.Elements.{times, or-cases, clash, times-join, times-none, times-some, elem-explore, elem-flat, single-explore, single-one, concat-cons, concat-none, search-keeps}
+use Rattle.columns.specs.Elements.{times, times-join, times-none, times-some, elem-explore, elem-flat, single-explore, single-one, concat-cons, concat-none, search-keeps}
 
 -- ---- some of a run of numbers
 
 module _ (p : ℕ → Bool) (v : ℕ) where
-  none-of : p v ≡ false → (k m : ℕ) → times v (filter p (table (λ (w : ℕ). w) k m)) ≡ 0
-  unfolding filter table number
+  none-of : p v ≡ false → (k m : ℕ) → times v (filterBy p (table (λ (w : ℕ). w) k m)) ≡ 0
+  unfolding filterBy table howMany
   none-of t k zero = refl
   none-of t k (suc m) =
       by-bool (p k)
       (λ s. by-bool (eqb k v) (λ e. absurd (clash s (ap p (eqb-true k v e) ∙ t))) (λ e. rw (s, e) (omega (arith, none-of t (suc k) m))))
       (λ s. rw s (none-of t (suc k) m))
 
-  none-before : (k m : ℕ) → v < k → times v (filter p (table (λ (w : ℕ). w) k m)) ≡ 0
-  unfolding filter table number
+  none-before : (k m : ℕ) → v < k → times v (filterBy p (table (λ (w : ℕ). w) k m)) ≡ 0
+  unfolding filterBy table howMany
   none-before k zero h = refl
   none-before k (suc m) h =
       by-bool (p k)
@@ -37,8 +38,8 @@ module _ (p : ℕ → Bool) (v : ℕ) where
       not-self : (k v : ℕ) → k ≡ v → v < k → ⊥
       not-self k v e h = omega arith
 
-  none-after : (k m : ℕ) → k + m ≤ v → times v (filter p (table (λ (w : ℕ). w) k m)) ≡ 0
-  unfolding filter table number
+  none-after : (k m : ℕ) → k + m ≤ v → times v (filterBy p (table (λ (w : ℕ). w) k m)) ≡ 0
+  unfolding filterBy table howMany
   none-after k zero h = refl
   none-after k (suc m) h =
       by-bool (p k)
@@ -48,8 +49,8 @@ module _ (p : ℕ → Bool) (v : ℕ) where
       not-self : (k v m : ℕ) → k ≡ v → k + suc m ≤ v → ⊥
       not-self k v m e h = omega arith
 
-  one-of : p v ≡ true → (k m : ℕ) → k ≤ v → v < k + m → times v (filter p (table (λ (w : ℕ). w) k m)) ≡ 1
-  unfolding filter table number
+  one-of : p v ≡ true → (k m : ℕ) → k ≤ v → v < k + m → times v (filterBy p (table (λ (w : ℕ). w) k m)) ≡ 1
+  unfolding filterBy table howMany
   one-of t k zero h i = absurd (omega arith)
   one-of t k (suc m) h i =
       by-bool (eqb k v)
@@ -65,12 +66,12 @@ module _ (p : ℕ → Bool) (v : ℕ) where
 pub is-new : (n : ℕ) (found : List ℕ) (v : ℕ) → v < n → elem v found ≡ false → elem v (unreached n found) ≡ true
 unfolding unreached
 is-new n found v h e =
-    by-bool (elem v (filter (isNew found) (table (λ (w : ℕ). w) 0 n))) (λ t. t)
-    (λ t. absurd (omega (arith, times-none v (filter (isNew found) (table (λ (w : ℕ). w) 0 n)) t, one-of (isNew found) v (ap not e) 0 n (omega arith) (omega arith))))
+    by-bool (elem v (filterBy (isNew found) (table (λ (w : ℕ). w) 0 n))) (λ t. t)
+    (λ t. absurd (omega (arith, times-none v (filterBy (isNew found) (table (λ (w : ℕ). w) 0 n)) t, one-of (isNew found) v (ap not e) 0 n (omega arith) (omega arith))))
 
 -- ---- the columns that are reached
 
-module _ (n : ℕ) (arrows : List Arrow) (start : ℕ) where
+module _ (n : ℕ) (arrows : List EndPair) (start : ℕ) where
   -- no state is in them twice
   pub reached-single : (v : ℕ) → times v (concat (reached n arrows start)) ≤ 1
   unfolding reached
@@ -78,14 +79,14 @@ module _ (n : ℕ) (arrows : List Arrow) (start : ℕ) where
       subst (λ (l : List ℕ). times v l ≤ 1) (sym (concat-cons (start ∷ []) (columnsAfter n arrows n (start ∷ []) (start ∷ []))))
       (search-keeps n arrows (λ (l : List ℕ). (u : ℕ) → times u l ≤ 1) (single-explore n arrows) n (start ∷ []) (start ∷ []) (single-one start) v)
 
-  successors-in : (l : List Arrow) (u v : ℕ) → elem v (successors n l u) ≡ true → v < n
-  unfolding successors filter elem
+  successors-in : (l : List EndPair) (u v : ℕ) → elem v (successors n l u) ≡ true → v < n
+  unfolding successors filterBy elem
   successors-in [] u v e = absurd (clash e refl)
   successors-in (a ∷ l) u v e =
       by-bool (leaves n u a)
-      (λ t. ⊎-elim (λ (h : eqb (target a) v ≡ true). subst (λ (w : ℕ). w < n) (eqb-true (target a) v h) (target-in n u a t)) (λ (h : elem v (map target (filter (leaves n u) l)) ≡ true). successors-in l u v h)
-      (or-cases (eqb (target a) v) (elem v (map target (filter (leaves n u) l))) (sym (ap (λ (b : Bool). elem v (map target (cond b (a ∷ filter (leaves n u) l) (filter (leaves n u) l)))) t) ∙ e)))
-      (λ t. successors-in l u v (sym (ap (λ (b : Bool). elem v (map target (cond b (a ∷ filter (leaves n u) l) (filter (leaves n u) l)))) t) ∙ e))
+      (λ t. ⊎-elim (λ (h : eqb (target a) v ≡ true). subst (λ (w : ℕ). w < n) (eqb-true (target a) v h) (target-in n u a t)) (λ (h : elem v (map target (filterBy (leaves n u) l)) ≡ true). successors-in l u v h)
+      (or-cases (eqb (target a) v) (elem v (map target (filterBy (leaves n u) l))) (sym (ap (λ (b : Bool). elem v (map target (cond b (a ∷ filterBy (leaves n u) l) (filterBy (leaves n u) l)))) t) ∙ e)))
+      (λ t. successors-in l u v (sym (ap (λ (b : Bool). elem v (map target (cond b (a ∷ filterBy (leaves n u) l) (filterBy (leaves n u) l)))) t) ∙ e))
 
   -- only states are in them
   pub reached-in : start < n → (v : ℕ) → elem v (concat (reached n arrows start)) ≡ true → v < n
@@ -111,7 +112,7 @@ concat-last : (u : List ℕ) → concat (lastColumn u) ≡ u
 concat-last [] = concat-none
 concat-last (v ∷ u) = concat-cons (v ∷ u) [] ∙ ap (λ (l : List ℕ). v ∷ u ++ l) concat-none ∙ append-nil (v ∷ u)
 
-module _ (n : ℕ) (arrows : List Arrow) (start : ℕ) where
+module _ (n : ℕ) (arrows : List EndPair) (start : ℕ) where
   all-states : concat (columns n arrows start) ≡ concat (reached n arrows start) ++ unreached n (concat (reached n arrows start))
   unfolding columns
   all-states =

@@ -5,11 +5,11 @@ ghost use mathlib.Core.Bool.{false};
 ghost use mathlib.Core.List.{[], _∷_, _++_};
 ghost use Prim.Native.Nat.{_+_, _≤_, _<_};
 ghost use lib.ListN.{length, take, drop};
-ghost use Rattle.laws.specs.Filter.{filter};
+ghost use Rattle.laws.specs.Filter.{filterBy};
 ghost use Rattle.laws.specs.Loops.{over};
+ghost use Rattle.laws.specs.Split.{split, sumAll};
 ghost use Rattle.columns.specs.Columns as D;
 ghost use Rattle.columns.specs.Found.{Fair, Reached, follow};
-ghost use Rattle.columns.specs.Split.{split, sum};
 
 // How many columns there are, and how many states they hold.
 pub struct Filled {
@@ -18,7 +18,7 @@ pub struct Filled {
 }
 
 // Whether w is one of a list.
-pub fn holds(list: &[usize], w: usize) -> bool
+pub fn contains(list: &[usize], w: usize) -> bool
     ensures { λ r. ⌜ r ≡ D.elem w (now (list .entry)) ⌝ }
 {
     for i in 0..list.len() {
@@ -31,20 +31,26 @@ pub fn holds(list: &[usize], w: usize) -> bool
 
 // Whether an arrow from a to b leads from v to another state of n.
 fn leaves(n: usize, v: usize, a: usize, b: usize) -> bool
-    ensures { λ r. ⌜ r ≡ D.leaves n v (D.arrow a b) ⌝ }
+    ensures { λ r. ⌜ r ≡ D.leaves n v (D.endPair a b) ⌝ }
 {
     if a == v {
-        return rim::apart(n, a, b);
+        return directions::is_between(n, a, b);
     }
     false
 }
 
 // Puts w behind the first p states, where it is none of them; how many there are then.
 fn discover(order: &mut [usize], p: usize, w: usize) -> usize
-    requires { ⌜ (w < length (now order)) × (p ≤ length (now order)) × Fair (length (now order)) (take p (now order)) ⌝ }
-    ensures { λ r. ⌜ (r ≤ length (now (order .entry))) × (take r (now (order .exit)) ≡ D.discover (take p (now (order .entry))) w) ⌝ }
+    requires { let states = length (now order) in
+        ⌜ (w < states)
+        × (p ≤ states)
+        × Fair states (take p (now order)) ⌝ }
+    ensures { λ r. ⌜
+        (r ≤ length (now (order .entry)))
+        × (take r (now (order .exit)) ≡ D.discover (take p (now (order .entry))) w)
+        ⌝ }
 {
-    if holds(&order[..p], w) {
+    if contains(&order[..p], w) {
         return p;
     }
     order[p] = w;
@@ -54,7 +60,10 @@ fn discover(order: &mut [usize], p: usize, w: usize) -> usize
 // Follows one arrow from v.
 fn follow(order: &mut [usize], p: usize, v: usize, a: usize, b: usize) -> usize
     requires { ⌜ (p ≤ length (now order)) × Fair (length (now order)) (take p (now order)) ⌝ }
-    ensures { λ r. ⌜ (r ≤ length (now (order .entry))) × (take r (now (order .exit)) ≡ follow (length (now (order .entry))) v (take p (now (order .entry))) (D.arrow a b)) ⌝ }
+    ensures { λ r.
+        let states = length (now (order .entry)) in
+        ⌜ (r ≤ states)
+        × (take r (now (order .exit)) ≡ follow states v (take p (now (order .entry))) (D.endPair a b)) ⌝ }
 {
     let n = order.len();
     if leaves(n, v, a, b) {
@@ -65,8 +74,17 @@ fn follow(order: &mut [usize], p: usize, v: usize, a: usize, b: usize) -> usize
 
 // Follows the arrows that leave v.
 fn visit(sources: &[usize], targets: &[usize], order: &mut [usize], p: usize, v: usize) -> usize
-    requires { ⌜ (length (now targets) ≡ length (now sources)) × (p ≤ length (now order)) × Fair (length (now order)) (take p (now order)) ⌝ }
-    ensures { λ r. ⌜ (r ≤ length (now (order .entry))) × (take r (now (order .exit)) ≡ over D.discover (take p (now (order .entry))) (D.successors (length (now (order .entry))) (D.arrowsOf (now (sources .entry)) (now (targets .entry))) v)) ⌝ }
+    requires { ⌜
+        (length (now targets) ≡ length (now sources))
+        × (p ≤ length (now order))
+        × Fair (length (now order)) (take p (now order))
+        ⌝ }
+    ensures { λ r.
+        let states = length (now (order .entry)) in
+        let arrows = D.endPairs (now (sources .entry)) (now (targets .entry)) in
+        ⌜ (r ≤ states)
+        × (take r (now (order .exit))
+        ≡ over D.discover (take p (now (order .entry))) (D.successors states arrows v)) ⌝ }
 {
     let mut q = p;
     for i in 0..sources.len() {
@@ -83,8 +101,16 @@ fn explore(
     low: usize,
     high: usize,
 ) -> usize
-    requires { ⌜ (length (now targets) ≡ length (now sources)) × (high ≤ length (now order)) × Fair (length (now order)) (take high (now order)) ⌝ }
-    ensures { λ r. ⌜ (r ≤ length (now (order .entry))) × (take r (now (order .exit)) ≡ D.explore (length (now (order .entry))) (D.arrowsOf (now (sources .entry)) (now (targets .entry))) (take high (now (order .entry))) (drop low (take high (now (order .entry))))) ⌝ }
+    requires { ⌜
+        (length (now targets) ≡ length (now sources))
+        × (high ≤ length (now order))
+        × Fair (length (now order)) (take high (now order))
+        ⌝ }
+    ensures { λ r.
+        let states = length (now (order .entry)) in
+        let known = take high (now (order .entry)) in
+        let arrows = D.endPairs (now (sources .entry)) (now (targets .entry)) in
+        ⌜ (r ≤ states) × (take r (now (order .exit)) ≡ D.explore states arrows known (drop low known)) ⌝ }
 {
     let mut p = high;
     for i in low..high {
@@ -102,8 +128,15 @@ fn reach(
     order: &mut [usize],
     sizes: &mut [usize],
 ) -> Filled
-    requires { ⌜ (start < length (now order)) × (length (now targets) ≡ length (now sources)) × (length (now order) < length (now sizes)) ⌝ }
-    ensures { λ r. ⌜ Reached (now (sources .entry)) (now (targets .entry)) start (now (order .exit)) (now (sizes .exit)) (r .columns) (r .states) ⌝ }
+    requires { ⌜
+        (start < length (now order))
+        × (length (now targets) ≡ length (now sources))
+        × (length (now order) < length (now sizes))
+        ⌝ }
+    ensures { λ r. ⌜
+        Reached (now (sources .entry)) (now (targets .entry)) start (now (order .exit)) (now (sizes .exit))
+        (r .columns) (r .states)
+        ⌝ }
 {
     order[0] = start;
     sizes[0] = 1;
@@ -133,10 +166,18 @@ fn reach(
 
 // Puts v at place q, where it is none of the first p; the place after.
 fn put_new(order: &mut [usize], p: usize, q: usize, v: usize) -> usize
-    requires { ⌜ (p ≤ q) × (D.elem v (take p (now order)) ≡ false → q < length (now order)) × (q ≤ length (now order)) ⌝ }
-    ensures { λ r. ⌜ (r ≤ length (now (order .entry))) × (take r (now (order .exit)) ≡ take q (now (order .entry)) ++ filter (D.isNew (take p (now (order .entry)))) (v ∷ [])) ⌝ }
+    requires { ⌜
+        (p ≤ q)
+        × (D.elem v (take p (now order)) ≡ false → q < length (now order))
+        × (q ≤ length (now order))
+        ⌝ }
+    ensures { λ r. ⌜
+        (r ≤ length (now (order .entry)))
+        × (take r (now (order .exit))
+        ≡ take q (now (order .entry)) ++ filterBy (D.isNew (take p (now (order .entry)))) (v ∷ []))
+        ⌝ }
 {
-    if holds(&order[..p], v) {
+    if contains(&order[..p], v) {
         return q;
     }
     order[q] = v;
@@ -146,7 +187,9 @@ fn put_new(order: &mut [usize], p: usize, q: usize, v: usize) -> usize
 // Puts the states that are not among the first p behind them.
 fn put_unreached(order: &mut [usize], p: usize)
     requires { ⌜ (p ≤ length (now order)) × Fair (length (now order)) (take p (now order)) ⌝ }
-    ensures { λ _. ⌜ now (order .exit) ≡ take p (now (order .entry)) ++ D.unreached (length (now (order .entry))) (take p (now (order .entry))) ⌝ }
+    ensures { λ _.
+        let reached = take p (now (order .entry)) in
+        ⌜ now (order .exit) ≡ reached ++ D.unreached (length (now (order .entry))) reached ⌝ }
 {
     let mut q = p;
     for v in 0..order.len() {
@@ -155,15 +198,25 @@ fn put_unreached(order: &mut [usize], p: usize)
 }
 
 // The columns; how many. `sizes` has two places more than there are states.
-pub fn fill(
+pub fn fill_columns(
     start: usize,
     sources: &[usize],
     targets: &[usize],
     order: &mut [usize],
     sizes: &mut [usize],
 ) -> usize
-    requires { ⌜ (start < length (now order)) × (length (now targets) ≡ length (now sources)) × (length (now order) + 1 < length (now sizes)) ⌝ }
-    ensures { λ r. ⌜ (r ≤ length (now (sizes .entry))) × (sum (take r (now (sizes .exit))) ≡ length (now (order .entry))) × (split (take r (now (sizes .exit))) (now (order .exit)) ≡ D.columns (length (now (order .entry))) (D.arrowsOf (now (sources .entry)) (now (targets .entry))) start) ⌝ }
+    requires { ⌜
+        (start < length (now order))
+        × (length (now targets) ≡ length (now sources))
+        × (length (now order) + 1 < length (now sizes))
+        ⌝ }
+    ensures { λ r.
+        let used = take r (now (sizes .exit)) in
+        let states = length (now (order .entry)) in
+        let arrows = D.endPairs (now (sources .entry)) (now (targets .entry)) in
+        ⌜ (r ≤ length (now (sizes .entry)))
+        × (sumAll used ≡ states)
+        × (split used (now (order .exit)) ≡ D.columns states arrows start) ⌝ }
 {
     let found = reach(start, sources, targets, order, sizes);
     let n = order.len();

@@ -6,13 +6,12 @@ use lib.Ieee.{Float}
 use Rattle.sheet.specs.Sheet.{Graph, flagsOf}
 use Rattle.meaning.specs.Read.{sources, targets}
 use Rattle.graph.specs.Sizes.{widths, heights}
-use Rattle.routing.specs.Passes.{sizesBy}
-use Rattle.routing.specs.Sheets.{frameOf, sizesOf}
-use Rattle.routing.specs.Frames.{sizes-sheet}
-use Rattle.route.specs.Geometry.{frameAt, frame-graph}
+use Rattle.routing.specs.Sheets.{sizesBy, frameOf, sizesOf}
+use Rattle.routing_laws.specs.Frames.{sizes-sheet}
+use Rattle.geometry.specs.Geometry.{frameFrom, frame-graph}
 
 pub frame-read : (g : Graph) (xs ys : List Float) (flags from to : List ℕ) → flags ≡ flagsOf g → from ≡ sources g → to ≡ targets g
-    → frameAt flags xs ys from to ≡ frameOf g xs ys
+    → frameFrom flags xs ys from to ≡ frameOf g xs ys
 frame-read g xs ys flags from to e f h = rw (e, f, h) (frame-graph g xs ys)
 
 pub sizes-read : (g : Graph) (ws hs : List Float) → ws ≡ widths g → hs ≡ heights g → sizesBy ws hs ≡ sizesOf g

@@ -2,7 +2,6 @@
 ghost use mathlib.Core.Path.{_≡_};
 ghost use Prim.Native.Nat.{_≤_};
 ghost use lib.ListN.{length};
-ghost use lib.Ieee.Scale.{finite};
 ghost use Rattle.sheet.specs.Sheet as G;
 ghost use Rattle.sheet.specs.Refusals as R;
 ghost use Rattle.draw.specs.Drawn as S;
@@ -17,18 +16,15 @@ pub enum Drawing {
 
 // ---- 8
 
-fn is_finite(v: f64) -> bool
-    ensures { λ r. ⌜ r ≡ finite v ⌝ }
-{
-    float::abs(v) < f64::from_bits(0x7ff0_0000_0000_0000)
-}
+// 2^20, beyond which 8 refuses a centre.
+const FARTHEST: f64 = 1048576.0;
 
-// Whether v is finite and beyond 2^20 in size.
+// Whether v is finite and beyond that in size.
 fn far(v: f64) -> bool
     ensures { λ r. ⌜ r ≡ S.far v ⌝ }
 {
-    if is_finite(v) {
-        return 1048576.0 < float::abs(v);
+    if float::is_finite(v) {
+        return FARTHEST < float::abs(v);
     }
     false
 }
@@ -76,23 +72,43 @@ fn draw_read(
     ys: &[f64],
     buf: &mut [f64],
 ) -> Drawing
-    requires { ⌜ (length (now flags) ≡ length (G.statesOf (now s))) × (length (G.statesOf (now s)) ≤ 64) × (5120 ≤ length (now buf)) ⌝ }
-    requires { ⌜ (length (now sources) ≡ length (G.arrowsOf (now s))) × (length (now targets) ≡ length (G.arrowsOf (now s))) ⌝ }
-    requires { ⌜ (length (now widths) ≡ length (G.arrowsOf (now s))) × (length (now heights) ≡ length (G.arrowsOf (now s))) × (length (G.arrowsOf (now s)) ≤ 256) ⌝ }
-    ensures { λ r. ⌜ (r ≡ S.answerBy (S.routeRefusals (G.meaning (now (s .entry))) (now (xs .entry)) (now (ys .entry))) (G.meaning (now (s .entry))) (now (xs .entry)) (now (ys .entry))) × (now (buf .exit) ≡ S.leftBy (S.routeRefusals (G.meaning (now (s .entry))) (now (xs .entry)) (now (ys .entry))) (G.meaning (now (s .entry))) (now (xs .entry)) (now (ys .entry)) (now (buf .entry))) ⌝ }
+    requires { let states = length (G.statesOf (now s)) in
+        ⌜ (length (now flags) ≡ states)
+        × (states ≤ 64)
+        × (5120 ≤ length (now buf)) ⌝ }
+    requires { let arrows = length (G.arrowsOf (now s)) in
+        ⌜ (length (now sources) ≡ arrows)
+        × (length (now targets) ≡ arrows)
+        × (length (now widths) ≡ arrows)
+        × (length (now heights) ≡ arrows)
+        × (arrows ≤ 256) ⌝ }
+    ensures { λ r.
+        let graph = G.meaning (now (s .entry)) in
+        let refusals = S.bowRefusals graph (now (xs .entry)) (now (ys .entry)) in
+        ⌜ (r ≡ S.drawAnswer refusals graph (now (xs .entry)) (now (ys .entry)))
+        × (now (buf .exit) ≡ S.leftBy refusals graph (now (xs .entry)) (now (ys .entry)) (now (buf .entry))) ⌝ }
 {
     graph::read(s, flags, sources, targets, widths, heights);
     if beyond::beyond(flags, sources, targets, xs, ys) {
         return Drawing::Refused(9);
     }
-    let n = route::geometry(flags, sources, targets, widths, heights, xs, ys, buf);
+    let n = geometry::geometry(flags, sources, targets, widths, heights, xs, ys, buf);
     Drawing::Records(n)
 }
 
 // Routes an accepted sheet of n states whose centres are not far.
 fn draw_near(s: &[u8], n: usize, xs: &[f64], ys: &[f64], buf: &mut [f64]) -> Drawing
-    requires { ⌜ (n ≡ length (G.statesOf (now s))) × (n ≤ 64) × (length (G.arrowsOf (now s)) ≤ 256) × (5120 ≤ length (now buf)) ⌝ }
-    ensures { λ r. ⌜ (r ≡ S.answerBy (S.routeRefusals (G.meaning (now (s .entry))) (now (xs .entry)) (now (ys .entry))) (G.meaning (now (s .entry))) (now (xs .entry)) (now (ys .entry))) × (now (buf .exit) ≡ S.leftBy (S.routeRefusals (G.meaning (now (s .entry))) (now (xs .entry)) (now (ys .entry))) (G.meaning (now (s .entry))) (now (xs .entry)) (now (ys .entry)) (now (buf .entry))) ⌝ }
+    requires { ⌜
+        (n ≡ length (G.statesOf (now s)))
+        × (n ≤ 64)
+        × (length (G.arrowsOf (now s)) ≤ 256)
+        × (5120 ≤ length (now buf))
+        ⌝ }
+    ensures { λ r.
+        let graph = G.meaning (now (s .entry)) in
+        let refusals = S.bowRefusals graph (now (xs .entry)) (now (ys .entry)) in
+        ⌜ (r ≡ S.drawAnswer refusals graph (now (xs .entry)) (now (ys .entry)))
+        × (now (buf .exit) ≡ S.leftBy refusals graph (now (xs .entry)) (now (ys .entry)) (now (buf .entry))) ⌝ }
 {
     let mut flags = [0u8; 64];
     let mut sources = [0usize; 256];
@@ -116,7 +132,11 @@ fn draw_near(s: &[u8], n: usize, xs: &[f64], ys: &[f64], buf: &mut [f64]) -> Dra
 // Routes an accepted sheet.
 fn draw_accepted(s: &[u8], xs: &[f64], ys: &[f64], buf: &mut [f64]) -> Drawing
     requires { ⌜ (R.checkOf R.mainScreen (now s) ≡ Accepted) × (5120 ≤ length (now buf)) ⌝ }
-    ensures { λ r. ⌜ (r ≡ S.answerBy (S.centreRefusals (G.meaning (now (s .entry))) (now (xs .entry)) (now (ys .entry))) (G.meaning (now (s .entry))) (now (xs .entry)) (now (ys .entry))) × (now (buf .exit) ≡ S.leftBy (S.centreRefusals (G.meaning (now (s .entry))) (now (xs .entry)) (now (ys .entry))) (G.meaning (now (s .entry))) (now (xs .entry)) (now (ys .entry)) (now (buf .entry))) ⌝ }
+    ensures { λ r.
+        let graph = G.meaning (now (s .entry)) in
+        let refusals = S.centreRefusals graph (now (xs .entry)) (now (ys .entry)) in
+        ⌜ (r ≡ S.drawAnswer refusals graph (now (xs .entry)) (now (ys .entry)))
+        × (now (buf .exit) ≡ S.leftBy refusals graph (now (xs .entry)) (now (ys .entry)) (now (buf .entry))) ⌝ }
 {
     let n = meaning::state_count(s);
     if far_centre(xs, ys, n) {
@@ -125,12 +145,17 @@ fn draw_accepted(s: &[u8], xs: &[f64], ys: &[f64], buf: &mut [f64]) -> Drawing
     draw_near(s, n, xs, ys, buf)
 }
 
-// Checks a sheet and routes it at the given centres: the records, twenty numbers each, from the front of `buf` on, or a refusal.
+// Checks a sheet and routes it at the given centres: the records, twenty numbers each, from the front of `buf` on,
+// or a refusal.
 pub fn draw(s: &[u8], xs: &[f64], ys: &[f64], buf: &mut [f64]) -> Drawing
     requires { ⌜ 5120 ≤ length (now buf) ⌝ }
-    ensures { λ r. ⌜ (r ≡ S.drawOf R.mainScreen (now (s .entry)) (now (xs .entry)) (now (ys .entry))) × (now (buf .exit) ≡ S.drawAfter R.mainScreen (now (s .entry)) (now (xs .entry)) (now (ys .entry)) (now (buf .entry))) ⌝ }
+    ensures { λ r. ⌜
+        (r ≡ S.drawOf R.mainScreen (now (s .entry)) (now (xs .entry)) (now (ys .entry)))
+        × (now (buf .exit)
+        ≡ S.drawAfter R.mainScreen (now (s .entry)) (now (xs .entry)) (now (ys .entry)) (now (buf .entry)))
+        ⌝ }
 {
-    let c = walk::check_within(s, sheet::main_screen());
+    let c = sheet_check::check_within(s, sheet::main_screen());
     match c {
         Checked::Refused(n) => Drawing::Refused(n),
         Checked::Accepted => draw_accepted(s, xs, ys, buf),

@@ -4,25 +4,25 @@ use mathlib.Core.List.{List, [], _∷_, _++_, map, flatMap}
 use Prim.Native.Nat.{ℕ}
 use lib.Ieee.{Float}
 use Rattle.laws.specs.Flat.{table}
-use Rattle.float.specs.Constants.{f2, f16, f22, f28}
+use Rattle.float.specs.Constants.{f2, margin, nodeRadius, startArrowLength}
 use Rattle.float.specs.Ops.{_⊕_, _⊖_, _⊗_}
 use Rattle.shape.specs.declared.«V».{«V»}
 use Rattle.shape.specs.declared.Rect.{Rect}
 use Rattle.shape.specs.Plane.{vec}
 use Rattle.trace.specs.Traces.{sample, boundsOf}
-use Rattle.spot.specs.declared.Geometry.{Geometry}
+use Rattle.label_spots.specs.declared.Geometry.{Geometry}
 use Rattle.sheet.specs.Meaning.{isStart}
 use Rattle.fit.specs.declared.Size.{Size}
 
 -- ---- what is covered, in the order of `fit`
 
--- the far end of a start state's arrow, 28 long, from the rim at 22
+-- the far end of a start state's arrow, which comes to the rim from the left
 abbrev pub startPoints : ℕ → «V» → List «V»
-startPoints flag c = cond (isStart flag) (vec (c .x ⊖ f22 ⊖ f28) (c .y) ∷ []) []
+startPoints flag c = cond (isStart flag) (vec (c .x ⊖ nodeRadius ⊖ startArrowLength) (c .y) ∷ []) []
 
--- two corners of the box around a state, 22 from its centre, then its start arrow
+-- two corners of the box around a state, then its start arrow
 unfoldable pub statePoints : ℕ → «V» → List «V»
-statePoints flag c = vec (c .x ⊖ f22) (c .y ⊖ f22) ∷ vec (c .x ⊕ f22) (c .y ⊕ f22) ∷ startPoints flag c
+statePoints flag c = vec (c .x ⊖ nodeRadius) (c .y ⊖ nodeRadius) ∷ vec (c .x ⊕ nodeRadius) (c .y ⊕ nodeRadius) ∷ startPoints flag c
 
 unfoldable pub statesPoints : List ℕ → List «V» → List «V»
 statesPoints [] cs = []
@@ -31,7 +31,7 @@ statesPoints (flag ∷ flags) (c ∷ cs) = statePoints flag c ++ statesPoints fl
 
 -- the points of the curve at k / 16, for k = 0 to 16, of a line's too; then two corners of the label box
 unfoldable pub drawnPoints : Geometry → List «V»
-drawnPoints g = table (sample (g .curve)) 0 17 ++ (vec (g .bounds .x0) (g .bounds .y0) ∷ vec (g .bounds .x1) (g .bounds .y1) ∷ [])
+drawnPoints g = table (sample (g .curve)) 0 17 ++ (vec (g .«label_box» .x0) (g .«label_box» .y0) ∷ vec (g .«label_box» .x1) (g .«label_box» .y1) ∷ [])
 
 -- the states, from their flags and centres, then the drawn arrows
 unfoldable pub covered : List ℕ → List «V» → List Geometry → List «V»
@@ -45,14 +45,14 @@ drawingBounds flags cs gs = boundsOf (covered flags cs gs)
 
 -- moved so that what is at `low` comes to the margin 16
 unfoldable pub shifted : Float → List Float → List Float
-shifted low vs = map (λ v. v ⊕ (f16 ⊖ low)) vs
+shifted low vs = map (λ v. v ⊕ (margin ⊖ low)) vs
 
 -- from one end to the other, with a margin on both sides
 abbrev pub extent : Float → Float → Float
-extent low high = high ⊖ low ⊕ f2 ⊗ f16
+extent low high = high ⊖ low ⊕ f2 ⊗ margin
 
-abbrev pub sizeOf : Rect → Size
-sizeOf b = record { width = extent (b .x0) (b .x1); height = extent (b .y0) (b .y1) }
+abbrev pub rectSize : Rect → Size
+rectSize b = record { width = extent (b .x0) (b .x1); height = extent (b .y0) (b .y1) }
 
 -- ---- what `fit` leaves
 
@@ -63,4 +63,4 @@ abbrev pub fitYs : List ℕ → List «V» → List Geometry → List Float → 
 fitYs flags cs gs ys = shifted (drawingBounds flags cs gs .y0) ys
 
 abbrev pub fitSize : List ℕ → List «V» → List Geometry → Size
-fitSize flags cs gs = sizeOf (drawingBounds flags cs gs)
+fitSize flags cs gs = rectSize (drawingBounds flags cs gs)

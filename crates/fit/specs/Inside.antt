@@ -1,6 +1,6 @@
 -- Nothing that a drawing covers lies outside its bounds. Assumes nothing.
-use mathlib.Core.Path.{_≡_, refl, ap, _∙_, subst}
-use mathlib.Core.Bool.{Bool, false}
+use mathlib.Core.Path.{_≡_, refl, ap, _∙_}
+use mathlib.Core.Bool.{false}
 use mathlib.Core.Logic.{⊎-elim}
 use mathlib.Core.List.{List, [], _∷_, map}
 use Prim.Native.Nat.{ℕ, zero, suc, _<_}
@@ -9,10 +9,10 @@ use lib.Dec.{T}
 use lib.ListN.{length, getD, length-map, List·getD-map}
 use lib.Ieee.{Float, nan, inf, fin}
 use lib.Ieee as Ieee
-use Rattle.laws.specs.Cases.{by-bool, holds, fails}
+use Rattle.laws.specs.Cases.{by-bool, holds, fails, not-both}
 use Rattle.laws.specs.Loops.{over}
-use Rattle.laws.specs.Order.{lt-trans, lt-itself}
-use Rattle.laws.specs.Between.{between}
+use Rattle.laws.specs.Order.{float-lt-trans, lt-itself}
+use Rattle.laws.specs.Between.{lt-between}
 use Rattle.float.specs.Ops.{lt, ne, neg}
 use Rattle.float.specs.Constants.{infinity}
 use Rattle.float.specs.Standins.{min, max}
@@ -20,8 +20,9 @@ use Rattle.laws.specs.Nan.{is-nan}
 use Rattle.float.specs.Laws.{min-first, min-second, max-first, max-second}
 use Rattle.shape.specs.declared.«V».{«V»}
 use Rattle.shape.specs.declared.Rect.{Rect}
-use Rattle.trace.specs.Traces.{noBounds, extended, boundsOf}
-use Rattle.spot.specs.declared.Geometry.{Geometry}
+use Rattle.shape.specs.Plane.{noBounds, extended}
+use Rattle.trace.specs.Traces.{boundsOf}
+use Rattle.label_spots.specs.declared.Geometry.{Geometry}
 use Rattle.fit.specs.Fit.{covered, drawingBounds}
 
 -- ---- no number is below NaN, and NaN below none
@@ -36,9 +37,6 @@ below-nan nan = refl
 below-nan (inf s) = refl
 below-nan (fin s m e) = refl
 
-not-both : {b : Bool} → T b → b ≡ false → ⊥
-not-both t e = subst T e t
-
 -- ---- the least and the most of numbers: none is below the one, or above the other
 
 least-first : (a : Float) (l : List Float) → lt a (over min a l) ≡ false
@@ -47,7 +45,7 @@ least-first a [] = fails (lt a a) (lt-itself a)
 least-first a (x ∷ l) =
     by-bool (ne a a) (λ e. ap (λ (v : Float). lt v (over min (min a x) l)) (is-nan a e) ∙ nan-below (over min (min a x) l))
     (λ e. by-bool (lt x a)
-    (λ t. ap (λ (v : Float). lt a (over min v l)) (min-second a x t) ∙ fails (lt a (over min x l)) (λ u. not-both (lt-trans x a (over min x l) (holds t) u) (least-first x l)))
+    (λ t. ap (λ (v : Float). lt a (over min v l)) (min-second a x t) ∙ fails (lt a (over min x l)) (λ u. not-both (float-lt-trans x a (over min x l) (holds t) u) (least-first x l)))
     (λ t. ap (λ (v : Float). lt a (over min v l)) (min-first a x e t) ∙ least-first a l))
 
 least : (a : Float) (l : List Float) (k : ℕ) (d : Float) → k < length l → lt (getD l k d) (over min a l) ≡ false
@@ -59,7 +57,7 @@ least a (x ∷ l) zero d h =
     (λ e. by-bool (lt x a)
     (λ t. ap (λ (v : Float). lt x (over min v l)) (min-second a x t) ∙ least-first x l)
     (λ t. ap (λ (v : Float). lt x (over min v l)) (min-first a x e t)
-    ∙ fails (lt x (over min a l)) (λ u. ⊎-elim (λ (y : T (lt x a)). not-both y t) (λ (y : T (lt a (over min a l))). not-both y (least-first a l)) (between x a (over min a l) e u))))
+    ∙ fails (lt x (over min a l)) (λ u. ⊎-elim (λ (y : T (lt x a)). not-both y t) (λ (y : T (lt a (over min a l))). not-both y (least-first a l)) (lt-between x a (over min a l) e u))))
 
 most-first : (a : Float) (l : List Float) → lt (over max a l) a ≡ false
 unfolding over
@@ -67,7 +65,7 @@ most-first a [] = fails (lt a a) (lt-itself a)
 most-first a (x ∷ l) =
     by-bool (ne a a) (λ e. ap (λ (v : Float). lt (over max (max a x) l) v) (is-nan a e) ∙ below-nan (over max (max a x) l))
     (λ e. by-bool (lt a x)
-    (λ t. ap (λ (v : Float). lt (over max v l) a) (max-second a x t) ∙ fails (lt (over max x l) a) (λ u. not-both (lt-trans (over max x l) a x u (holds t)) (most-first x l)))
+    (λ t. ap (λ (v : Float). lt (over max v l) a) (max-second a x t) ∙ fails (lt (over max x l) a) (λ u. not-both (float-lt-trans (over max x l) a x u (holds t)) (most-first x l)))
     (λ t. ap (λ (v : Float). lt (over max v l) a) (max-first a x e t) ∙ most-first a l))
 
 most : (a : Float) (l : List Float) (k : ℕ) (d : Float) → k < length l → lt (over max a l) (getD l k d) ≡ false
@@ -79,7 +77,7 @@ most a (x ∷ l) zero d h =
     (λ e. by-bool (lt a x)
     (λ t. ap (λ (v : Float). lt (over max v l) x) (max-second a x t) ∙ most-first x l)
     (λ t. ap (λ (v : Float). lt (over max v l) x) (max-first a x e t)
-    ∙ fails (lt (over max a l) x) (λ u. ⊎-elim (λ (y : T (lt (over max a l) a)). not-both y (most-first a l)) (λ (y : T (lt a x)). not-both y t) (between (over max a l) a x e u))))
+    ∙ fails (lt (over max a l) x) (λ u. ⊎-elim (λ (y : T (lt (over max a l) a)). not-both y (most-first a l)) (λ (y : T (lt a x)). not-both y t) (lt-between (over max a l) a x e u))))
 
 -- ---- the sides of a box, each by itself
 

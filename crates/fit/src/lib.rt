@@ -1,24 +1,25 @@
 // Fitting a drawing: what it covers, the shift to the margin, and its size.
+use label_spots::Geometry;
 use shape::Curve;
+use shape::NODE_RADIUS;
 use shape::Rect;
-use spot::Geometry;
+use shape::START_ARROW_LENGTH;
+use shape::V;
+use trace::POINTS;
 ghost use mathlib.Core.Path.{_≡_};
 ghost use mathlib.Core.List.{flatMap};
-ghost use Prim.Native.Nat.{_*_, _<_, _≤_};
+ghost use Prim.Native.Nat.{_*_, _≤_};
 ghost use lib.ListN.{length};
 ghost use Rattle.laws.specs.Loops.{over};
 ghost use Rattle.laws.specs.Flat.{table};
-ghost use Rattle.shape.specs.Plane.{vec};
-ghost use Rattle.trace.specs.Traces.{sample, noBounds, extended};
+ghost use Rattle.shape.specs.Plane.{extended};
+ghost use Rattle.trace.specs.Traces.{sample};
 ghost use Rattle.shape.specs.Centres.{centres};
 ghost use Rattle.records.specs.Records.{decodeRecords};
 ghost use Rattle.fit.specs.Fit as S;
 
-const NODE_RADIUS: f64 = 22.0;
-
-const START_ARROW_LENGTH: f64 = 28.0;
-
-const MARGIN: f64 = 16.0;
+// The empty border around a drawing.
+pub const MARGIN: f64 = 16.0;
 
 // The width and height of a drawing, margins included.
 pub struct Size {
@@ -28,58 +29,28 @@ pub struct Size {
 
 // ---- covering
 
-fn nothing() -> Rect
-    ensures { λ r. ⌜ r ≡ noBounds ⌝ }
+fn cover_state(b: Rect, flag: u8, c: V) -> Rect
+    ensures { λ r. ⌜ r ≡ over extended b (S.statePoints flag c) ⌝ }
 {
-    let inf = f64::from_bits(9218868437227405312);
-    Rect {
-        x0: inf,
-        y0: inf,
-        x1: -inf,
-        y1: -inf,
-    }
-}
-
-// The box b with one point more.
-fn cover(b: Rect, x: f64, y: f64) -> Rect
-    ensures { λ r. ⌜ r ≡ extended b (vec x y) ⌝ }
-{
-    Rect {
-        x0: float::min(b.x0, x),
-        y0: float::min(b.y0, y),
-        x1: float::max(b.x1, x),
-        y1: float::max(b.y1, y),
-    }
-}
-
-fn cover_state(b: Rect, flag: u8, x: f64, y: f64) -> Rect
-    ensures { λ r. ⌜ r ≡ over extended b (S.statePoints flag (vec x y)) ⌝ }
-{
-    let low = cover(b, x - NODE_RADIUS, y - NODE_RADIUS);
-    let round = cover(low, x + NODE_RADIUS, y + NODE_RADIUS);
+    let low = b.extended(V::new(c.x - NODE_RADIUS, c.y - NODE_RADIUS));
+    let round = low.extended(V::new(c.x + NODE_RADIUS, c.y + NODE_RADIUS));
     if sheet::is_start(flag) {
-        return cover(round, x - NODE_RADIUS - START_ARROW_LENGTH, y);
+        return round.extended(V::new(c.x - NODE_RADIUS - START_ARROW_LENGTH, c.y));
     }
     round
 }
 
 fn cover_states(from: Rect, flags: &[u8], xs: &[f64], ys: &[f64]) -> Rect
     requires { ⌜ (length (now xs) ≡ length (now flags)) × (length (now ys) ≡ length (now flags)) ⌝ }
-    ensures { λ r. ⌜ r ≡ over extended from (S.statesPoints (now (flags .entry)) (centres (now (xs .entry)) (now (ys .entry)))) ⌝ }
+    ensures { λ r.
+        let nodes = centres (now (xs .entry)) (now (ys .entry)) in
+        ⌜ r ≡ over extended from (S.statesPoints (now (flags .entry)) nodes) ⌝ }
 {
     let mut b = from;
     for i in 0..flags.len() {
-        b = cover_state(b, flags[i], xs[i], ys[i]);
+        b = cover_state(b, flags[i], V { x: xs[i], y: ys[i] });
     }
     b
-}
-
-fn cover_sample(b: Rect, curve: Curve, k: usize) -> Rect
-    requires { ⌜ k < 17 ⌝ }
-    ensures { λ r. ⌜ r ≡ extended b (sample curve k) ⌝ }
-{
-    let p = curve.at((k as f64) / 16.0);
-    cover(b, p.x, p.y)
 }
 
 fn cover_curve(from: Rect, curve: Curve) -> Rect
@@ -87,9 +58,9 @@ fn cover_curve(from: Rect, curve: Curve) -> Rect
 {
     let mut b = from;
     let mut k: usize = 0;
-    let mut left: usize = 17;
+    let mut left: usize = POINTS;
     while 0 < left {
-        b = cover_sample(b, curve, k);
+        b = b.extended(trace::sample(curve, k));
         k += 1;
         left -= 1;
     }
@@ -102,8 +73,9 @@ fn cover_drawn(b: Rect, g: Geometry) -> Rect
 {
     let curve = g.curve;
     let along = cover_curve(b, curve);
-    let first = cover(along, g.bounds.x0, g.bounds.y0);
-    cover(first, g.bounds.x1, g.bounds.y1)
+    let label = g.label_box;
+    let first = along.extended(V::new(label.x0, label.y0));
+    first.extended(V::new(label.x1, label.y1))
 }
 
 // The first `count` records.
@@ -136,10 +108,19 @@ fn shift(l: &mut [f64], low: f64)
 
 // Shifts the centres so that the drawing begins at the margin, and measures it.
 pub fn fit(flags: &[u8], records: &[f64], count: usize, xs: &mut [f64], ys: &mut [f64]) -> Size
-    requires { ⌜ (length (now xs) ≡ length (now flags)) × (length (now ys) ≡ length (now flags)) × (20 * count ≤ length (now records)) ⌝ }
-    ensures { λ r. ⌜ (r ≡ S.fitSize (now (flags .entry)) (centres (now (xs .entry)) (now (ys .entry))) (decodeRecords count (now (records .entry)))) × (now (xs .exit) ≡ S.fitXs (now (flags .entry)) (centres (now (xs .entry)) (now (ys .entry))) (decodeRecords count (now (records .entry))) (now (xs .entry))) × (now (ys .exit) ≡ S.fitYs (now (flags .entry)) (centres (now (xs .entry)) (now (ys .entry))) (decodeRecords count (now (records .entry))) (now (ys .entry))) ⌝ }
+    requires { ⌜
+        (length (now xs) ≡ length (now flags))
+        × (length (now ys) ≡ length (now flags))
+        × (20 * count ≤ length (now records))
+        ⌝ }
+    ensures { λ r.
+        let drawn = decodeRecords count (now (records .entry)) in
+        let nodes = centres (now (xs .entry)) (now (ys .entry)) in
+        ⌜ (r ≡ S.fitSize (now (flags .entry)) nodes drawn)
+        × (now (xs .exit) ≡ S.fitXs (now (flags .entry)) nodes drawn (now (xs .entry)))
+        × (now (ys .exit) ≡ S.fitYs (now (flags .entry)) nodes drawn (now (ys .entry))) ⌝ }
 {
-    let states = cover_states(nothing(), flags, xs, ys);
+    let states = cover_states(Rect::empty(), flags, xs, ys);
     let b = cover_records(states, records, count);
     shift(xs, b.x0);
     shift(ys, b.y0);

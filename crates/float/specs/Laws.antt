@@ -17,7 +17,7 @@ use Rattle.laws.specs.Between.{below-num, above-num, self-num, self-inf}
 use Rattle.root.specs.Root.{rootBits}
 use Rattle.float.specs.Constants.{f0, π}
 use Rattle.float.specs.Ops.{_⊘_, neg, lt, eq, ne}
-use Rattle.float.specs.Standins.{negative, abs, min, max, root, rootOf, arc, share, quarter, atan2, arcSeries}
+use Rattle.float.specs.Standins.{negative, abs, min, max, root, rootOf, arctangentOf, share, quarter, atan2, arcSeries}
 use Rattle.float.specs.Signs.{abs-num}
 
 -- ---- the larger and the smaller
@@ -67,8 +67,8 @@ zero-share (inf t) s n = rw s (unfold Ieee.div in refl)
 zero-share (fin t zero e) s n = rw (zero-mul (up e), zero-mul (down e), s)
 zero-share (fin t (suc m) e) s n = by-bool (eq (fin t (suc m) e) f0) (λ w. rw w) (λ w. rw (w, s) (zero-over m e))
 
-arc-zero : arc f0 ≡ f0
-unfolding arc arcSeries root rootOf rootBits Rattle.root.specs.Root.nearestRoot Rattle.root.specs.Root.wholeRoot Rattle.root.specs.Root.digits Rattle.root.specs.Root.scale Rattle.laws.specs.Loops.down Ieee.add Ieee.sub Ieee.mul Ieee.div Ieee.round Ieee.ofInt ofBits Ieee.toBits isNan
+arc-zero : arctangentOf f0 ≡ f0
+unfolding arctangentOf arcSeries root rootOf rootBits Rattle.root.specs.Root.nearestRoot Rattle.root.specs.Root.wholeRoot Rattle.root.specs.Root.tryDigits Rattle.root.specs.Root.scale Rattle.laws.specs.Loops.down Ieee.add Ieee.sub Ieee.mul Ieee.div Ieee.round Ieee.ofInt ofBits Ieee.toBits isNan
 arc-zero = refl
 
 -- at y = 0 the quarter's angle is 0, so the answer is 0 for an x that is not negative and PI for one that is, with y's sign

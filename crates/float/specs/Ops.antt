@@ -2,7 +2,8 @@
 use mathlib.Core.Bool.{Bool}
 use Prim.Native.Nat.{ℕ}
 use lib.IntN.{pos}
-use lib.Ieee.{Float, binary64, ofInt}
+use lib.Dec.{eqb}
+use lib.Ieee.{Float, binary64, ofInt, toBits}
 use lib.Ieee as Ieee
 
 infixl 6 _⊕_ _⊖_
@@ -40,5 +41,9 @@ abbrev pub ne : Float → Float → Bool
 ne a b = Ieee.ne a b
 
 -- a whole number as a float, rounded
-abbrev pub count : ℕ → Float
-count n = ofInt binary64 (pos n)
+abbrev pub ofNat : ℕ → Float
+ofNat n = ofInt binary64 (pos n)
+
+-- the same number, with the same sign
+abbrev pub sameBits : Float → Float → Bool
+sameBits a b = eqb (toBits binary64 a) (toBits binary64 b)

@@ -1,4 +1,4 @@
--- `root` is a root by the laws of crate `root`: it rises, it passes `min` and `max`, and below 26 is below 676 under it. Assumes nothing.
+-- `root` is a root by the laws of crate `root`: it rises and passes `min` and `max`. Assumes nothing.
 use mathlib.Core.Path.{_≡_, refl, sym, ap, _∙_}
 use mathlib.Core.Bool.{Bool, true, false}
 use Prim.Native.Nat.{ℕ, _*_, _%_, _^_, _≤_}
@@ -7,11 +7,9 @@ use lib.Dec.{eqb}
 use borrow.Author.Tests.{eqb-true, eqb-false, le-ltb, le-leb, lt-leb, ne-eqb}
 use lib.Ieee.{Float, binary64, isNan, ofBits, toBits}
 use lib.Ieee.Bits.{toBits-ofBits, nanBits-is, nanBits-above}
-use Rattle.root.specs.Plain.{rootPlain, IsRoot, Plain, plain-itself, squares-plain, root-plain, root-le, root-min, root-max, root-lt-first}
-use Rattle.root.specs.Worked.{first-26}
-use Rattle.float.specs.Constants.{f26, f676}
-use Rattle.float.specs.Ops.{_⊕_, _⊗_, lt, le}
-use Rattle.float.specs.Standins.{rootOf, root, min, max, hypot}
+use Rattle.root.specs.Plain.{rootPlain, IsRoot, Plain, plain-itself, root-plain, root-le, root-min, root-max}
+use Rattle.float.specs.Ops.{le}
+use Rattle.float.specs.Standins.{rootOf, root, min, max}
 
 not-nan : (b : ℕ) → b ≤ 2047 * 2 ^ 52 → isNan (ofBits binary64 b) ≡ false
 not-nan b h = sym (nanBits-is binary64 b) ∙ nanBits-above binary64 b ∙ le-ltb (2047 * 2 ^ 52) (b % 2 ^ 63) (omega arith)
@@ -51,7 +49,3 @@ min-roots x y p q = rw (plain-itself x p, plain-itself (root x) (root-plain root
 
 pub max-roots : (x y : Float) → Plain x → Plain y → max (root x) (root y) ≡ root (max x y)
 max-roots x y p q = rw (plain-itself x p, plain-itself (root x) (root-plain root root-is x p)) (root-max root root-is x y p q)
-
--- a hypotenuse below 26 is a sum of squares below 676
-pub hypot-below-26 : (a b : Float) → isNan a ≡ false → isNan b ≡ false → lt (hypot a b) f26 ≡ lt (a ⊗ a ⊕ b ⊗ b) f676
-hypot-below-26 a b h k = root-lt-first root root-is 0x4085200000000000 0x403a000000000000 (a ⊗ a ⊕ b ⊗ b) (squares-plain a b h k) first-26

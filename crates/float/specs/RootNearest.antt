@@ -16,7 +16,7 @@ use Rattle.laws.specs.Between.{below-num}
 use Rattle.root.specs.Root.{rootBits}
 use Rattle.root.specs.Rounded.{magnitude, bits-value, root-under}
 use Rattle.root.specs.Closest.{Closest, root-closest, closest-unique}
-use Rattle.root.specs.Plain.{plain, Plain, rootPlain}
+use Rattle.root.specs.Plain.{plain, Plain, rootPlain, value-plain}
 use Rattle.float.specs.Constants.{f0}
 use Rattle.float.specs.Ops.{neg, lt}
 use Rattle.float.specs.Standins.{negative, root, rootOf}
@@ -93,13 +93,8 @@ pub in-units : (x : Float) → Plain x → lt x (inf false) ≡ true → HasValu
 in-units x p l = subst (λ (y : Float). HasValue y false (magnitude (toBits binary64 x)) (2 ^ 1074)) (ofBits-toBits binary64 x (p .held)) (bits-value (toBits binary64 x) (bits-under x p l))
 
 -- what has such a count is finite, and has no other
-value-plain : (x : Float) (a n : ℕ) → T (fits binary64 x) → HasValue x false a n → Plain x
-value-plain x a n h w = record { held = h; clear = go x w }
-  where
-    go : (x : Float) → HasValue x false a n → plain x ≡ true
-    go nan w = absurd w
-    go (inf s) w = absurd w
-    go (fin s m e) w = ap not (w .0)
+plain-by : (x : Float) (a n : ℕ) → T (fits binary64 x) → HasValue x false a n → Plain x
+plain-by x a n h w = record { held = h; clear = value-plain x a n w }
 
 value-finite : (x : Float) (a n : ℕ) → HasValue x false a n → lt x (inf false) ≡ true
 unfolding Ieee.lt
@@ -113,7 +108,7 @@ one-value (inf s) a b n w z = absurd w
 one-value (fin s m e) a b n w z = eq-of-mul-eq-mul-right (down e) (down-pos e) a b (sym (w .1) ∙ z .1)
 
 value-is : (x : Float) (a : ℕ) → T (fits binary64 x) → HasValue x false a (2 ^ 1074) → a ≡ magnitude (toBits binary64 x)
-value-is x a h w = one-value x a (magnitude (toBits binary64 x)) (2 ^ 1074) w (in-units x (value-plain x a (2 ^ 1074) h w) (value-finite x a (2 ^ 1074) w))
+value-is x a h w = one-value x a (magnitude (toBits binary64 x)) (2 ^ 1074) w (in-units x (plain-by x a (2 ^ 1074) h w) (value-finite x a (2 ^ 1074) w))
 
 plain-some : (b : ℕ) → 0 < b → b < 2047 * 2 ^ 52 → rootPlain b ≡ rootBits b
 unfolding rootPlain
@@ -160,8 +155,8 @@ module _ (v : Float) (h : T (fits binary64 v)) (l : lt f0 v ≡ true) (u : lt v 
   pub root-nearer : (c : Float) → T (fits binary64 c) → (n r k : ℕ) → HasValue v false n (2 ^ 1074) → HasValue (root v) false r (2 ^ 1074) → HasValue c false k (2 ^ 1074)
       → (lt (root v) c ≡ true → 4 * (n * 2 ^ 1074) < (r + k) * (r + k)) × (lt c (root v) ≡ true → (r + k) * (r + k) < 4 * (n * 2 ^ 1074))
   root-nearer c f n r k x y z =
-      let p : Plain (root v) = value-plain (root v) r (2 ^ 1074) root-fits y in
-      let q : Plain c = value-plain c k (2 ^ 1074) f z in
+      let p : Plain (root v) = plain-by (root v) r (2 ^ 1074) root-fits y in
+      let q : Plain c = plain-by c k (2 ^ 1074) f z in
       rw (value-is v n h x, value-is (root v) r root-fits y, value-is c k f z) (
         λ (g : lt (root v) c ≡ true). root-is-nearest .over (toBits binary64 c) (bits-less (root v) c p q g),
         λ (g : lt c (root v) ≡ true). root-is-nearest .under (toBits binary64 c) (bits-less c (root v) q p g),

@@ -14,7 +14,7 @@ use lib.Ieee.Back.{whole-unique}
 use lib.Ieee.Fits.{down-pos, round-fits}
 use lib.Ieee.Nearest.{div-same}
 use Rattle.root.specs.Rounded.{magnitude}
-use Rattle.float.specs.Ops.{neg, ne, count}
+use Rattle.float.specs.Ops.{neg, ne, ofNat}
 use Rattle.float.specs.Standins.{negative, abs, halfUp, round}
 use Rattle.remainder.specs.Unique.{fits-sign, finite-bits, size-bits, big}
 use Rattle.remainder.specs.Tau.{neg-round}
@@ -124,7 +124,7 @@ size-is : (m : ℕ) (x : ℤ) (b q : ℕ) → T (fits binary64 (fin false m x)) 
 size-is m x b q h e z = z ∙ ap (λ (k : ℕ). halfUp (magnitude k) (2 ^ 1074)) e ∙ sym (half-bits m x h)
 
 round-by : (v : Float) (b q : ℕ) → T (fits binary64 v) → ne v v ≡ false → b ≡ toBits binary64 (abs v) → b < 1075 * 2 ^ 52 → q ≡ halfUp (magnitude b) (2 ^ 1074)
-    → cond (negative v) (neg (count q)) (count q) ≡ round v
+    → cond (negative v) (neg (ofNat q)) (ofNat q) ≡ round v
 unfolding round ofInt toBits Ieee.ne Ieee.eq
 round-by nan b q h n e l z = absurd (subst T n tt)
 round-by (inf s) b q h n e l z = absurd (too-big b e l)
@@ -135,10 +135,10 @@ round-by (fin true m x) b q h n e l z = neg-round q 1 ∙ ap (λ (k : ℕ). Ieee
 round-by (fin false m x) b q h n e l z = ap (λ (k : ℕ). Ieee.round binary64 false k 1) (size-is m x b q h e z)
 
 module _ (v : Float) (b q : ℕ) (h : T (fits binary64 v)) (n : ne v v ≡ false) (e : b ≡ toBits binary64 (abs v)) (l : b < 1075 * 2 ^ 52) (z : q ≡ halfUp (magnitude b) (2 ^ 1074)) where
-  pub round-minus : negative v ≡ true → neg (count q) ≡ round v
+  pub round-minus : negative v ≡ true → neg (ofNat q) ≡ round v
   round-minus s = sym (rw s) ∙ round-by v b q h n e l z
 
-  pub round-plus : negative v ≡ false → count q ≡ round v
+  pub round-plus : negative v ≡ false → ofNat q ≡ round v
   round-plus s = sym (rw s) ∙ round-by v b q h n e l z
 
 pub round-itself : (v : Float) (b : ℕ) → T (fits binary64 v) → b ≡ toBits binary64 (abs v) → 1075 * 2 ^ 52 ≤ b → v ≡ round v

@@ -38,27 +38,27 @@ at-most a b x t =
     (λ e. by-bool (eqb a b) (λ f. let h : a ≡ b = eqb-true a b f in omega arith) (λ f. absurd (rw (e, f) at t)))
 
 -- sizes in order: the positive ones are, the negative ones the other way round
-pub ordered : {u u′ v v′ : Float} → Form u u′ → Form v v′ → T (le u v) → (lt v u ≡ false) × (lt u′ v′ ≡ false)
+pub sizes-ordered : {u u′ v v′ : Float} → Form u u′ → Form v v′ → T (le u v) → (lt v u ≡ false) × (lt u′ v′ ≡ false)
 unfolding Ieee.le Ieee.lt Ieee.eq
-ordered endless endless t = (refl, refl)
-ordered endless finite t = absurd t
-ordered finite endless t = (refl, refl)
-ordered (finite {m} {e}) (finite {m = n} {e = d}) t =
+sizes-ordered endless endless t = (refl, refl)
+sizes-ordered endless finite t = absurd t
+sizes-ordered finite endless t = (refl, refl)
+sizes-ordered (finite {m} {e}) (finite {m = n} {e = d}) t =
     let h = at-most (m * up e * down d) (n * up d * down e) true t in
     (le-ltb (n * up d * down e) (m * up e * down d) h, le-ltb (n * up d * down e) (m * up e * down d) h)
 
 -- a positive one is not below a negative one
-pub apart : {u u′ v v′ : Float} → Form u u′ → Form v v′ → lt u v′ ≡ false
+pub signs-apart : {u u′ v v′ : Float} → Form u u′ → Form v v′ → lt u v′ ≡ false
 unfolding Ieee.lt
-apart endless endless = refl
-apart endless finite = refl
-apart finite endless = refl
-apart finite finite = refl
+signs-apart endless endless = refl
+signs-apart endless finite = refl
+signs-apart finite endless = refl
+signs-apart finite finite = refl
 
-pub itself : {u u′ : Float} → Form u u′ → (ne u u ≡ false) × (ne u′ u′ ≡ false)
-itself endless = (self-inf false, self-inf true)
-itself (finite {m} {e}) = (self-num false m e, self-num true m e)
+pub equals-itself : {u u′ : Float} → Form u u′ → (ne u u ≡ false) × (ne u′ u′ ≡ false)
+equals-itself endless = (self-inf false, self-inf true)
+equals-itself (finite {m} {e}) = (self-num false m e, self-num true m e)
 
-pub unsigned : {u u′ : Float} → Form u u′ → negative u ≡ false
-unsigned endless = refl
-unsigned finite = refl
+pub form-unsigned : {u u′ : Float} → Form u u′ → negative u ≡ false
+form-unsigned endless = refl
+form-unsigned finite = refl

@@ -1,22 +1,20 @@
 -- What a sort by `precedes` rests on, of any floats: it never holds both ways, and where it fails from a to b and from b to c, it fails from a to c. Assumes nothing.
 use mathlib.Core.Path.{_≡_, refl, sym, ap, subst, _∙_}
-use mathlib.Core.Bool.{Bool, true, false, true≢false}
+use mathlib.Core.Bool.{Bool, true, false}
 use mathlib.Core.Logic.{⊎-elim}
 use lib.Dec.{T}
 use lib.Ieee.{Float, isNan}
-use Rattle.laws.specs.Between.{between}
+use Rattle.laws.specs.Between.{lt-between}
 use Rattle.laws.specs.Cases.{by-bool, holds, fails}
-use Rattle.laws.specs.Order.{lt-trans, lt-itself}
+use Rattle.laws.specs.Order.{float-lt-trans, lt-itself}
 use Rattle.float.specs.Ops.{lt}
 use Rattle.float.specs.Standins.{negative, precedes}
 use Rattle.laws.specs.Nan.{is-nan, nan-test}
+use Rattle.laws.specs.Bools.{clash}
 use Rattle.float.specs.TotalOrder.{same-sign, minus-plus, plus-minus, nan-before, nan-last}
 
-clash : {b : Bool} → b ≡ true → b ≡ false → ⊥
-clash p q = true≢false (sym p ∙ q)
-
 lt-one-way : (a b : Float) → lt a b ≡ true → lt b a ≡ false
-lt-one-way a b e = fails (lt b a) (λ t. lt-itself a (lt-trans a b a (holds e) t))
+lt-one-way a b e = fails (lt b a) (λ t. lt-itself a (float-lt-trans a b a (holds e) t))
 
 from-nan : (a b : Float) → isNan a ≡ true → precedes a b ≡ false
 from-nan a b n = ap (λ (v : Float). precedes v b) (is-nan a (nan-test a ∙ n)) ∙ nan-before b
@@ -46,7 +44,7 @@ onward a b c h k = by-bool (precedes a c) (λ e. absurd (go e (isNan a) refl (is
         ⊎-elim
         (λ (l : T (lt a b)). subst T (sym (same-sign a b s y) ∙ h) l)
         (λ (l : T (lt b c)). subst T (sym (same-sign b c t z) ∙ k) l)
-        (between a b c (nan-test b ∙ y) (holds (sym (same-sign a c (s ∙ t) z) ∙ e)))
+        (lt-between a b c (nan-test b ∙ y) (holds (sym (same-sign a c (s ∙ t) z) ∙ e)))
 
     go : precedes a c ≡ true → (p : Bool) → isNan a ≡ p → (q : Bool) → isNan b ≡ q → (r : Bool) → isNan c ≡ r → (s : Bool) → negative a ≡ s → (t : Bool) → negative b ≡ t → (u : Bool) → negative c ≡ u → ⊥
     go e true x q y r z s i t j u l = clash e (from-nan a c x)

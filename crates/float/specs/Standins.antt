@@ -7,7 +7,7 @@ use lib.Ieee as Ieee
 use Rattle.laws.specs.Loops.{down as countdown}
 use Rattle.root.specs.Root.{rootBits}
 use Rattle.float.specs.Constants.{f0, f1, f2, f4, f25, π, τ}
-use Rattle.float.specs.Ops.{_⊕_, _⊖_, _⊗_, _⊘_, rem, neg, lt, eq, ne, count}
+use Rattle.float.specs.Ops.{_⊕_, _⊖_, _⊗_, _⊘_, rem, neg, lt, eq, ne, ofNat}
 use Rattle.float.specs.declared.Ordering.{Ordering}
 use Rattle.float.specs.declared.Ordering.the-variants.{Less, Equal, Greater}
 
@@ -19,7 +19,7 @@ negative nan = false
 negative (inf s) = s
 negative (fin s m e) = s
 
--- "abs as Rust's library documents": the sign bit cleared
+-- abs as Rust's library documents: the sign bit cleared
 abbrev pub abs : Float → Float
 abs nan = nan
 abs (inf s) = inf false
@@ -49,7 +49,7 @@ clamp v low high = cond (lt v low) low (cond (lt high v) high v)
 -- ---- root, hypot, midpoint, round, rem_euclid
 
 -- "root(v): the f64 nearest the exact square root of v" (`rootBits`, for the bits of a finite number above zero);
--- "zero gives itself, plus infinity itself; negative or NaN gives 0"
+-- "Zero gives itself, plus infinity itself; negative or NaN gives 0"
 unfoldable pub rootOf : Float → ℕ → Float
 rootOf v b =
     let nearest = ofBits binary64 (rootBits b) in
@@ -92,7 +92,7 @@ reduced a = let r = rem a τ in cond (lt π r) (r ⊖ τ) (cond (lt r (neg π)) 
 
 -- "t = 1 − (z / d)·t"
 abbrev pub term : Float → ℕ → Float → Float
-term z d t = f1 ⊖ z ⊘ count d ⊗ t
+term z d t = f1 ⊖ z ⊘ ofNat d ⊗ t
 
 -- "d = 2k(2k+1) for sine and (2k−1)·2k for cosine"
 abbrev pub sineDivisor : ℕ → ℕ
@@ -122,16 +122,16 @@ cos a = let r = reduced a in series cosineDivisor (r ⊗ r)
 abbrev pub halved : Float → Float
 halved u = u ⊘ (f1 ⊕ root (f1 ⊕ u ⊗ u))
 
--- "t = 1/25; for k = 11 down to 0, t = 1/(2k+1) − z·t"; the turn with k counts as turn k + 1
+-- "t = 1/25; for k = 11 down to 0, t = 1/(2k+1) − z·t"; the step with k counts as step k + 1
 abbrev pub arcTerm : Float → ℕ → Float → Float
-arcTerm z n t = f1 ⊘ count (2 * (n - 1) + 1) ⊖ z ⊗ t
+arcTerm z n t = f1 ⊘ ofNat (2 * (n - 1) + 1) ⊖ z ⊗ t
 
 unfoldable pub arcSeries : Float → Float
 arcSeries z = countdown (arcTerm z) 12 (f1 ⊘ f25)
 
 -- "Twice u = u / (1 + root(1 + u·u)). z = u·u; .. The angle is 4·(u·t)"
-unfoldable pub arc : Float → Float
-arc w = let u = halved (halved w) in f4 ⊗ (u ⊗ arcSeries (u ⊗ u))
+unfoldable pub arctangentOf : Float → Float
+arctangentOf w = let u = halved (halved w) in f4 ⊗ (u ⊗ arcSeries (u ⊗ u))
 
 -- "u = b/a, or 0 where a = 0"
 abbrev pub share : Float → Float → Float
@@ -139,15 +139,15 @@ share b a = cond (eq a f0) f0 (b ⊘ a)
 
 -- the angle of the upper right quarter, of sizes y and x: "a the larger, b the smaller of |x|, |y|", "Where |y| > |x| it becomes PI/2 minus it"
 unfoldable pub quarter : Float → Float → Float
-quarter y x = let angle = arc (share (min x y) (max x y)) in cond (lt x y) (π ⊘ f2 ⊖ angle) angle
+quarter y x = let angle = arctangentOf (share (min x y) (max x y)) in cond (lt x y) (π ⊘ f2 ⊖ angle) angle
 
 -- "then, if x's sign bit is set, PI minus it"
-abbrev pub turned : Bool → Float → Float
-turned back angle = cond back (π ⊖ angle) angle
+abbrev pub turnedBack : Bool → Float → Float
+turnedBack back angle = cond back (π ⊖ angle) angle
 
 -- "then, if y's is set, its negative"
 unfoldable pub atan2 : Float → Float → Float
-atan2 y x = let half = turned (negative x) (quarter (abs y) (abs x)) in cond (negative y) (neg half) half
+atan2 y x = let half = turnedBack (negative x) (quarter (abs y) (abs x)) in cond (negative y) (neg half) half
 
 -- ---- total order
 

@@ -209,17 +209,17 @@ precedes-trans a b c h k l x y =
     precedes-rank a c h l ∙ lt-ltb (rank a) (rank c) (omega arith)
 
 -- what the answer says of the two tests
-said-less : (p q : Bool) → cond p Less (cond q Greater Equal) ≡ Less → p ≡ true
+pub said-less : (p q : Bool) → cond p Less (cond q Greater Equal) ≡ Less → p ≡ true
 said-less true q e = refl
 said-less false true e = cc
 said-less false false e = cc
 
-said-greater : (p q : Bool) → cond p Less (cond q Greater Equal) ≡ Greater → q ≡ true
+pub said-greater : (p q : Bool) → cond p Less (cond q Greater Equal) ≡ Greater → q ≡ true
 said-greater true q e = cc
 said-greater false true e = refl
 said-greater false false e = cc
 
-said-equal : (p q : Bool) → cond p Less (cond q Greater Equal) ≡ Equal → (p ≡ false) × (q ≡ false)
+pub said-equal : (p q : Bool) → cond p Less (cond q Greater Equal) ≡ Equal → (p ≡ false) × (q ≡ false)
 said-equal true q e = (cc, cc)
 said-equal false true e = (refl, cc)
 said-equal false false e = (refl, refl)

@@ -1,7 +1,13 @@
 // The stand-ins for the library's float functions. Each operation rounds once.
+use root::FRACTION;
+use root::INFINITY_BITS;
+use root::LEADING;
+use root::SIGN;
 ghost use mathlib.Core.Path.{_≡_};
 ghost use Prim.Native.Nat.{_*_, _^_, _<_, _≤_};
+ghost use lib.Ieee.Scale.{finite};
 ghost use Rattle.root.specs.Rounded.{magnitude};
+ghost use Rattle.float.specs.Constants.{infinity};
 ghost use Rattle.float.specs.Standins as S;
 
 // The circle's half turn and its whole turn.
@@ -9,11 +15,20 @@ pub const PI: f64 = 3.141592653589793;
 
 pub const TAU: f64 = remainder::TAU;
 
+// The bits of 2^52, from which on every f64 is whole.
+const WHOLE_BITS: u64 = 0x4330_0000_0000_0000;
+
 // The order of two numbers, as Rust names it.
 pub enum Ordering {
     Less,
     Equal,
     Greater,
+}
+
+pub fn infinity() -> f64
+    ensures { λ r. ⌜ r ≡ infinity ⌝ }
+{
+    f64::from_bits(INFINITY_BITS)
 }
 
 // Whether the sign bit is set; false for NaN.
@@ -23,13 +38,19 @@ pub fn negative(v: f64) -> bool
     if v != v {
         return false;
     }
-    9223372036854775808 <= f64::to_bits(v)
+    SIGN <= f64::to_bits(v)
 }
 
 pub fn abs(v: f64) -> f64
     ensures { λ r. ⌜ r ≡ S.abs v ⌝ }
 {
     if negative(v) { -v } else { v }
+}
+
+pub fn is_finite(v: f64) -> bool
+    ensures { λ r. ⌜ r ≡ finite v ⌝ }
+{
+    abs(v) < infinity()
 }
 
 pub fn copysign(v: f64, s: f64) -> f64
@@ -85,13 +106,13 @@ pub fn root(v: f64) -> f64
     if b == 0 {
         return v;
     }
-    if b == 9223372036854775808 {
+    if b == SIGN {
         return v;
     }
-    if 9223372036854775808 <= b {
+    if SIGN <= b {
         return 0.0;
     }
-    if 9218868437227405312 <= b {
+    if INFINITY_BITS <= b {
         return v;
     }
     f64::from_bits(root::root_bits(b))
@@ -118,7 +139,7 @@ fn half_up(b: u64) -> u64
     if field < 1022 {
         return 0;
     }
-    let s = 4503599627370496 + (b & 4503599627370495);
+    let s = LEADING + (b & FRACTION);
     let k = 1074 - field;
     ((s >> k) + 1) / 2
 }
@@ -131,7 +152,7 @@ pub fn round(v: f64) -> f64
         return v;
     }
     let b = f64::to_bits(abs(v));
-    if 4841369599423283200 <= b {
+    if WHOLE_BITS <= b {
         return v;
     }
     let size = half_up(b) as f64;
@@ -157,7 +178,7 @@ fn reduced(a: f64) -> f64
     if r < -PI { r + TAU } else { r }
 }
 
-// The divisor of turn k, for sine and for cosine.
+// The divisor of step k, for sine and for cosine.
 fn divisor(sine: bool, k: u32) -> u32
     requires { ⌜ (0 < k) × (k ≤ 14) ⌝ }
     ensures { λ r. ⌜ (r ≡ S.divisor sine k) × (r ≤ 812) ⌝ }
@@ -217,7 +238,7 @@ fn arc_series(z: f64) -> f64
 
 // The arctangent of w, from 0 to 1.
 fn arc(w: f64) -> f64
-    ensures { λ r. ⌜ r ≡ S.arc w ⌝ }
+    ensures { λ r. ⌜ r ≡ S.arctangentOf w ⌝ }
 {
     let u = halved(halved(w));
     4.0 * (u * arc_series(u * u))
@@ -249,7 +270,7 @@ pub fn atan2(y: f64, x: f64) -> f64
 }
 
 fn turned(back: bool, angle: f64) -> f64
-    ensures { λ r. ⌜ r ≡ S.turned back angle ⌝ }
+    ensures { λ r. ⌜ r ≡ S.turnedBack back angle ⌝ }
 {
     if back { PI - angle } else { angle }
 }

@@ -14,14 +14,14 @@ use Rattle.free.specs.declared.Chord.{Chord}
 use Rattle.free.specs.declared.Span.{Span}
 use Rattle.shape.specs.Centres.{centre}
 use Rattle.free.specs.Chords.{isEnd, othersFrom}
-use Rattle.free.specs.Blocked.{distance, passed, spanOf, intervals, blockedBy, Grown}
-use Rattle.free.specs.Free.{span, spans}
-use Rattle.free.specs.Turns.{intervals-turn}
+use Rattle.free.specs.Blocked.{distance, offChord, spanOf, intervals, blockedBy, Grown}
+use Rattle.free.specs.Free.{spanFrom, spans}
+use Rattle.free.specs.Steps.{intervals-step}
 
-pub before-start : (c : Chord) (p : «V») (s : Float) → s ≡ distance c p → le s f0 ≡ true → true ≡ passed c p
+pub before-start : (c : Chord) (p : «V») (s : Float) → s ≡ distance c p → le s f0 ≡ true → true ≡ offChord c p
 before-start c p s e t = sym (ap (λ (x : Float). le x f0 || le (c .len) x) (sym e) ∙ rw t)
 
-pub after-start : (c : Chord) (p : «V») (s : Float) → s ≡ distance c p → le s f0 ≡ false → le (c .len) s ≡ passed c p
+pub after-start : (c : Chord) (p : «V») (s : Float) → s ≡ distance c p → le s f0 ≡ false → le (c .len) s ≡ offChord c p
 after-start c p s e t = sym (ap (λ (x : Float). le x f0 || le (c .len) x) (sym e) ∙ rw t)
 
 module _ (c : Chord) (k : ℕ) (p : «V») (n : ℕ) (lo hi : List Float) where
@@ -31,25 +31,25 @@ module _ (c : Chord) (k : ℕ) (p : «V») (n : ℕ) (lo hi : List Float) where
   pub grown-end : isEnd c k ≡ true → Grown c k p n lo hi n lo hi
   grown-end e = grown-none (rw e)
 
-  pub grown-passed : isEnd c k ≡ false → passed c p ≡ true → Grown c k p n lo hi n lo hi
+  pub grown-passed : isEnd c k ≡ false → offChord c p ≡ true → Grown c k p n lo hi n lo hi
   grown-passed e t = grown-none (rw (e, t))
 
-  pub grown-more : (s : Span) → length hi ≡ length lo → n < length lo → isEnd c k ≡ false → passed c p ≡ false → s ≡ spanOf c p
+  pub grown-more : (s : Span) → length hi ≡ length lo → n < length lo → isEnd c k ≡ false → offChord c p ≡ false → s ≡ spanOf c p
       → Grown c k p n lo hi (n + 1) (set lo n (s .lo)) (set hi n (s .hi))
   grown-more s h m e t f = record {
     more = omega arith;
     low = length-set lo n (s .lo);
     high = length-set hi n (s .hi);
-    are = zip-push span lo hi n (s .lo) (s .hi) h m ∙ ap (λ (l : List Span). spans (take n lo) (take n hi) ++ l) (ap (λ (x : Span). x ∷ []) f ∙ sym (rw (e, t)));
+    are = zip-push spanFrom lo hi n (s .lo) (s .hi) h m ∙ ap (λ (l : List Span). spans (take n lo) (take n hi) ++ l) (ap (λ (x : Span). x ∷ []) f ∙ sym (rw (e, t)));
   }
 
 -- state k's interval joins those before it
-pub blocked-turn : (c : Chord) (ps : List «V») (k : ℕ) (p : «V») (n m : ℕ) (lo hi lo′ hi′ : List Float) (w : List Span)
+pub blocked-step : (c : Chord) (ps : List «V») (k : ℕ) (p : «V») (n m : ℕ) (lo hi lo′ hi′ : List Float) (w : List Span)
     → k < length ps → p ≡ centre ps k → Grown c k p n lo hi m lo′ hi′ → spans (take n lo) (take n hi) ++ intervals c (othersFrom c k (drop k ps)) ≡ w
     → spans (take m lo′) (take m hi′) ++ intervals c (othersFrom c (k + 1) (drop (k + 1) ps)) ≡ w
-blocked-turn c ps k p n m lo hi lo′ hi′ w h e g i =
+blocked-step c ps k p n m lo hi lo′ hi′ w h e g i =
     let rest = intervals c (othersFrom c (k + 1) (drop (k + 1) ps)) in
     ap (λ (l : List Span). l ++ rest) (g .are)
     ∙ append-assoc (spans (take n lo) (take n hi)) (blockedBy c k p) rest
-    ∙ ap (λ (l : List Span). spans (take n lo) (take n hi) ++ l) (ap (λ (v : «V»). blockedBy c k v ++ rest) e ∙ sym (intervals-turn c ps k h))
+    ∙ ap (λ (l : List Span). spans (take n lo) (take n hi) ++ l) (ap (λ (v : «V»). blockedBy c k v ++ rest) e ∙ sym (intervals-step c ps k h))
     ∙ i

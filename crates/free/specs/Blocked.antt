@@ -7,25 +7,25 @@ use Prim.Native.Nat.{ℕ, suc, _≤_}
 use lib.ListN.{length, take}
 use lib.Ieee.{Float}
 use Rattle.float.specs.Ops.{_⊕_, _⊖_, _⊗_, _⊘_, le}
-use Rattle.float.specs.Constants.{f0, f1, f2, f10, f22}
+use Rattle.float.specs.Constants.{f0, f1, f2, fullClearance, nodeRadius}
 use Rattle.shape.specs.declared.«V».{«V»}
 use Rattle.shape.specs.Plane.{sub, dot, left}
 use Rattle.free.specs.declared.Chord.{Chord}
 use Rattle.free.specs.declared.Span.{Span}
-use Rattle.free.specs.Chords.{isEnd, others}
-use Rattle.free.specs.Free.{span, spans}
+use Rattle.free.specs.Chords.{isEnd, otherStates}
+use Rattle.free.specs.Free.{spanFrom, spans}
 
 -- how far along the chord a point lies, from its start
 abbrev pub distance : Chord → «V» → Float
 distance c p = dot (sub p (c .a)) (c .along)
 
 -- a state blocks nothing at or before the chord's start, at its end or beyond
-abbrev pub passed : Chord → «V» → Bool
-passed c p = le (distance c p) f0 || le (c .len) (distance c p)
+abbrev pub offChord : Chord → «V» → Bool
+offChord c p = le (distance c p) f0 || le (c .len) (distance c p)
 
 -- the distance that the centre of a state keeps from the arc
 abbrev pub need : Float
-need = f22 ⊕ f10
+need = nodeRadius ⊕ fullClearance
 
 abbrev pub rise : Float → Float
 rise t = f2 ⊗ t ⊗ (f1 ⊖ t)
@@ -34,16 +34,16 @@ abbrev pub across : Chord → «V» → Float
 across c p = dot (sub p (c .a)) (left (c .along))
 
 abbrev pub spanOf : Chord → «V» → Span
-spanOf c p = let r = rise (distance c p ⊘ c .len) in span ((across c p ⊖ need) ⊘ r) ((across c p ⊕ need) ⊘ r)
+spanOf c p = let r = rise (distance c p ⊘ c .len) in spanFrom ((across c p ⊖ need) ⊘ r) ((across c p ⊕ need) ⊘ r)
 
 -- the intervals of these states, in order
 unfoldable pub intervals : Chord → List «V» → List Span
 intervals c [] = []
-intervals c (p ∷ ps) = let rest = intervals c ps in cond (passed c p) rest (spanOf c p ∷ rest)
+intervals c (p ∷ ps) = let rest = intervals c ps in cond (offChord c p) rest (spanOf c p ∷ rest)
 
 -- the blocked intervals of an arrow
 abbrev pub blocked : Chord → List «V» → List Span
-blocked c ps = intervals c (others c ps)
+blocked c ps = intervals c (otherStates c ps)
 
 -- ---- as the code keeps them: the first n of two slices
 
@@ -54,7 +54,7 @@ pub record Spans (n : ℕ) (lo hi : List Float) (l : List Span) : Type 0 where
 
 -- the interval of state k at p, where it has one
 abbrev pub blockedBy : Chord → ℕ → «V» → List Span
-blockedBy c k p = cond (isEnd c k) [] (cond (passed c p) [] (spanOf c p ∷ []))
+blockedBy c k p = cond (isEnd c k) [] (cond (offChord c p) [] (spanOf c p ∷ []))
 
 -- that interval behind the first n
 pub record Grown (c : Chord) (k : ℕ) (p : «V») (n : ℕ) (lo hi : List Float) (m : ℕ) (lo′ hi′ : List Float) : Type 0 where

@@ -25,5 +25,5 @@ unfoldable pub othersFrom : Chord → ℕ → List «V» → List «V»
 othersFrom c k [] = []
 othersFrom c k (p ∷ ps) = let rest = othersFrom c (suc k) ps in cond (isEnd c k) rest (p ∷ rest)
 
-abbrev pub others : Chord → List «V» → List «V»
-others c ps = othersFrom c 0 ps
+abbrev pub otherStates : Chord → List «V» → List «V»
+otherStates c ps = othersFrom c 0 ps

@@ -5,41 +5,41 @@ use Prim.Native.Nat.{ℕ, zero, suc}
 use lib.ListN.{length}
 use lib.Ieee.{Float}
 use Rattle.laws.specs.Loops.{over}
-use Rattle.laws.specs.Zip.{zip}
+use Rattle.laws.specs.Zip.{zipBy}
 use Rattle.float.specs.Ops.{lt}
 use Rattle.float.specs.Constants.{f0}
 use Rattle.free.specs.declared.Span.{Span}
 use Rattle.free.specs.declared.Pass.{Pass}
 
-abbrev pub span : Float → Float → Span
-span lo hi = record { lo = lo; hi = hi }
+abbrev pub spanFrom : Float → Float → Span
+spanFrom lo hi = record { lo = lo; hi = hi }
 
 -- the intervals, from their lower and their upper ends
 abbrev pub spans : List Float → List Float → List Span
-spans lo hi = zip span lo hi
+spans lo hi = zipBy spanFrom lo hi
 
 -- strictly inside
 abbrev pub inside : Span → Float → Bool
 inside s h = lt (s .lo) h && lt h (s .hi)
 
 -- strictly inside one of them
-unfoldable pub holds : List Span → Float → Bool
-holds [] h = false
-holds (s ∷ l) h = inside s h || holds l h
+unfoldable pub insideSome : List Span → Float → Bool
+insideSome [] h = false
+insideSome (s ∷ l) h = inside s h || insideSome l h
 
 -- where an interval sends a bow that is inside it: upwards (dir above 0) to its upper end, else to its lower
-abbrev pub target : Float → Span → Float
-target dir s = cond (lt f0 dir) (s .hi) (s .lo)
+abbrev pub sentTo : Float → Span → Float
+sentTo dir s = cond (lt f0 dir) (s .hi) (s .lo)
 
 unfoldable pub visit : Float → Pass → Span → Pass
-visit dir p s = cond (inside s (p .h)) (record { h = target dir s; moved = true }) p
+visit dir p s = cond (inside s (p .h)) (record { h = sentTo dir s; moved = true }) p
 
-abbrev pub start : Float → Pass
-start h = record { h = h; moved = false }
+abbrev pub passStart : Float → Pass
+passStart h = record { h = h; moved = false }
 
 -- one full pass over the intervals, in order
 unfoldable pub pass : Float → List Span → Float → Pass
-pass dir l h = over (visit dir) (start h) l
+pass dir l h = over (visit dir) (passStart h) l
 
 -- at most m passes, up to the first that moves nothing
 unfoldable pub passes : Float → List Span → ℕ → Float → Float

@@ -2,4 +2,4 @@ pub mod Chords
 pub mod Blocked
 pub mod Free
 pub mod Moves
-pub mod Turns
+pub mod Steps

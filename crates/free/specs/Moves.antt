@@ -11,12 +11,13 @@ use lib.Ieee.{Float}
 use lib.Ieee.Fits.{and-l, and-r}
 use Rattle.laws.specs.Cases.{by-bool, holds as yes-of}
 use Rattle.laws.specs.Loops.{over}
-use Rattle.laws.specs.Order.{lt-trans, lt-itself}
+use Rattle.laws.specs.Order.{float-lt-trans, lt-itself}
+use Rattle.laws.specs.Bools.{clash}
 use Rattle.float.specs.Ops.{lt}
 use Rattle.float.specs.Constants.{f0}
 use Rattle.free.specs.declared.Span.{Span}
 use Rattle.free.specs.declared.Pass.{Pass}
-use Rattle.free.specs.Free.{inside, holds, target, visit, start, pass, passes, firstFree}
+use Rattle.free.specs.Free.{inside, insideSome, sentTo, visit, passStart, pass, passes, firstFree}
 
 -- ---- the moves
 
@@ -31,7 +32,7 @@ movesOf dir l zero h = 0
 movesOf dir l (suc m) h =
     let s = pass dir l h in
     let more = movesOf dir l m (s .h) in
-    movesIn dir (start h) l + cond (s .moved) more 0
+    movesIn dir (passStart h) l + cond (s .moved) more 0
 
 -- the moves of the search
 abbrev pub moves : Float → List Span → Float → ℕ
@@ -46,8 +47,8 @@ ahead false h t = lt t h
 
 ahead-trans : (u : Bool) (h t x : Float) → T (ahead u h t) → T (ahead u t x) → T (ahead u h x)
 unfolding ahead
-ahead-trans true h t x a b = lt-trans h t x a b
-ahead-trans false h t x a b = lt-trans x t h b a
+ahead-trans true h t x a b = float-lt-trans h t x a b
+ahead-trans false h t x a b = float-lt-trans x t h b a
 
 ahead-itself : (u : Bool) (t : Float) → T (ahead u t t) → ⊥
 unfolding ahead
@@ -76,38 +77,38 @@ data Has (s : Span) : List Span → Type 0 where
 
 module _ (dir : Float) where
   -- how many intervals' ends lie ahead of h
-  pub left : List Span → Float → ℕ
-  left [] h = 0
-  left (s ∷ l) h = cond (ahead (lt f0 dir) h (target dir s)) 1 0 + left l h
+  pub spansAhead : List Span → Float → ℕ
+  spansAhead [] h = 0
+  spansAhead (s ∷ l) h = cond (ahead (lt f0 dir) h (sentTo dir s)) 1 0 + spansAhead l h
 
-  left-bound : (l : List Span) (h : Float) → left l h ≤ length l
-  unfolding left
+  left-bound : (l : List Span) (h : Float) → spansAhead l h ≤ length l
+  unfolding spansAhead
   left-bound [] h = omega arith
   left-bound (s ∷ l) h =
-      let b : cond (ahead (lt f0 dir) h (target dir s)) 1 0 ≤ cond true 1 0 = bit-le (ahead (lt f0 dir) h (target dir s)) true (λ _. tt) in
+      let b : cond (ahead (lt f0 dir) h (sentTo dir s)) 1 0 ≤ cond true 1 0 = bit-le (ahead (lt f0 dir) h (sentTo dir s)) true (λ _. tt) in
       omega (arith, left-bound l h)
 
-  left-le : (l : List Span) (h t : Float) → T (ahead (lt f0 dir) h t) → left l t ≤ left l h
-  unfolding left
+  left-le : (l : List Span) (h t : Float) → T (ahead (lt f0 dir) h t) → spansAhead l t ≤ spansAhead l h
+  unfolding spansAhead
   left-le [] h t a = omega arith
   left-le (s ∷ l) h t a =
-      let b = bit-le (ahead (lt f0 dir) t (target dir s)) (ahead (lt f0 dir) h (target dir s)) (ahead-trans (lt f0 dir) h t (target dir s) a) in
+      let b = bit-le (ahead (lt f0 dir) t (sentTo dir s)) (ahead (lt f0 dir) h (sentTo dir s)) (ahead-trans (lt f0 dir) h t (sentTo dir s) a) in
       omega (arith, left-le l h t a)
 
-  move-falls : (s : Span) {l : List Span} (h : Float) → Has s l → T (inside s h) → left l (target dir s) < left l h
-  unfolding left
+  move-falls : (s : Span) {l : List Span} (h : Float) → Has s l → T (inside s h) → spansAhead l (sentTo dir s) < spansAhead l h
+  unfolding spansAhead
   move-falls s h (here {l}) t =
       let a = inside-ahead (lt f0 dir) s h t in
-      let b = bit-lt (ahead (lt f0 dir) (target dir s) (target dir s)) (ahead (lt f0 dir) h (target dir s)) (ahead-itself (lt f0 dir) (target dir s)) a in
-      omega (arith, left-le l h (target dir s) a)
+      let b = bit-lt (ahead (lt f0 dir) (sentTo dir s) (sentTo dir s)) (ahead (lt f0 dir) h (sentTo dir s)) (ahead-itself (lt f0 dir) (sentTo dir s)) a in
+      omega (arith, left-le l h (sentTo dir s) a)
   move-falls s h (there {x} {l} m) t =
       let a = inside-ahead (lt f0 dir) s h t in
-      let b = bit-le (ahead (lt f0 dir) (target dir s) (target dir x)) (ahead (lt f0 dir) h (target dir x)) (ahead-trans (lt f0 dir) h (target dir s) (target dir x) a) in
+      let b = bit-le (ahead (lt f0 dir) (sentTo dir s) (sentTo dir x)) (ahead (lt f0 dir) h (sentTo dir x)) (ahead-trans (lt f0 dir) h (sentTo dir s) (sentTo dir x) a) in
       omega (arith, move-falls s h m t)
 
-  -- ---- one interval's turn, and a run of turns
+  -- ---- one interval's step, and a run of steps
 
-  pub visit-in : (p : Pass) (s : Span) → inside s (p .h) ≡ true → visit dir p s ≡ record { h = target dir s; moved = true }
+  pub visit-in : (p : Pass) (s : Span) → inside s (p .h) ≡ true → visit dir p s ≡ record { h = sentTo dir s; moved = true }
   unfolding visit
   visit-in p s e = rw e
 
@@ -124,16 +125,13 @@ module _ (dir : Float) where
   stays p (s ∷ l) e = stays (visit dir p s) l (by-bool (inside s (p .h)) (λ i. rw (visit-in p s i)) (λ i. rw (visit-out p s i) e))
 
   -- a run that moved nothing is where it began, which is inside none of its intervals
-  still : (p : Pass) (l : List Span) → end p l .moved ≡ false → (end p l ≡ p) × (holds l (p .h) ≡ false)
-  unfolding end over holds
+  still : (p : Pass) (l : List Span) → end p l .moved ≡ false → (end p l ≡ p) × (insideSome l (p .h) ≡ false)
+  unfolding end over insideSome
   still p [] e = (refl, refl)
   still p (s ∷ l) e =
       by-bool (inside s (p .h))
-      (λ i. absurd (clash (sym (stays (visit dir p s) l (rw (visit-in p s i))) ∙ e)))
+      (λ i. clash (stays (visit dir p s) l (rw (visit-in p s i))) e)
       (λ i. let r = still (visit dir p s) l e in let v = visit-out p s i in (r .0 ∙ v, rw (i, ← v) (rw v (rw v at (r .1)))))
-    where
-      clash : true ≡ false → ⊥
-      clash e = subst T e tt
 
   -- a run that moved something has moves
   moved : (p : Pass) (l : List Span) → p .moved ≡ false → end p l .moved ≡ true → 0 < movesIn dir p l
@@ -145,30 +143,30 @@ module _ (dir : Float) where
       (λ i. let k : 0 < movesIn dir (visit dir p s) l = moved (visit dir p s) l (rw (visit-out p s i) f) e in omega arith)
 
   -- the moves of a run, and the ends that are left ahead
-  count : (w : List Span) (p : Pass) (l : List Span) → ((s : Span) → Has s l → Has s w) → movesIn dir p l + left w (end p l .h) ≤ left w (p .h)
+  count : (w : List Span) (p : Pass) (l : List Span) → ((s : Span) → Has s l → Has s w) → movesIn dir p l + spansAhead w (end p l .h) ≤ spansAhead w (p .h)
   unfolding end over movesIn
   count w p [] f = omega arith
   count w p (s ∷ l) f =
       let r = count w (visit dir p s) l (λ x m. f x (there m)) in
       by-bool (inside s (p .h))
       (λ i.
-      let k : left w (target dir s) < left w (p .h) = move-falls s (p .h) (f s here) (yes-of i) in
-      let v : left w (visit dir p s .h) ≡ left w (target dir s) = ap (λ (q : Pass). left w (q .h)) (visit-in p s i) in
+      let k : spansAhead w (sentTo dir s) < spansAhead w (p .h) = move-falls s (p .h) (f s here) (yes-of i) in
+      let v : spansAhead w (visit dir p s .h) ≡ spansAhead w (sentTo dir s) = ap (λ (q : Pass). spansAhead w (q .h)) (visit-in p s i) in
       rw i (omega arith))
-      (λ i. let v : left w (visit dir p s .h) ≡ left w (p .h) = ap (λ (q : Pass). left w (q .h)) (visit-out p s i) in rw i (omega arith))
+      (λ i. let v : spansAhead w (visit dir p s .h) ≡ spansAhead w (p .h) = ap (λ (q : Pass). spansAhead w (q .h)) (visit-out p s i) in rw i (omega arith))
 
 module _ (dir : Float) (l : List Span) where
-  pass-count : (h : Float) → movesIn dir (start h) l + left dir l (pass dir l h .h) ≤ left dir l h
+  pass-count : (h : Float) → movesIn dir (passStart h) l + spansAhead dir l (pass dir l h .h) ≤ spansAhead dir l h
   unfolding pass end
-  pass-count h = count dir l (start h) l (λ s m. m)
+  pass-count h = count dir l (passStart h) l (λ s m. m)
 
-  pub pass-falls : (h : Float) → pass dir l h .moved ≡ true → left dir l (pass dir l h .h) < left dir l h
+  pub pass-falls : (h : Float) → pass dir l h .moved ≡ true → spansAhead dir l (pass dir l h .h) < spansAhead dir l h
   unfolding pass end
-  pass-falls h e = let k : 0 < movesIn dir (start h) l = moved dir (start h) l refl e in omega (arith, pass-count h)
+  pass-falls h e = let k : 0 < movesIn dir (passStart h) l = moved dir (passStart h) l refl e in omega (arith, pass-count h)
 
-  pass-still : (h : Float) → pass dir l h .moved ≡ false → (pass dir l h .h ≡ h) × (holds l h ≡ false)
+  pass-still : (h : Float) → pass dir l h .moved ≡ false → (pass dir l h .h ≡ h) × (insideSome l h ≡ false)
   unfolding pass end
-  pass-still h e = let r = still dir (start h) l e in (ap (λ (p : Pass). p .h) (r .0), r .1)
+  pass-still h e = let r = still dir (passStart h) l e in (ap (λ (p : Pass). p .h) (r .0), r .1)
 
   -- ---- the passes
 
@@ -181,7 +179,7 @@ module _ (dir : Float) (l : List Span) where
   last m h e = rw e
 
   -- any number of passes above that of the ends ahead will do
-  enough : (m k : ℕ) (h : Float) → left dir l h < m → left dir l h < k → passes dir l m h ≡ passes dir l k h
+  enough : (m k : ℕ) (h : Float) → spansAhead dir l h < m → spansAhead dir l h < k → passes dir l m h ≡ passes dir l k h
   enough zero k h p q = absurd (omega arith)
   enough (suc m) zero h p q = absurd (omega arith)
   enough (suc m) (suc k) h p q =
@@ -199,19 +197,19 @@ module _ (dir : Float) (l : List Span) where
       one-more _ h e
       ∙ enough _ _ (pass dir l h .h) (omega (arith, pass-falls h e, left-bound dir l h)) (omega (arith, pass-falls h e, left-bound dir l h))
 
-  passes-free : (m : ℕ) (h : Float) → left dir l h < m → holds l (passes dir l m h) ≡ false
+  passes-free : (m : ℕ) (h : Float) → spansAhead dir l h < m → insideSome l (passes dir l m h) ≡ false
   passes-free zero h p = absurd (omega arith)
   passes-free (suc m) h p =
       by-bool (pass dir l h .moved)
       (λ e. rw (one-more m h e) (passes-free m (pass dir l h .h) (omega (arith, pass-falls h e))))
-      (λ e. let r = pass-still h e in ap (holds l) (last m h e ∙ r .0) ∙ r .1)
+      (λ e. let r = pass-still h e in ap (insideSome l) (last m h e ∙ r .0) ∙ r .1)
 
   -- The first free bow lies strictly inside no interval.
-  pub free-of : (h : Float) → holds l (firstFree dir l h) ≡ false
+  pub free-of : (h : Float) → insideSome l (firstFree dir l h) ≡ false
   unfolding firstFree
   free-of h = passes-free (suc (length l)) h (omega (arith, left-bound dir l h))
 
-  moves-left : (m : ℕ) (h : Float) → movesOf dir l m h ≤ left dir l h
+  moves-left : (m : ℕ) (h : Float) → movesOf dir l m h ≤ spansAhead dir l h
   unfolding movesOf
   moves-left zero h = omega arith
   moves-left (suc m) h =
@@ -231,14 +229,14 @@ module _ (dir : Float) (l : List Span) (P : Float → Type 0) (step : (h t : Flo
   run-keeps p (s ∷ q) k =
       run-keeps (visit dir p s) q
       (by-bool (inside s (p .h))
-      (λ i. rw (visit-in dir p s i) (step (p .h) (target dir s) k (inside-ahead (lt f0 dir) s (p .h) (yes-of i))))
+      (λ i. rw (visit-in dir p s i) (step (p .h) (sentTo dir s) k (inside-ahead (lt f0 dir) s (p .h) (yes-of i))))
       (λ i. rw (visit-out dir p s i) k))
 
   passes-keep : (m : ℕ) (h : Float) → P h → P (passes dir l m h)
   unfolding passes pass
   passes-keep zero h k = k
   passes-keep (suc m) h k =
-      let r : P (pass dir l h .h) = unfold pass in (run-keeps (start h) l k) in
+      let r : P (pass dir l h .h) = unfold pass in (run-keeps (passStart h) l k) in
       by-bool (pass dir l h .moved)
       (λ e. rw e (passes-keep m (pass dir l h .h) r))
       (λ e. rw e r)

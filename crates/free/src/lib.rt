@@ -1,4 +1,5 @@
 // The bows that states beside an arrow block, and the first free one.
+use shape::NODE_RADIUS;
 use shape::V;
 ghost use mathlib.Core.Path.{_≡_};
 ghost use Prim.Native.Nat.{_+_, _<_, _≤_};
@@ -7,6 +8,9 @@ ghost use Rattle.shape.specs.Centres.{centres};
 ghost use Rattle.free.specs.Chords as C;
 ghost use Rattle.free.specs.Blocked as B;
 ghost use Rattle.free.specs.Free as F;
+
+// The free space that an arrow keeps around states that it passes.
+pub const CLEARANCE: f64 = 10.0;
 
 // The straight way from the centre of one state to that of another: a to b, with its direction and length.
 pub struct Chord {
@@ -56,7 +60,7 @@ pub fn is_end(c: Chord, k: usize) -> bool
 
 // Whether a state at p does not lie beside the chord.
 fn passed(c: Chord, p: V) -> bool
-    ensures { λ r. ⌜ r ≡ B.passed c p ⌝ }
+    ensures { λ r. ⌜ r ≡ B.offChord c p ⌝ }
 {
     let distance = p.sub(c.a).dot(c.along);
     if distance <= 0.0 {
@@ -65,7 +69,7 @@ fn passed(c: Chord, p: V) -> bool
     c.len <= distance
 }
 
-// The bows at which the arc comes nearer than 10 to the rim of a state at p.
+// The bows at which the arc comes nearer than CLEARANCE to the rim of a state at p.
 fn span_of(c: Chord, p: V) -> Span
     ensures { λ r. ⌜ r ≡ B.spanOf c p ⌝ }
 {
@@ -73,7 +77,7 @@ fn span_of(c: Chord, p: V) -> Span
     let t = rel.dot(c.along) / c.len;
     let rise = 2.0 * t * (1.0 - t);
     let across = rel.dot(c.along.left());
-    let need = 22.0 + 10.0;
+    let need = NODE_RADIUS + CLEARANCE;
     Span {
         lo: (across - need) / rise,
         hi: (across + need) / rise,
@@ -103,7 +107,8 @@ pub fn blocked(xs: &[f64], ys: &[f64], c: Chord, lo: &mut [f64], hi: &mut [f64])
     requires { ⌜ length (now ys) ≡ length (now xs) ⌝ }
     requires { ⌜ length (now hi) ≡ length (now lo) ⌝ }
     requires { ⌜ length (now xs) ≤ length (now lo) ⌝ }
-    ensures { λ r. ⌜ B.Spans r (now (lo .exit)) (now (hi .exit)) (B.blocked c (centres (now (xs .entry)) (now (ys .entry)))) ⌝ }
+    ensures { λ r.
+        ⌜ B.Spans r (now (lo .exit)) (now (hi .exit)) (B.blocked c (centres (now (xs .entry)) (now (ys .entry)))) ⌝ }
 {
     let mut n = 0;
     for k in 0..xs.len() {
@@ -114,15 +119,15 @@ pub fn blocked(xs: &[f64], ys: &[f64], c: Chord, lo: &mut [f64], hi: &mut [f64])
 
 // Whether h lies inside the open interval.
 fn inside(lo: f64, hi: f64, h: f64) -> bool
-    ensures { λ r. ⌜ r ≡ F.inside (F.span lo hi) h ⌝ }
+    ensures { λ r. ⌜ r ≡ F.inside (F.spanFrom lo hi) h ⌝ }
 {
     lo < h && h < hi
 }
 
 // Whether some interval has h inside.
-pub fn holds(lo: &[f64], hi: &[f64], h: f64) -> bool
+pub fn inside_some(lo: &[f64], hi: &[f64], h: f64) -> bool
     requires { ⌜ length (now hi) ≡ length (now lo) ⌝ }
-    ensures { λ r. ⌜ r ≡ F.holds (F.spans (now (lo .entry)) (now (hi .entry))) h ⌝ }
+    ensures { λ r. ⌜ r ≡ F.insideSome (F.spans (now (lo .entry)) (now (hi .entry))) h ⌝ }
 {
     for i in 0..lo.len() {
         if inside(lo[i], hi[i], h) {
@@ -138,9 +143,9 @@ pub struct Pass {
     pub moved: bool,
 }
 
-// One interval's turn: an h inside it goes to its upper end where dir is above 0, else to its lower.
+// One interval's step: an h inside it goes to its upper end where dir is above 0, else to its lower.
 fn visit(dir: f64, s: Pass, lo: f64, hi: f64) -> Pass
-    ensures { λ r. ⌜ r ≡ F.visit dir s (F.span lo hi) ⌝ }
+    ensures { λ r. ⌜ r ≡ F.visit dir s (F.spanFrom lo hi) ⌝ }
 {
     if inside(lo, hi, s.h) {
         if dir > 0.0 {
@@ -151,8 +156,8 @@ fn visit(dir: f64, s: Pass, lo: f64, hi: f64) -> Pass
     s
 }
 
-// The first h from `start` upwards (dir > 0) or downwards that is inside no interval: passes over all intervals, until one
-// moves nothing.
+// The first h from `start` upwards (dir > 0) or downwards that is inside no interval: passes over all intervals,
+// until one moves nothing.
 pub fn first_free(lo: &[f64], hi: &[f64], start: f64, dir: f64) -> f64
     requires { ⌜ length (now hi) ≡ length (now lo) ⌝ }
     ensures { λ r. ⌜ r ≡ F.firstFree dir (F.spans (now (lo .entry)) (now (hi .entry))) start ⌝ }

@@ -6,7 +6,7 @@ use lib.ListN.{length}
 use lib.Ieee.{Float}
 use Rattle.sheet.specs.Sheet.{Arrow, Graph, firstLine, arrowChain, arrowOf, arrowsOf, linesFrom, meaning}
 use Rattle.label.specs.Label.{blockWidth, blockHeight}
-use Rattle.meaning.specs.Read.{heads}
+use Rattle.meaning.specs.Read.{firstLines}
 
 abbrev pub widthOf : Arrow → Float
 widthOf a = blockWidth (a .lines)
@@ -37,10 +37,10 @@ unfolding arrowOf heightFrom
 heights-go s [] = refl
 heights-go s (k ∷ l) = ap (λ (r : List Float). heightOf (arrowOf s k) ∷ r) (heights-go s l)
 
-pub widths-are : (s : List ℕ) → map (widthFrom s) (heads s) ≡ widths (meaning s)
-unfolding heads arrowsOf widths
+pub widths-are : (s : List ℕ) → map (widthFrom s) (firstLines s) ≡ widths (meaning s)
+unfolding firstLines arrowsOf widths
 widths-are s = widths-go s (arrowChain s)
 
-pub heights-are : (s : List ℕ) → map (heightFrom s) (heads s) ≡ heights (meaning s)
-unfolding heads arrowsOf heights
+pub heights-are : (s : List ℕ) → map (heightFrom s) (firstLines s) ≡ heights (meaning s)
+unfolding firstLines arrowsOf heights
 heights-are s = heights-go s (arrowChain s)

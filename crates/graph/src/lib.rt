@@ -10,7 +10,10 @@ ghost use Rattle.graph.specs.Sizes as Z;
 // The size of each arrow's label, from the first line record of each arrow.
 fn sizes_from(s: &[u8], heads: &[u16], widths: &mut [f64], heights: &mut [f64])
     requires { ⌜ (length (now widths) ≡ length (now heads)) × (length (now heights) ≡ length (now heads)) ⌝ }
-    ensures { λ _. ⌜ (now (widths .exit) ≡ map (Z.widthFrom (now (s .entry))) (now (heads .entry))) × (now (heights .exit) ≡ map (Z.heightFrom (now (s .entry))) (now (heads .entry))) ⌝ }
+    ensures { λ _. ⌜
+        (now (widths .exit) ≡ map (Z.widthFrom (now (s .entry))) (now (heads .entry)))
+        × (now (heights .exit) ≡ map (Z.heightFrom (now (s .entry))) (now (heads .entry)))
+        ⌝ }
 {
     for k in 0..heads.len() {
         let b = label::block_at(s, heads[k] as usize);
@@ -21,8 +24,15 @@ fn sizes_from(s: &[u8], heads: &[u16], widths: &mut [f64], heights: &mut [f64])
 
 // The size of each arrow's label; `heads` is left with the first line record of each.
 fn sizes_by(s: &[u8], heads: &mut [u16], widths: &mut [f64], heights: &mut [f64])
-    requires { ⌜ (length (now heads) ≡ length (S.arrowsOf (now s))) × (length (now widths) ≡ length (S.arrowsOf (now s))) × (length (now heights) ≡ length (S.arrowsOf (now s))) ⌝ }
-    ensures { λ _. ⌜ (now (heads .exit) ≡ M.heads (now (s .entry))) × (now (widths .exit) ≡ Z.widths (S.meaning (now (s .entry)))) × (now (heights .exit) ≡ Z.heights (S.meaning (now (s .entry)))) ⌝ }
+    requires { let arrows = length (S.arrowsOf (now s)) in
+        ⌜ (length (now heads) ≡ arrows)
+        × (length (now widths) ≡ arrows)
+        × (length (now heights) ≡ arrows) ⌝ }
+    ensures { λ _.
+        let graph = S.meaning (now (s .entry)) in
+        ⌜ (now (heads .exit) ≡ M.firstLines (now (s .entry)))
+        × (now (widths .exit) ≡ Z.widths graph)
+        × (now (heights .exit) ≡ Z.heights graph) ⌝ }
 {
     meaning::heads_into(s, heads);
     sizes_from(s, heads, widths, heights);
@@ -30,8 +40,13 @@ fn sizes_by(s: &[u8], heads: &mut [u16], widths: &mut [f64], heights: &mut [f64]
 
 // The size of each arrow's label.
 fn sizes_into(s: &[u8], widths: &mut [f64], heights: &mut [f64])
-    requires { ⌜ (length (now widths) ≡ length (S.arrowsOf (now s))) × (length (now heights) ≡ length (S.arrowsOf (now s))) × (length (S.arrowsOf (now s)) ≤ 256) ⌝ }
-    ensures { λ _. ⌜ (now (widths .exit) ≡ Z.widths (S.meaning (now (s .entry)))) × (now (heights .exit) ≡ Z.heights (S.meaning (now (s .entry)))) ⌝ }
+    requires { let arrows = length (S.arrowsOf (now s)) in
+        ⌜ (length (now widths) ≡ arrows)
+        × (length (now heights) ≡ arrows)
+        × (arrows ≤ 256) ⌝ }
+    ensures { λ _.
+        let graph = S.meaning (now (s .entry)) in
+        ⌜ (now (widths .exit) ≡ Z.widths graph) × (now (heights .exit) ≡ Z.heights graph) ⌝ }
 {
     let mut heads = [0u16; 256];
     let m = widths.len();
@@ -48,9 +63,19 @@ pub fn read(
     heights: &mut [f64],
 )
     requires { ⌜ length (now flags) ≡ length (S.statesOf (now s)) ⌝ }
-    requires { ⌜ (length (now sources) ≡ length (S.arrowsOf (now s))) × (length (now targets) ≡ length (S.arrowsOf (now s))) ⌝ }
-    requires { ⌜ (length (now widths) ≡ length (S.arrowsOf (now s))) × (length (now heights) ≡ length (S.arrowsOf (now s))) × (length (S.arrowsOf (now s)) ≤ 256) ⌝ }
-    ensures { λ _. ⌜ (now (flags .exit) ≡ S.flagsOf (S.meaning (now (s .entry)))) × (now (sources .exit) ≡ M.sources (S.meaning (now (s .entry)))) × (now (targets .exit) ≡ M.targets (S.meaning (now (s .entry)))) × (now (widths .exit) ≡ Z.widths (S.meaning (now (s .entry)))) × (now (heights .exit) ≡ Z.heights (S.meaning (now (s .entry)))) ⌝ }
+    requires { let arrows = length (S.arrowsOf (now s)) in
+        ⌜ (length (now sources) ≡ arrows)
+        × (length (now targets) ≡ arrows)
+        × (length (now widths) ≡ arrows)
+        × (length (now heights) ≡ arrows)
+        × (arrows ≤ 256) ⌝ }
+    ensures { λ _.
+        let graph = S.meaning (now (s .entry)) in
+        ⌜ (now (flags .exit) ≡ S.flagsOf graph)
+        × (now (sources .exit) ≡ M.sources graph)
+        × (now (targets .exit) ≡ M.targets graph)
+        × (now (widths .exit) ≡ Z.widths graph)
+        × (now (heights .exit) ≡ Z.heights graph) ⌝ }
 {
     meaning::flags_into(s, flags);
     meaning::sources_into(s, sources);

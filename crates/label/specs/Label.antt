@@ -1,34 +1,26 @@
 -- The size of a label block, and the answer of the call that gives it.
-use mathlib.Core.Path.{_≡_, refl}
 use mathlib.Core.Bool.{cond, not}
 use mathlib.Core.List.{List, [], _∷_}
 use Prim.Native.Nat.{ℕ, _+_}
 use lib.Dec.{ltb, eqb}
 use lib.ListN.{length, take, drop}
-use lib.Ieee.{Float, binary64, ofBits, round, mul}
+use lib.Ieee.{Float}
 use Rattle.laws.specs.Loops.{over}
 use Rattle.laws.specs.Refusals.{Refusal, refusal, decide}
-use Rattle.float.specs.Ops.{_⊕_, _⊗_, count}
-use Rattle.float.specs.Constants.{f0, f12, f15, f0-6}
+use Rattle.laws.specs.Any.{anyOf}
+use Rattle.float.specs.Ops.{_⊕_, _⊗_, ofNat}
+use Rattle.float.specs.Constants.{f0, labelCharWidth, labelWideCharWidth, labelLineHeight}
 use Rattle.float.specs.Standins.{max}
 use Rattle.text.specs.Utf8.{codePoints}
 use Rattle.sheet.specs.declared.Limits.{Limits}
-use Rattle.sheet.specs.Refusals.{any, illLine}
+use Rattle.sheet.specs.Refusals.{illLine}
 use Rattle.label.specs.declared.Block.{Block}
 use Rattle.label.specs.declared.Sized.{Sized}
 use Rattle.label.specs.declared.Sized.the-variants.{Size, Refused}
 
--- ---- 'Character widths: ASCII 0.6·12, all others 12, line height 15'
-abbrev pub asciiWidth : Float
-asciiWidth = ofBits binary64 0x401ccccccccccccc
-
-pub ascii-width-is : asciiWidth ≡ f0-6 ⊗ f12
-unfolding ofBits mul round
-ascii-width-is = refl
-
--- the width of a code point
+-- 'Character widths: ASCII 0.6·12, all others 12, line height 15': the width of a code point
 unfoldable pub charWidth : ℕ → Float
-charWidth c = cond (ltb c 0x80) asciiWidth f12
+charWidth c = cond (ltb c 0x80) labelCharWidth labelWideCharWidth
 
 abbrev pub widened : Float → ℕ → Float
 widened w c = w ⊕ charWidth c
@@ -38,14 +30,14 @@ unfoldable pub lineWidth : List ℕ → Float
 lineWidth line = over widened f0 (codePoints line)
 
 -- the widest line, from 0, and a line height for each line
-unfoldable pub wider : Float → List ℕ → Float
-wider w line = max w (lineWidth line)
+unfoldable pub widerLine : Float → List ℕ → Float
+widerLine w line = max w (lineWidth line)
 
 abbrev pub blockWidth : List (List ℕ) → Float
-blockWidth lines = over wider f0 lines
+blockWidth lines = over widerLine f0 lines
 
 abbrev pub blockHeight : ℕ → Float
-blockHeight n = count n ⊗ f15
+blockHeight n = ofNat n ⊗ labelLineHeight
 
 -- the size of a block with these lines
 abbrev pub block : List (List ℕ) → Block
@@ -57,18 +49,18 @@ unfoldable pub cut : List ℕ → List ℕ → List (List ℕ)
 cut s [] = []
 cut s (n ∷ ns) = take n s ∷ cut (drop n s) ns
 
-unfoldable pub total : List ℕ → ℕ
-total [] = 0
-total (n ∷ ns) = n + total ns
+unfoldable pub totalLength : List ℕ → ℕ
+totalLength [] = 0
+totalLength (n ∷ ns) = n + totalLength ns
 
 -- 'It meets only 5 (also where the lengths do not add up to the text) and 6': more lines, or more bytes in a line, than the limits;
 -- lengths that do not add up; then a line that is not well-formed UTF-8
 abbrev pub labelRefusals : Limits → List ℕ → List ℕ → List Refusal
 labelRefusals m text lengths =
     refusal 5 (ltb (m .lines) (length lengths))
-    ∷ refusal 5 (any (ltb (m .bytes)) lengths)
-    ∷ refusal 5 (not (eqb (length text) (total lengths)))
-    ∷ refusal 6 (any illLine (cut text lengths))
+    ∷ refusal 5 (anyOf (ltb (m .bytes)) lengths)
+    ∷ refusal 5 (not (eqb (length text) (totalLength lengths)))
+    ∷ refusal 6 (anyOf illLine (cut text lengths))
     ∷ []
 
 unfoldable pub sized : Limits → List ℕ → List ℕ → Sized

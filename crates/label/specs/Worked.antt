@@ -7,9 +7,11 @@ use lib.ListN.{replicate}
 use lib.Ieee.{binary64, toBits, ofBits, ofFields, ofInt, round, add, mul, lt, eq, ne, size, span, climb, units, odd, sum, isNan}
 use Rattle.laws.specs.Loops.{over}
 use Rattle.laws.specs.Refusals.{decide}
+use Rattle.laws.specs.Any.{anyOf}
 use Rattle.text.specs.Utf8.{payload, codesFrom}
-use Rattle.sheet.specs.Refusals.{mainScreen, any}
-use Rattle.label.specs.Label.{charWidth, lineWidth, wider, cut, total, sized}
+use Rattle.sheet.specs.Refusals.{mainScreen}
+use Rattle.text.specs.Ascii.{ascii}
+use Rattle.label.specs.Label.{charWidth, lineWidth, widerLine, cut, totalLength, sized}
 use Rattle.label.specs.declared.Sized.{Sized}
 use Rattle.label.specs.declared.Sized.the-variants.{Size, Refused}
 
@@ -30,14 +32,21 @@ gives text lengths w h = isSize w h (sized mainScreen text lengths)
 abbrev refuses : List ℕ → List ℕ → ℕ → Bool
 refuses text lengths n = isRefused n (sized mainScreen text lengths)
 
+-- `↦` and `␣` in UTF-8
+abbrev mapsTo : List ℕ
+mapsTo = 0xe2 ∷ 0x86 ∷ 0xa6 ∷ []
+
+abbrev openBox : List ℕ
+openBox = 0xe2 ∷ 0x90 ∷ 0xa3 ∷ []
+
 -- `a ↦ b, R` and `␣ ↦ ␣, L`
 abbrev first : List ℕ
-first = 0x61 ∷ 0x20 ∷ 0xe2 ∷ 0x86 ∷ 0xa6 ∷ 0x20 ∷ 0x62 ∷ 0x2c ∷ 0x20 ∷ 0x52 ∷ []
+first = ascii "a " ++ mapsTo ++ ascii " b, R"
 
 abbrev second : List ℕ
-second = 0xe2 ∷ 0x90 ∷ 0xa3 ∷ 0x20 ∷ 0xe2 ∷ 0x86 ∷ 0xa6 ∷ 0x20 ∷ 0xe2 ∷ 0x90 ∷ 0xa3 ∷ 0x2c ∷ 0x20 ∷ 0x4c ∷ []
+second = openBox ++ ascii " " ++ mapsTo ++ ascii " " ++ openBox ++ ascii ", L"
 
-pub worked : T (
+pub worked-labels : T (
     gives [] [] 0 0
     && gives (first ++ second) (10 ∷ 14 ∷ []) 0x4052000000000000 0x403e000000000000
     && gives first (10 ∷ []) 0x404f333333333334 0x402e000000000000
@@ -51,5 +60,5 @@ pub worked : T (
     && refuses (0xed ∷ 0xa0 ∷ 0x80 ∷ []) (3 ∷ []) 6
     && refuses (0xff ∷ []) (2 ∷ []) 5
     )
-unfolding sized decide any cut total lineWidth wider charWidth payload codesFrom over add mul lt eq ne ofInt round size span climb units odd sum ofBits ofFields toBits isNan
-worked = tt
+unfolding sized decide anyOf cut totalLength lineWidth widerLine charWidth payload codesFrom over add mul lt eq ne ofInt round size span climb units odd sum ofBits ofFields toBits isNan
+worked-labels = tt

@@ -9,6 +9,15 @@ ghost use Rattle.label.specs.Measuring as M;
 use reader::next_of;
 use reader::record_of;
 
+// The font size of labels; the width of an ASCII character, 0.6 em of a monospace font, and of any other; the distance between lines.
+const LABEL_FONT_SIZE: f64 = 12.0;
+
+pub const LABEL_CHAR_WIDTH: f64 = 0.6 * LABEL_FONT_SIZE;
+
+const LABEL_WIDE_CHAR_WIDTH: f64 = LABEL_FONT_SIZE;
+
+const LABEL_LINE_HEIGHT: f64 = 15.0;
+
 // A line measured so far: the state of its UTF-8, the value of the character that has begun, and the width.
 pub struct Measure {
     pub st: u8,
@@ -33,14 +42,14 @@ pub fn char_width(c: u32) -> f64
     ensures { λ r. ⌜ r ≡ S.charWidth c ⌝ }
 {
     if c < 0x80 {
-        return 7.199999999999999;
+        return LABEL_CHAR_WIDTH;
     }
-    12.0
+    LABEL_WIDE_CHAR_WIDTH
 }
 
 // Before the first byte of a line.
 pub fn start() -> Measure
-    ensures { λ r. ⌜ r ≡ M.start ⌝ }
+    ensures { λ r. ⌜ r ≡ M.measureStart ⌝ }
 {
     Measure {
         st: 0,
@@ -88,13 +97,13 @@ pub fn measure_part(s: &[u8], a: usize, n: usize, m: Measure) -> Measure
 pub fn height(lines: usize) -> f64
     ensures { λ r. ⌜ r ≡ S.blockHeight lines ⌝ }
 {
-    std::num::nearest_u64_to_f64(lines as u64) * 15.0
+    std::num::nearest_u64_to_f64(lines as u64) * LABEL_LINE_HEIGHT
 }
 
 // The line of record k, measured piece by piece.
 fn measure_line(s: &[u8], k: usize) -> Measure
     requires { ⌜ k < 65536 ⌝ }
-    ensures { λ r. ⌜ r ≡ M.measureAll M.start (lineOf (now (s .entry)) k) ⌝ }
+    ensures { λ r. ⌜ r ≡ M.measureAll M.measureStart (lineOf (now (s .entry)) k) ⌝ }
 {
     let mut m = start();
     let d = record_of(s, k);
@@ -162,8 +171,10 @@ fn lengths_fit(lengths: &[usize], most: usize, bytes: usize) -> bool
 
 // The size of the lines, one after the other in the text, or a refusal of the first that is not well-formed.
 fn lines_size(text: &[u8], lengths: &[usize]) -> Sized
-    requires { ⌜ S.total (now lengths) ≤ length (now text) ⌝ }
-    ensures { λ r. ⌜ r ≡ M.linesSize (S.blockHeight (length (now (lengths .entry)))) f0 (S.cut (now (text .entry)) (now (lengths .entry))) ⌝ }
+    requires { ⌜ S.totalLength (now lengths) ≤ length (now text) ⌝ }
+    ensures { λ r.
+        let lines = S.cut (now (text .entry)) (now (lengths .entry)) in
+        ⌜ r ≡ M.linesSize (S.blockHeight (length (now (lengths .entry)))) f0 lines ⌝ }
 {
     let mut at = 0;
     let mut width = 0.0;

@@ -98,7 +98,7 @@ search-from cut (suc k) j l b =
     cond (eqb c 0) b′ rest
 
 module _ (cost : ℕ → ℕ) (cut : ℕ → ℕ → ℕ) (cuts : Cuts cost cut) where
-  -- one turn at which place j undercuts the limit, and one at which it does not
+  -- one step at which place j undercuts the limit, and one at which it does not
   turn-new : (k j l b : ℕ) → cost j < l → (cost j ≡ 0 → ⊥) → search-from cut (suc k) j l b ≡ search-from cut k (suc j) (cost j) j
   unfolding search-from
   turn-new k j l b h z = rw (cuts .exact l j h, ne-eqb _ _ z, lt-ltb _ _ h)
@@ -143,32 +143,32 @@ module _ (cost : ℕ → ℕ) (cut : ℕ → ℕ → ℕ) (cuts : Cuts cost cut)
 -- ---- a sum that stops at a limit
 
 -- a and all of a list
-unfoldable pub total : ℕ → List ℕ → ℕ
-total a [] = a
-total a (x ∷ xs) = total (a + x) xs
+unfoldable pub totalFrom : ℕ → List ℕ → ℕ
+totalFrom a [] = a
+totalFrom a (x ∷ xs) = totalFrom (a + x) xs
 
 -- the same, but before each item it stops where the sum has reached l
 unfoldable pub cut-total : ℕ → ℕ → List ℕ → ℕ
 cut-total l a [] = a
 cut-total l a (x ∷ xs) = let rest = cut-total l (a + x) xs in cond (leb l a) a rest
 
-total-from : (a : ℕ) (xs : List ℕ) → a ≤ total a xs
-unfolding total
+total-from : (a : ℕ) (xs : List ℕ) → a ≤ totalFrom a xs
+unfolding totalFrom
 total-from a [] = le-refl a
 total-from a (x ∷ xs) = le-trans (omega arith) (total-from (a + x) xs)
 
-pub cut-total-exact : (l a : ℕ) (xs : List ℕ) → total a xs < l → cut-total l a xs ≡ total a xs
-unfolding total cut-total
+pub cut-total-exact : (l a : ℕ) (xs : List ℕ) → totalFrom a xs < l → cut-total l a xs ≡ totalFrom a xs
+unfolding totalFrom cut-total
 cut-total-exact l a [] h = refl
 cut-total-exact l a (x ∷ xs) h =
     let k : a < l = lt-of-le-of-lt (le-trans (omega arith) (total-from (a + x) xs)) h in
     rw (lt-leb _ _ k) (cut-total-exact l (a + x) xs h)
 
-pub cut-total-above : (l a : ℕ) (xs : List ℕ) → l ≤ total a xs → l ≤ cut-total l a xs
-unfolding total cut-total
+pub cut-total-above : (l a : ℕ) (xs : List ℕ) → l ≤ totalFrom a xs → l ≤ cut-total l a xs
+unfolding totalFrom cut-total
 cut-total-above l a [] h = h
 cut-total-above l a (x ∷ xs) h = by-lt a l (λ (k : a < l). rw (lt-leb _ _ k) (cut-total-above l (a + x) xs h)) (λ (k : l ≤ a). rw (le-leb _ _ k) k)
 
 -- A cost that is such a sum, over items that depend on the place, is cut as the search wants it.
-pub cuts-of : (base : ℕ → ℕ) (items : ℕ → List ℕ) → Cuts (λ j. total (base j) (items j)) (λ l j. cut-total l (base j) (items j))
+pub cuts-of : (base : ℕ → ℕ) (items : ℕ → List ℕ) → Cuts (λ j. totalFrom (base j) (items j)) (λ l j. cut-total l (base j) (items j))
 cuts-of base items = record { exact = λ l j h. cut-total-exact l (base j) (items j) h; above = λ l j h. cut-total-above l (base j) (items j) h }

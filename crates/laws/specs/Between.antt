@@ -70,31 +70,31 @@ module _ (x y z p q r : ℕ) (hp : 0 < p) (hq : 0 < q) (hr : 0 < r) where
           let v : z * p * q < x * r * q = mul-lt-mul-of-pos-right (ltb→lt (z * p) (x * r) a) hq in
           omega (arith, u, v))
 
-pub between : (x y z : Float) → ne y y ≡ false → T (lt x z) → T (lt x y) ⊎ T (lt y z)
+pub lt-between : (x y z : Float) → ne y y ≡ false → T (lt x z) → T (lt x y) ⊎ T (lt y z)
 unfolding lt ne eq
-between nan y z h a = absurd a
-between (inf false) y nan h a = absurd a
-between (inf false) y (inf u) h a = absurd a
-between (inf false) y (fin u k g) h a = absurd a
-between (inf true) y nan h a = absurd a
-between (inf true) nan (inf u) h a = absurd (subst T h tt)
-between (inf true) (inf true) (inf u) h a = inr a
-between (inf true) (inf false) (inf u) h a = inl tt
-between (inf true) (fin t n d) (inf u) h a = inl tt
-between (inf true) nan (fin u k g) h a = absurd (subst T h tt)
-between (inf true) (inf true) (fin u k g) h a = inr tt
-between (inf true) (inf false) (fin u k g) h a = inl tt
-between (inf true) (fin t n d) (fin u k g) h a = inl tt
-between (fin s m e) y nan h a = absurd a
-between (fin s m e) y (inf true) h a = absurd a
-between (fin s m e) nan (inf false) h a = absurd (subst T h tt)
-between (fin s m e) (inf true) (inf false) h a = inr tt
-between (fin s m e) (inf false) (inf false) h a = inl tt
-between (fin s m e) (fin t n d) (inf false) h a = inr tt
-between (fin s m e) nan (fin u k g) h a = absurd (subst T h tt)
-between (fin s m e) (inf true) (fin u k g) h a = inr tt
-between (fin s m e) (inf false) (fin u k g) h a = inl tt
-between (fin s m e) (fin t n d) (fin u k g) h a =
+lt-between nan y z h a = absurd a
+lt-between (inf false) y nan h a = absurd a
+lt-between (inf false) y (inf u) h a = absurd a
+lt-between (inf false) y (fin u k g) h a = absurd a
+lt-between (inf true) y nan h a = absurd a
+lt-between (inf true) nan (inf u) h a = absurd (subst T h tt)
+lt-between (inf true) (inf true) (inf u) h a = inr a
+lt-between (inf true) (inf false) (inf u) h a = inl tt
+lt-between (inf true) (fin t n d) (inf u) h a = inl tt
+lt-between (inf true) nan (fin u k g) h a = absurd (subst T h tt)
+lt-between (inf true) (inf true) (fin u k g) h a = inr tt
+lt-between (inf true) (inf false) (fin u k g) h a = inl tt
+lt-between (inf true) (fin t n d) (fin u k g) h a = inl tt
+lt-between (fin s m e) y nan h a = absurd a
+lt-between (fin s m e) y (inf true) h a = absurd a
+lt-between (fin s m e) nan (inf false) h a = absurd (subst T h tt)
+lt-between (fin s m e) (inf true) (inf false) h a = inr tt
+lt-between (fin s m e) (inf false) (inf false) h a = inl tt
+lt-between (fin s m e) (fin t n d) (inf false) h a = inr tt
+lt-between (fin s m e) nan (fin u k g) h a = absurd (subst T h tt)
+lt-between (fin s m e) (inf true) (fin u k g) h a = inr tt
+lt-between (fin s m e) (inf false) (fin u k g) h a = inl tt
+lt-between (fin s m e) (fin t n d) (fin u k g) h a =
     beside (m * up e) (n * up d) (k * up g) (down e) (down d) (down g) (down-pos e) (down-pos d) (down-pos g) s t u a
 
 -- a number or an infinity equals itself

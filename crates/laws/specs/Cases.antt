@@ -19,3 +19,10 @@ holds e = subst T (sym e) tt
 pub fails : (b : Bool) → (T b → ⊥) → b ≡ false
 fails true f = absurd (f tt)
 fails false f = refl
+
+pub is-true : (b : Bool) → T b → b ≡ true
+is-true true t = refl
+is-true false t = absurd t
+
+pub not-both : {b : Bool} → T b → b ≡ false → ⊥
+not-both t e = subst T e t

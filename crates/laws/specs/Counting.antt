@@ -1,4 +1,4 @@
--- How many of a list pass a test, and sums with a weight for each that does: whole, and cut at a limit; a turn of a loop over such a sum, and its end. Assumes nothing.
+-- How many of a list pass a test, and sums with a weight for each that does: whole, and cut at a limit; a step of a loop over such a sum, and its end. Assumes nothing.
 use mathlib.Core.Path.{_≡_, refl, sym, ap, _∙_}
 use mathlib.Core.Bool.{Bool, true, false, cond}
 use mathlib.Core.List.{List, [], _∷_, _++_, map}
@@ -9,18 +9,22 @@ use native.Mathlib.Omega.{arith}
 use borrow.Author.Tests.{le-leb, lt-leb}
 use lib.ListN.{length}
 use Rattle.laws.specs.Cases.{by-lt}
-use Rattle.laws.specs.Best.{total, cut-total}
+use Rattle.laws.specs.Best.{totalFrom, cut-total}
 use Rattle.laws.specs.Flat.{table}
+use Rattle.laws.specs.Loops.{less-one}
 
 -- ---- counting
 
-unfoldable pub number : {A : Type 0} → (A → Bool) → List A → ℕ
-number p [] = 0
-number p (x ∷ l) = cond (p x) 1 0 + number p l
+unfoldable pub howMany : {A : Type 0} → (A → Bool) → List A → ℕ
+howMany p [] = 0
+howMany p (x ∷ l) = cond (p x) 1 0 + howMany p l
 
 -- m for a thing that passes, else 0
 abbrev pub worth : {A : Type 0} → (A → Bool) → ℕ → A → ℕ
 worth p m x = cond (p x) m 0
+
+pub worth-of : {A : Type 0} (p : A → Bool) (m : ℕ) (x : A) (b : Bool) → b ≡ p x → cond b m 0 ≡ worth p m x
+worth-of p m x b e = ap (λ (t : Bool). cond t m 0) e
 
 pub worth-le : {A : Type 0} (p : A → Bool) (m : ℕ) (x : A) → worth p m x ≤ m
 worth-le p m x = go (p x)
@@ -29,34 +33,34 @@ worth-le p m x = go (p x)
     go true = omega arith
     go false = omega arith
 
-pub number-le : {A : Type 0} (p : A → Bool) (l : List A) → number p l ≤ length l
-unfolding number
-number-le p [] = omega arith
-number-le p (x ∷ l) = omega (arith, worth-le p 1 x, number-le p l)
+pub howMany-le : {A : Type 0} (p : A → Bool) (l : List A) → howMany p l ≤ length l
+unfolding howMany
+howMany-le p [] = omega arith
+howMany-le p (x ∷ l) = omega (arith, worth-le p 1 x, howMany-le p l)
 
 -- a list's first thing, as a loop meets it
-pub number-turn : {A : Type 0} (p : A → Bool) (m a b : ℕ) (x : A) (l r : List A) → l ≡ x ∷ r → b ≡ worth p m x → (a + b) + m * number p r ≡ a + m * number p l
-unfolding number
-number-turn p m a b x l r e f = rw (e, f) (go (p x))
+pub howMany-step : {A : Type 0} (p : A → Bool) (m a b : ℕ) (x : A) (l r : List A) → l ≡ x ∷ r → b ≡ worth p m x → (a + b) + m * howMany p r ≡ a + m * howMany p l
+unfolding howMany
+howMany-step p m a b x l r e f = rw (e, f) (go (p x))
   where
-    go : (t : Bool) → (a + cond t m 0) + m * number p r ≡ a + m * (cond t 1 0 + number p r)
+    go : (t : Bool) → (a + cond t m 0) + m * howMany p r ≡ a + m * (cond t 1 0 + howMany p r)
     go true = omega arith
     go false = omega arith
 
-pub number-none : {A : Type 0} (p : A → Bool) (m a : ℕ) (l : List A) → l ≡ [] → a ≡ a + m * number p l
-unfolding number
-number-none p m a l e = rw e (omega arith)
+pub howMany-none : {A : Type 0} (p : A → Bool) (m a : ℕ) (l : List A) → l ≡ [] → a ≡ a + m * howMany p l
+unfolding howMany
+howMany-none p m a l e = rw e (omega arith)
 
 -- the sum of the weights
-pub total-worth : {A : Type 0} (p : A → Bool) (m a : ℕ) (l : List A) → total a (map (worth p m) l) ≡ a + m * number p l
-unfolding total number
+pub total-worth : {A : Type 0} (p : A → Bool) (m a : ℕ) (l : List A) → totalFrom a (map (worth p m) l) ≡ a + m * howMany p l
+unfolding totalFrom howMany
 total-worth p m a [] = omega arith
-total-worth p m a (x ∷ l) = total-worth p m (a + worth p m x) l ∙ number-turn p m a (worth p m x) x (x ∷ l) l refl refl
+total-worth p m a (x ∷ l) = total-worth p m (a + worth p m x) l ∙ howMany-step p m a (worth p m x) x (x ∷ l) l refl refl
 
 -- ---- one run of items after another
 
-pub total-append : (a : ℕ) (xs ys : List ℕ) → total a (xs ++ ys) ≡ total (total a xs) ys
-unfolding total
+pub total-append : (a : ℕ) (xs ys : List ℕ) → totalFrom a (xs ++ ys) ≡ totalFrom (totalFrom a xs) ys
+unfolding totalFrom
 total-append a [] ys = refl
 total-append a (x ∷ xs) ys = total-append (a + x) xs ys
 
@@ -77,15 +81,12 @@ unfolding table
 table-length g k zero = refl
 table-length g k (suc n) = ap suc (table-length g (suc k) n)
 
-down : (k : ℕ) → suc k - 1 ≡ k
-down k = omega arith
-
 module _ {A : Type 0} (f : A → ℕ) (g : ℕ → A) where
   -- b is what thing k adds
-  pub cut-turn : (l a b k n : ℕ) → 0 < n → a < l → b ≡ f (g k) → cut-total l (a + b) (map f (table g (k + 1) (n - 1))) ≡ cut-total l a (map f (table g k n))
+  pub cut-step : (l a b k n : ℕ) → 0 < n → a < l → b ≡ f (g k) → cut-total l (a + b) (map f (table g (k + 1) (n - 1))) ≡ cut-total l a (map f (table g k n))
   unfolding cut-total table
-  cut-turn l a b k zero h e q = absurd (not-suc-le-zero h)
-  cut-turn l a b k (suc n) h e q = rw (q, down, add-one, lt-leb _ _ e)
+  cut-step l a b k zero h e q = absurd (not-suc-le-zero h)
+  cut-step l a b k (suc n) h e q = rw (q, less-one, add-one, lt-leb _ _ e)
 
   pub cut-stop : (l a k n : ℕ) → l ≤ a → a ≡ cut-total l a (map f (table g k n))
   cut-stop l a k n e = sym (cut-over l a (map f (table g k n)) e)

@@ -19,8 +19,8 @@ abbrev pub part : {A : Type 0} → ℕ → ℕ → List A → List A
 part w k xs = take w (drop (w * k) xs)
 
 -- the first n records, each as what `decode` makes of its numbers
-abbrev pub records : {A B : Type 0} → (List A → B) → ℕ → ℕ → List A → List B
-records decode w n xs = table (λ k. decode (part w k xs)) 0 n
+abbrev pub decodeFlat : {A B : Type 0} → (List A → B) → ℕ → ℕ → List A → List B
+decodeFlat decode w n xs = table (λ k. decode (part w k xs)) 0 n
 
 module _ {A : Type 0} where
   table-snoc : (f : ℕ → A) (k n : ℕ) → table f k (suc n) ≡ table f k n ++ (f (k + n) ∷ [])
@@ -38,12 +38,12 @@ module _ {A : Type 0} where
   table-more f n = sym (rw (add-one, table-snoc, zero-add))
 
   -- a run stored after a part leaves the part
-  part-kept : (w at : ℕ) (xs : List A) (i : ℕ) (vs : List A) → at + w ≤ i → take w (drop at (put xs i vs)) ≡ take w (drop at xs)
+  pub part-before : (w at : ℕ) (xs : List A) (i : ℕ) (vs : List A) → at + w ≤ i → take w (drop at (put xs i vs)) ≡ take w (drop at xs)
   unfolding put
-  part-kept w at xs i [] h = refl
-  part-kept w at xs i (a ∷ vs) h =
+  part-before w at xs i [] h = refl
+  part-before w at xs i (a ∷ vs) h =
       let e : i ≡ at + (i - at) = omega arith in
-      part-kept w at (set xs i a) (suc i) vs (omega arith)
+      part-before w at (set xs i a) (suc i) vs (omega arith)
       ∙ ap (λ (m : ℕ). take w (drop at (set xs m a))) e
       ∙ rw (drop-set-add at xs (i - at) a, take-set-le w (drop at xs) (i - at) a (omega arith))
 
@@ -56,18 +56,18 @@ module _ {A : Type 0} where
 
 -- One record more: the list of records grows by exactly that one.
 pub records-push : {A B : Type 0} (decode : List A → B) (w n : ℕ) (xs vs : List A) → length vs ≡ w → w * n + w ≤ length xs
-    → records decode w (n + 1) (put xs (w * n) vs) ≡ records decode w n xs ++ (decode vs ∷ [])
+    → decodeFlat decode w (n + 1) (put xs (w * n) vs) ≡ decodeFlat decode w n xs ++ (decode vs ∷ [])
 records-push {A} {B} decode w n xs vs e h =
     rw (add-one, table-snoc, zero-add)
     (ap₂ (λ (l : List B) (x : B). l ++ (x ∷ []))
-    (table-agree _ _ 0 n (λ j i. ap decode (part-kept w (w * j) xs (w * n) vs (omega (arith, mul-le-mul-left w i)))))
+    (table-agree _ _ 0 n (λ j i. ap decode (part-before w (w * j) xs (w * n) vs (omega (arith, mul-le-mul-left w i)))))
     (ap decode (part-new w (w * n) xs vs e h)))
 
 -- The same where record n is lent, `&mut xs[w * n..w * n + w]`, to a function that leaves p there.
 pub records-lend : {A B : Type 0} (decode : List A → B) (w n : ℕ) (xs p : List A) → length p ≡ w → w * n + w ≤ length xs
-    → records decode w (n + 1) (take (w * n) xs ++ (p ++ drop w (drop (w * n) xs))) ≡ records decode w n xs ++ (decode p ∷ [])
+    → decodeFlat decode w (n + 1) (take (w * n) xs ++ (p ++ drop w (drop (w * n) xs))) ≡ decodeFlat decode w n xs ++ (decode p ∷ [])
 records-lend {A} decode w n xs p e h =
-    ap (λ (l : List A). records decode w (n + 1) l)
+    ap (λ (l : List A). decodeFlat decode w (n + 1) l)
     (sym
     (put-eq xs (w * n) p (omega arith) ∙ append-assoc (take (w * n) xs) p (drop (w * n + length p) xs)
     ∙ ap (λ (r : List A). take (w * n) xs ++ (p ++ r)) (ap (λ (k : ℕ). drop (w * n + k) xs) e ∙ sym (drop-drop w (w * n) xs))))

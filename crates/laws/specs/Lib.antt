@@ -1,4 +1,5 @@
 pub mod Cases
+pub mod Bools
 pub mod Loops
 pub mod Put
 pub mod Writers
@@ -15,6 +16,16 @@ pub mod Ordered
 pub mod Same
 pub mod Zip
 pub mod Filter
+pub mod Lists
+pub mod Tables
+pub mod Filled
+pub mod Flats
+pub mod Joined
+pub mod Places
+pub mod Any
+pub mod Every
+pub mod Split
+pub mod Continues
 pub mod Stable
 pub mod Counting
 pub mod Refusals

@@ -29,28 +29,28 @@ below-trans true true false x y z p q r hp hq hr a b =
     let h : 0 < x * r = pos-left x q r hr (omega (arith, ltb→lt (y * p) (x * q) a)) in lt→ltb 0 (x * r + z * p) (omega arith)
 below-trans true true true x y z p q r hp hq hr a b = lt→ltb _ _ (core z y x r q p hr hq hp (ltb→lt _ _ b) (ltb→lt _ _ a))
 
-pub lt-trans : (x y z : Float) → T (lt x y) → T (lt y z) → T (lt x z)
+pub float-lt-trans : (x y z : Float) → T (lt x y) → T (lt y z) → T (lt x z)
 unfolding lt
-lt-trans nan y z a b = absurd a
-lt-trans (inf s) nan z a b = absurd a
-lt-trans (inf false) (inf t) z a b = absurd a
-lt-trans (inf false) (fin t n d) z a b = absurd a
-lt-trans (inf true) (inf true) z a b = absurd a
-lt-trans (inf true) (inf false) nan a b = absurd b
-lt-trans (inf true) (inf false) (inf u) a b = absurd b
-lt-trans (inf true) (inf false) (fin u k g) a b = absurd b
-lt-trans (inf true) (fin t n d) nan a b = absurd b
-lt-trans (inf true) (fin t n d) (inf true) a b = absurd b
-lt-trans (inf true) (fin t n d) (inf false) a b = tt
-lt-trans (inf true) (fin t n d) (fin u k g) a b = tt
-lt-trans (fin s m e) nan z a b = absurd a
-lt-trans (fin s m e) (inf true) z a b = absurd a
-lt-trans (fin s m e) (inf false) nan a b = absurd b
-lt-trans (fin s m e) (inf false) (inf u) a b = absurd b
-lt-trans (fin s m e) (inf false) (fin u k g) a b = absurd b
-lt-trans (fin s m e) (fin t n d) nan a b = absurd b
-lt-trans (fin s m e) (fin t n d) (inf u) a b = b
-lt-trans (fin s m e) (fin t n d) (fin u k g) a b =
+float-lt-trans nan y z a b = absurd a
+float-lt-trans (inf s) nan z a b = absurd a
+float-lt-trans (inf false) (inf t) z a b = absurd a
+float-lt-trans (inf false) (fin t n d) z a b = absurd a
+float-lt-trans (inf true) (inf true) z a b = absurd a
+float-lt-trans (inf true) (inf false) nan a b = absurd b
+float-lt-trans (inf true) (inf false) (inf u) a b = absurd b
+float-lt-trans (inf true) (inf false) (fin u k g) a b = absurd b
+float-lt-trans (inf true) (fin t n d) nan a b = absurd b
+float-lt-trans (inf true) (fin t n d) (inf true) a b = absurd b
+float-lt-trans (inf true) (fin t n d) (inf false) a b = tt
+float-lt-trans (inf true) (fin t n d) (fin u k g) a b = tt
+float-lt-trans (fin s m e) nan z a b = absurd a
+float-lt-trans (fin s m e) (inf true) z a b = absurd a
+float-lt-trans (fin s m e) (inf false) nan a b = absurd b
+float-lt-trans (fin s m e) (inf false) (inf u) a b = absurd b
+float-lt-trans (fin s m e) (inf false) (fin u k g) a b = absurd b
+float-lt-trans (fin s m e) (fin t n d) nan a b = absurd b
+float-lt-trans (fin s m e) (fin t n d) (inf u) a b = b
+float-lt-trans (fin s m e) (fin t n d) (fin u k g) a b =
     below-trans s t u (m * up e) (n * up d) (k * up g) (down e) (down d) (down g) (down-pos e) (down-pos d) (down-pos g) a b
 
 pub lt-itself : (x : Float) → T (lt x x) → ⊥

@@ -6,7 +6,7 @@ use Prim.Native.Nat.{ℕ}
 use borrow.Author.Tests.{eqb-true, eq-eqb}
 use lib.Dec.{eqb}
 use Rattle.laws.specs.Cases.{by-bool}
-use Rattle.laws.specs.Filter.{filter}
+use Rattle.laws.specs.Filter.{filterBy}
 
 -- a refusal: its number, and whether its cause holds
 pub record Refusal : Type 0 where
@@ -60,7 +60,7 @@ numbersIn rs = map (λ r. r .number) rs
 
 -- that order, but for the numbers that a call cannot meet
 abbrev pub orderBut : List ℕ → List ℕ
-orderBut unmet = filter (λ n. not (isIn n unmet)) refusalOrder
+orderBut unmet = filterBy (λ n. not (isIn n unmet)) refusalOrder
 
 -- the cause of number n: whether one of the refusals with that number holds. Where one has it, this computes to its cause.
 abbrev pub causeOf : ℕ → List Refusal → Bool
@@ -165,11 +165,11 @@ first-joined {A} refuse answer rs qs n f = decide-join rs qs refuse answer ∙ f
 
 -- ---- one of the two is so
 
-pub data Verdict (rs : List Refusal) : Type 0 where
-  stops : (n : ℕ) → First rs n → Verdict rs
-  goes : Clear rs → Verdict rs
+pub data FirstOrClear (rs : List Refusal) : Type 0 where
+  stops : (n : ℕ) → First rs n → FirstOrClear rs
+  goes : Clear rs → FirstOrClear rs
 
-later : (r : Refusal) (rs : List Refusal) → r .cause ≡ false → Verdict rs → Verdict (r ∷ rs)
+later : (r : Refusal) (rs : List Refusal) → r .cause ≡ false → FirstOrClear rs → FirstOrClear (r ∷ rs)
 later r rs e (stops n f) = stops n (record {
   before = r ∷ f .before;
   it = f .it;
@@ -181,28 +181,28 @@ later r rs e (stops n f) = stops n (record {
 })
 later r rs e (goes c) = goes (clear-more r rs e c)
 
-pub verdict : (rs : List Refusal) → Verdict rs
-verdict [] = goes clear-none
-verdict (r ∷ rs) =
+pub first-or-clear : (rs : List Refusal) → FirstOrClear rs
+first-or-clear [] = goes clear-none
+first-or-clear (r ∷ rs) =
     by-bool (r .cause)
     (λ t. stops (r .number) (record { before = []; it = r; after = rs; parts = refl; clear = clear-none; holds = t; numbered = refl }))
-    (λ t. later r rs t (verdict rs))
+    (λ t. later r rs t (first-or-clear rs))
 
 -- ---- what an answer says of the refusals, where numbers and the answer are told apart
 
 module _ {A : Type 0} (refuse : ℕ → A) (answer : A) (same : (m n : ℕ) → refuse m ≡ refuse n → m ≡ n) (apart : (n : ℕ) → refuse n ≡ answer → ⊥) (rs : List Refusal) where
   -- Each number is given under its cause only, and whenever no earlier cause holds.
   pub given-exactly : (n : ℕ) → (decide rs refuse answer ≡ refuse n → First rs n) × (First rs n → decide rs refuse answer ≡ refuse n)
-  given-exactly n = (λ e. given e (verdict rs), first-decides refuse answer rs n)
+  given-exactly n = (λ e. given e (first-or-clear rs), first-decides refuse answer rs n)
     where
-      given : decide rs refuse answer ≡ refuse n → Verdict rs → First rs n
+      given : decide rs refuse answer ≡ refuse n → FirstOrClear rs → First rs n
       given e (stops m f) = rw (same m n (sym (first-decides refuse answer rs m f) ∙ e)) at f
       given e (goes c) = absurd (apart n (sym e ∙ clear-decides refuse answer rs c))
 
   -- The answer is given exactly where no cause holds.
   pub answered-exactly : (decide rs refuse answer ≡ answer → Clear rs) × (Clear rs → decide rs refuse answer ≡ answer)
-  answered-exactly = (λ e. given e (verdict rs), clear-decides refuse answer rs)
+  answered-exactly = (λ e. given e (first-or-clear rs), clear-decides refuse answer rs)
     where
-      given : decide rs refuse answer ≡ answer → Verdict rs → Clear rs
+      given : decide rs refuse answer ≡ answer → FirstOrClear rs → Clear rs
       given e (stops m f) = absurd (apart m (sym (first-decides refuse answer rs m f) ∙ e))
       given e (goes c) = c

@@ -9,34 +9,34 @@ use Rattle.laws.specs.Best.{best, best-is, FirstLeast}
 
 module _ {S T : Type 0} (places : S → T → ℕ) (cost : S → T → ℕ → ℕ) (after : S → T → ℕ → S) where
   -- the place taken at a turn: a turn has at least one place, `suc (places s t)` in all
-  abbrev pub taken : S → T → ℕ
-  taken s t = best (cost s t) (suc (places s t))
+  abbrev pub takenBy : S → T → ℕ
+  takenBy s t = best (cost s t) (suc (places s t))
 
   -- the places taken, in the order of the turns
   unfoldable pub run : S → List T → List ℕ
   run s [] = []
-  run s (t ∷ ts) = taken s t ∷ run (after s t (taken s t)) ts
+  run s (t ∷ ts) = takenBy s t ∷ run (after s t (takenBy s t)) ts
 
   -- the scene at turn k
-  unfoldable pub scene : S → List T → ℕ → S
-  scene s [] k = s
-  scene s (t ∷ ts) zero = s
-  scene s (t ∷ ts) (suc k) = scene (after s t (taken s t)) ts k
+  unfoldable pub runScene : S → List T → ℕ → S
+  runScene s [] k = s
+  runScene s (t ∷ ts) zero = s
+  runScene s (t ∷ ts) (suc k) = runScene (after s t (takenBy s t)) ts k
 
   -- (1) at each turn the place taken is the first least of those listed, by its full cost in the scene of that turn
   pub run-least : (s : S) (ts : List T) (k : ℕ) (d : T) → k < length ts →
-      FirstLeast (cost (scene s ts k) (getD ts k d)) (suc (places (scene s ts k) (getD ts k d))) (getD (run s ts) k 0)
-  unfolding run scene
+      FirstLeast (cost (runScene s ts k) (getD ts k d)) (suc (places (runScene s ts k) (getD ts k d))) (getD (run s ts) k 0)
+  unfolding run runScene
   run-least s [] k d h = absurd (not-suc-le-zero h)
   run-least s (t ∷ ts) zero d h = best-is (cost s t) (places s t)
-  run-least s (t ∷ ts) (suc k) d h = run-least (after s t (taken s t)) ts k d (le-of-suc-le-suc h)
+  run-least s (t ∷ ts) (suc k) d h = run-least (after s t (takenBy s t)) ts k d (le-of-suc-le-suc h)
 
   -- (2) the first k records come from the first k turns alone
   pub run-take : (k : ℕ) (s : S) (ts : List T) → take k (run s ts) ≡ run s (take k ts)
   unfolding run
   run-take zero s ts = refl
   run-take (suc k) s [] = refl
-  run-take (suc k) s (t ∷ ts) = ap (λ (r : List ℕ). taken s t ∷ r) (run-take k (after s t (taken s t)) ts)
+  run-take (suc k) s (t ∷ ts) = ap (λ (r : List ℕ). takenBy s t ∷ r) (run-take k (after s t (takenBy s t)) ts)
 
   -- so two runs whose turns agree up to k have the same records up to k
   pub run-agree : (k : ℕ) (s : S) (ts us : List T) → take k ts ≡ take k us → take k (run s ts) ≡ take k (run s us)

@@ -3,21 +3,21 @@ use mathlib.Core.Bool.{cond}
 use mathlib.Core.List.{List, [], _∷_, map}
 use Prim.Native.Nat.{ℕ, suc}
 use lib.Ieee.{Float}
-use Rattle.float.specs.Constants.{f2, f16, f20, f22, f24, f40, f90, f140}
-use Rattle.float.specs.Ops.{_⊕_, _⊗_, count}
+use Rattle.float.specs.Constants.{f2, f16, f20, nodeRadius, f24, f40, rowGap, layerGap}
+use Rattle.float.specs.Ops.{_⊕_, _⊗_, ofNat}
 use Rattle.float.specs.Standins.{clamp}
-use Rattle.columns.specs.Columns.{Arrow, elem, states, columns}
+use Rattle.columns.specs.Columns.{EndPair, elem, stateNumbers, columns}
 use Rattle.sweep.specs.Sweeps.{swept}
 
 -- ---- gaps from the size of the largest label, clamped; a state's radius is 22
 
 -- between columns: at least 140
-unfoldable pub gap : Float → Float
-gap labelWidth = clamp (labelWidth ⊕ f2 ⊗ f22 ⊕ f24) f140 (f2 ⊗ f140 ⊕ f40)
+unfoldable pub columnGap : Float → Float
+columnGap labelWidth = clamp (labelWidth ⊕ f2 ⊗ nodeRadius ⊕ f24) layerGap (f2 ⊗ layerGap ⊕ f40)
 
 -- between the rows of a column: at least 90
 unfoldable pub row : Float → Float
-row labelHeight = clamp (labelHeight ⊕ f2 ⊗ f22 ⊕ f16) f90 (f2 ⊗ f90 ⊕ f20)
+row labelHeight = clamp (labelHeight ⊕ f2 ⊗ nodeRadius ⊕ f16) rowGap (f2 ⊗ rowGap ⊕ f20)
 
 -- ---- centres
 
@@ -27,9 +27,9 @@ columnOf [] v = 0
 columnOf (c ∷ columns) v = let next = suc (columnOf columns v) in cond (elem v c) 0 next
 
 -- x: a gap for each column before the state's
-unfoldable pub layeredXs : ℕ → ℕ → List Arrow → Float → List Float
-layeredXs n start arrows labelWidth = map (λ (v : ℕ). count (columnOf (columns n arrows start) v) ⊗ gap labelWidth) (states n)
+unfoldable pub layeredXs : ℕ → ℕ → List EndPair → Float → List Float
+layeredXs n start arrows labelWidth = map (λ (v : ℕ). ofNat (columnOf (columns n arrows start) v) ⊗ columnGap labelWidth) (stateNumbers n)
 
 -- y: the slot that the state has after the sweeps, in rows
-unfoldable pub layeredYs : ℕ → ℕ → List Arrow → Float → List Float
+unfoldable pub layeredYs : ℕ → ℕ → List EndPair → Float → List Float
 layeredYs n start arrows labelHeight = map (λ (s : Float). s ⊗ row labelHeight) (swept n arrows (columns n arrows start) .slots)

@@ -10,13 +10,14 @@ use lib.Seq.{getD-at}
 use lib.Ieee.{Float}
 use Rattle.laws.specs.Cases.{by-bool, by-lt}
 use Rattle.laws.specs.Counting.{table-length}
+use Rattle.laws.specs.Bools.{clash}
+use Rattle.laws.specs.Lists.{map-at}
+use Rattle.laws.specs.Tables.{table-at}
 use Rattle.float.specs.Constants.{f0}
-use Rattle.float.specs.Ops.{_⊗_, count}
-use Rattle.columns.specs.Columns.{Arrow, elem, reached, concat, states, unreached, lastColumn, columns}
+use Rattle.float.specs.Ops.{_⊗_, ofNat}
+use Rattle.columns.specs.Columns.{EndPair, elem, reached, concat, stateNumbers, unreached, lastColumn, columns}
 use Rattle.columns.specs.Distance.{Walk, Distance, column-distance, distance-column, never-unreached}
-use Rattle.columns.specs.Elements.{clash}
-use Rattle.columns.specs.Lists.{map-at, table-at}
-use Rattle.layered.specs.Layered.{gap, columnOf, layeredXs}
+use Rattle.layered.specs.Layered.{columnGap, columnOf, layeredXs}
 
 -- the first column that holds v
 column-of : (cs : List (List ℕ)) (k v : ℕ) → elem v (getD cs k []) ≡ true → ((j : ℕ) → j < k → elem v (getD cs j []) ≡ false) → columnOf cs v ≡ k
@@ -30,7 +31,7 @@ within : (cs : List (List ℕ)) (k v : ℕ) → elem v (getD cs k []) ≡ true �
 unfolding elem
 within cs k v e = by-lt k (length cs) (λ (h : k < length cs). h) (λ (h : length cs ≤ k). absurd (clash e (ap (elem v) (List·getD-eq-default cs [] h))))
 
-module _ (n start : ℕ) (arrows : List Arrow) (h : start < n) where
+module _ (n start : ℕ) (arrows : List EndPair) (h : start < n) where
   distance-one : (j k v : ℕ) → Distance n arrows start j v → Distance n arrows start k v → j ≡ k
   distance-one j k v p q = by-lt j k (λ (i : j < k). absurd (q .1 j i (p .0))) (λ (i : k ≤ j). by-lt k j (λ (l : k < j). absurd (p .1 k l (q .0))) (λ (l : j ≤ k). omega arith))
 
@@ -68,14 +69,14 @@ module _ (n start : ℕ) (arrows : List Arrow) (h : start < n) where
       ∙ ap (elem v) (getD-at (reached n arrows start) u [] [] (length (reached n arrows start)) refl) ∙ e)
       (λ j l. ap (elem v) (List·getD-append (reached n arrows start) (lastColumn u) [] j l) ∙ not-there j v (λ p. f j (p .0)))
 
-  x-at : (w : Float) (v : ℕ) → v < n → getD (layeredXs n start arrows w) v f0 ≡ count (columnOf (columns n arrows start) v) ⊗ gap w
+  x-at : (w : Float) (v : ℕ) → v < n → getD (layeredXs n start arrows w) v f0 ≡ ofNat (columnOf (columns n arrows start) v) ⊗ columnGap w
   unfolding layeredXs
   x-at w v i =
-      sym (map-at (λ (u : ℕ). count (columnOf (columns n arrows start) u) ⊗ gap w) (states n) v 0 f0 (omega (arith, table-length (λ (u : ℕ). u) 0 n)))
-      ∙ ap (λ (u : ℕ). count (columnOf (columns n arrows start) u) ⊗ gap w) (table-at (λ (u : ℕ). u) 0 n v 0 i ∙ zero-add v)
+      sym (map-at (λ (u : ℕ). ofNat (columnOf (columns n arrows start) u) ⊗ columnGap w) (stateNumbers n) v 0 f0 (omega (arith, table-length (λ (u : ℕ). u) 0 n)))
+      ∙ ap (λ (u : ℕ). ofNat (columnOf (columns n arrows start) u) ⊗ columnGap w) (table-at (λ (u : ℕ). u) 0 n v 0 i ∙ zero-add v)
 
-  pub x-reached : (w : Float) (k v : ℕ) → v < n → Distance n arrows start k v → getD (layeredXs n start arrows w) v f0 ≡ count k ⊗ gap w
-  x-reached w k v i d = x-at w v i ∙ ap (λ (l : ℕ). count l ⊗ gap w) (reached-column k v d)
+  pub x-reached : (w : Float) (k v : ℕ) → v < n → Distance n arrows start k v → getD (layeredXs n start arrows w) v f0 ≡ ofNat k ⊗ columnGap w
+  x-reached w k v i d = x-at w v i ∙ ap (λ (l : ℕ). ofNat l ⊗ columnGap w) (reached-column k v d)
 
-  pub x-unreached : (w : Float) (v : ℕ) → v < n → ((k : ℕ) → Walk n arrows start k v → ⊥) → getD (layeredXs n start arrows w) v f0 ≡ count (length (reached n arrows start)) ⊗ gap w
-  x-unreached w v i f = x-at w v i ∙ ap (λ (l : ℕ). count l ⊗ gap w) (unreached-column v i f)
+  pub x-unreached : (w : Float) (v : ℕ) → v < n → ((k : ℕ) → Walk n arrows start k v → ⊥) → getD (layeredXs n start arrows w) v f0 ≡ ofNat (length (reached n arrows start)) ⊗ columnGap w
+  x-unreached w v i f = x-at w v i ∙ ap (λ (l : ℕ). ofNat l ⊗ columnGap w) (unreached-column v i f)

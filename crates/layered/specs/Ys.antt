@@ -7,20 +7,25 @@ use lib.ListN.{length, getD, length-map}
 use lib.Ieee.{Float}
 use Rattle.laws.specs.Counting.{table-length}
 use Rattle.laws.specs.Same.{Moved}
+use Rattle.laws.specs.Lists.{map-at}
 use Rattle.float.specs.Constants.{f0}
-use Rattle.float.specs.Ops.{_⊖_, _⊗_, count}
-use Rattle.columns.specs.Columns.{Arrow, columns, states}
-use Rattle.columns.specs.Lists.{map-at}
+use Rattle.float.specs.Ops.{_⊖_, _⊗_, ofNat}
+use Rattle.columns.specs.Columns.{EndPair, columns, stateNumbers}
 use Rattle.layered.specs.Single.{column-single, one-column, column-in}
-use Rattle.sweep.specs.Sweeps.{middle, swept}
+use Rattle.sweep.specs.Sweeps.{middlePlace, swept}
 use Rattle.sweep.specs.Sorted.{swept-same}
-use Rattle.sweep.specs.Centred.{swept-centred, swept-length, placed-in}
-use Rattle.layered.specs.Layered.{row, gap, columnOf, layeredXs, layeredYs}
+use Rattle.sweep.specs.Centred.{swept-centred, placed-in}
+use Rattle.sweep.specs.Lengths.{swept-length}
+use Rattle.layered.specs.Layered.{row, columnGap, columnOf, layeredXs, layeredYs}
 
-module _ (n start : ℕ) (arrows : List Arrow) where
+module _ (n start : ℕ) (arrows : List EndPair) where
   pub xs-length : (w : Float) → length (layeredXs n start arrows w) ≡ n
   unfolding layeredXs
-  xs-length w = length-map (states n) (λ (v : ℕ). count (columnOf (columns n arrows start) v) ⊗ gap w) ∙ table-length (λ (v : ℕ). v) 0 n
+  xs-length w = length-map (stateNumbers n) (λ (v : ℕ). ofNat (columnOf (columns n arrows start) v) ⊗ columnGap w) ∙ table-length (λ (v : ℕ). v) 0 n
+
+  pub ys-length : (h : Float) → length (layeredYs n start arrows h) ≡ n
+  unfolding layeredYs
+  ys-length h = length-map (swept n arrows (columns n arrows start) .slots) (λ (y : Float). y ⊗ row h) ∙ swept-length n arrows (columns n arrows start)
 
   -- the columns after the sweeps
   abbrev pub finally : List (List ℕ)
@@ -31,18 +36,11 @@ module _ (n start : ℕ) (arrows : List Arrow) where
   column-kept l = swept-same n arrows (columns n arrows start) l
 
   module _ (s : start < n) where
-    slots-length : length (swept n arrows (columns n arrows start) .slots) ≡ n
-    slots-length = swept-length n arrows (columns n arrows start) (column-single n arrows start s) (one-column n arrows start s) (column-in n arrows start s)
-
-    pub ys-length : (h : Float) → length (layeredYs n start arrows h) ≡ n
-    unfolding layeredYs
-    ys-length h = length-map (swept n arrows (columns n arrows start) .slots) (λ (y : Float). y ⊗ row h) ∙ slots-length
-
     -- the state at place i of a column of k states stands i rows below its top, the column's middle at 0
-    pub y-at : (h : Float) (l i : ℕ) → i < length (getD finally l []) → getD (layeredYs n start arrows h) (getD (getD finally l []) i 0) f0 ≡ (count i ⊖ middle (length (getD finally l []))) ⊗ row h
+    pub y-at : (h : Float) (l i : ℕ) → i < length (getD finally l []) → getD (layeredYs n start arrows h) (getD (getD finally l []) i 0) f0 ≡ (ofNat i ⊖ middlePlace (length (getD finally l []))) ⊗ row h
     unfolding layeredYs
     y-at h l i p =
         let v : ℕ = getD (getD finally l []) i 0 in
         let q : v < n = placed-in n arrows (columns n arrows start) (column-single n arrows start s) (one-column n arrows start s) (column-in n arrows start s) l i p in
-        sym (map-at (λ (y : Float). y ⊗ row h) (swept n arrows (columns n arrows start) .slots) v f0 f0 (omega (arith, q, slots-length)))
+        sym (map-at (λ (y : Float). y ⊗ row h) (swept n arrows (columns n arrows start) .slots) v f0 f0 (omega (arith, q, swept-length n arrows (columns n arrows start))))
         ∙ ap (λ (y : Float). y ⊗ row h) (swept-centred n arrows (columns n arrows start) (column-single n arrows start s) (one-column n arrows start s) (column-in n arrows start s) l i p)

@@ -1,23 +1,23 @@
 // The layered layout: x from the column of a state, y from its slot there.
+use shape::NODE_RADIUS;
 ghost use mathlib.Core.Path.{_≡_};
 ghost use mathlib.Core.List.{map};
 ghost use Prim.Native.Nat.{_+_, _≤_, _<_};
 ghost use lib.ListN.{length, replicate};
+ghost use Rattle.laws.specs.Split.{split, sumAll};
 ghost use Rattle.float.specs.Constants.{f0};
-ghost use Rattle.float.specs.Ops.{_⊗_, count};
-ghost use Rattle.columns.specs.Columns.{arrowsOf, states};
-ghost use Rattle.columns.specs.Split.{split, sum};
+ghost use Rattle.float.specs.Ops.{_⊗_, ofNat};
+ghost use Rattle.columns.specs.Columns.{endPairs, stateNumbers};
 ghost use Rattle.layered.specs.Layered as D;
 
-const NODE_RADIUS: f64 = 22.0;
-
+// The smallest distances between columns, and between the rows of a column.
 const LAYER_GAP: f64 = 140.0;
 
 const ROW_GAP: f64 = 90.0;
 
 // The distance between columns, from the width of the widest label.
 fn gap_for(width: f64) -> f64
-    ensures { λ r. ⌜ r ≡ D.gap width ⌝ }
+    ensures { λ r. ⌜ r ≡ D.columnGap width ⌝ }
 {
     float::clamp(
         width + 2.0 * NODE_RADIUS + 24.0,
@@ -39,13 +39,15 @@ fn row_for(height: f64) -> f64
 
 // The number of the column that holds v.
 fn column_of(order: &[usize], sizes: &[usize], v: usize) -> usize
-    requires { ⌜ sum (now sizes) ≤ length (now order) ⌝ }
-    ensures { λ r. ⌜ (r ≡ D.columnOf (split (now (sizes .entry)) (now (order .entry))) v) × (r ≤ length (now (sizes .entry))) ⌝ }
+    requires { ⌜ sumAll (now sizes) ≤ length (now order) ⌝ }
+    ensures { λ r.
+        let columns = split (now (sizes .entry)) (now (order .entry)) in
+        ⌜ (r ≡ D.columnOf columns v) × (r ≤ length (now (sizes .entry))) ⌝ }
 {
     let mut a: usize = 0;
     for l in 0..sizes.len() {
         let e = a + sizes[l];
-        if columns::holds(&order[a..e], v) {
+        if columns::contains(&order[a..e], v) {
             return l;
         }
         a = e;
@@ -54,8 +56,10 @@ fn column_of(order: &[usize], sizes: &[usize], v: usize) -> usize
 }
 
 fn put_xs(order: &[usize], sizes: &[usize], gap: f64, xs: &mut [f64])
-    requires { ⌜ (sum (now sizes) ≤ length (now order)) × (length (now sizes) ≤ 66) ⌝ }
-    ensures { λ _. ⌜ now (xs .exit) ≡ map (λ v. count (D.columnOf (split (now (sizes .entry)) (now (order .entry))) v) ⊗ gap) (states (length (now (xs .entry)))) ⌝ }
+    requires { ⌜ (sumAll (now sizes) ≤ length (now order)) × (length (now sizes) ≤ 66) ⌝ }
+    ensures { λ _.
+        let columns = split (now (sizes .entry)) (now (order .entry)) in
+        ⌜ now (xs .exit) ≡ map (λ v. ofNat (D.columnOf columns v) ⊗ gap) (stateNumbers (length (now (xs .entry)))) ⌝ }
 {
     for v in 0..xs.len() {
         let l = column_of(order, sizes, v);
@@ -91,18 +95,30 @@ fn place(
     xs: &mut [f64],
     ys: &mut [f64],
 )
-    requires { ⌜ (length (now ys) ≡ length (now xs)) × (length (now xs) ≤ 64) × (start < length (now xs)) × (length (now targets) ≡ length (now sources)) × (length (now sources) ≤ 256) × (length (now order) ≡ length (now xs)) × (length (now sizes) ≡ 66) ⌝ }
-    ensures { λ _. ⌜ (now (xs .exit) ≡ D.layeredXs (length (now (xs .entry))) start (arrowsOf (now (sources .entry)) (now (targets .entry))) width) × (now (ys .exit) ≡ D.layeredYs (length (now (xs .entry))) start (arrowsOf (now (sources .entry)) (now (targets .entry))) height) ⌝ }
+    requires { let states = length (now xs) in
+        ⌜ (length (now ys) ≡ states)
+        × (states ≤ 64)
+        × (start < states)
+        × (length (now targets) ≡ length (now sources))
+        × (length (now sources) ≤ 256)
+        × (length (now order) ≡ states)
+        × (length (now sizes) ≡ 66) ⌝ }
+    ensures { λ _.
+        let states = length (now (xs .entry)) in
+        let arrows = endPairs (now (sources .entry)) (now (targets .entry)) in
+        ⌜ (now (xs .exit) ≡ D.layeredXs states start arrows width)
+        × (now (ys .exit) ≡ D.layeredYs states start arrows height) ⌝ }
 {
     let n = xs.len();
-    let k = columns::fill(start, sources, targets, order, sizes);
+    let k = columns::fill_columns(start, sources, targets, order, sizes);
     put_xs(order, &sizes[..k], gap_for(width), xs);
     clear(ys);
     sweep::sweep(n, sources, targets, order, &sizes[..k], ys);
     scale(ys, row_for(height));
 }
 
-// The centres of the layered layout. `start` is the first start state or 0, `width` and `height` are those of the largest label.
+// The centres of the layered layout. `start` is the first start state or 0, `width` and `height` are those of the
+// largest label.
 pub fn layered(
     start: usize,
     sources: &[usize],
@@ -112,8 +128,17 @@ pub fn layered(
     xs: &mut [f64],
     ys: &mut [f64],
 )
-    requires { ⌜ (length (now ys) ≡ length (now xs)) × (length (now xs) ≤ 64) × (start < length (now xs)) × (length (now targets) ≡ length (now sources)) × (length (now sources) ≤ 256) ⌝ }
-    ensures { λ _. ⌜ (now (xs .exit) ≡ D.layeredXs (length (now (xs .entry))) start (arrowsOf (now (sources .entry)) (now (targets .entry))) width) × (now (ys .exit) ≡ D.layeredYs (length (now (xs .entry))) start (arrowsOf (now (sources .entry)) (now (targets .entry))) height) ⌝ }
+    requires { let states = length (now xs) in
+        ⌜ (length (now ys) ≡ states)
+        × (states ≤ 64)
+        × (start < states)
+        × (length (now targets) ≡ length (now sources))
+        × (length (now sources) ≤ 256) ⌝ }
+    ensures { λ _.
+        let states = length (now (xs .entry)) in
+        let arrows = endPairs (now (sources .entry)) (now (targets .entry)) in
+        ⌜ (now (xs .exit) ≡ D.layeredXs states start arrows width)
+        × (now (ys .exit) ≡ D.layeredYs states start arrows height) ⌝ }
 {
     let mut order = [0usize; 64];
     let mut sizes = [0usize; 66];

@@ -12,11 +12,12 @@ use Rattle.laws.specs.Counting.{table-length}
 use Rattle.sheet.specs.Sheet.{Graph}
 use Rattle.sheet.specs.Meaning as Meaning
 use Rattle.routing.specs.Routing.{Frame, Size}
-use Rattle.routing.specs.Sheets.{frameOf, sizesOf, SameFrame, same-frame}
-use Rattle.ring.specs.Ring.{around, ringed, cosAt, sinAt}
+use Rattle.routing.specs.Sheets.{frameOf, sizesOf, SameFrame}
+use Rattle.routing_laws.specs.Agree.{same-frame}
+use Rattle.circular.specs.Ring.{aroundRing, ringed, cosAt, sinAt}
 use Rattle.fit.specs.Fit.{shifted}
-use Rattle.layout.specs.Lengths.{xs-length, ys-length}
-use Rattle.layout.specs.Layout.{Plan, planOf, many, startOf, widest, tallest, Placing, arrowOf, layers, ring, takesRing, lastKind, chosen, fitted, layoutOf}
+use Rattle.layered.specs.Ys.{xs-length, ys-length}
+use Rattle.layout.specs.Layout.{Plan, planOf, many, planStart, widest, tallest, Placing, endPairOf, layers, ring, takesRing, lastKind, chosen, fitted, layoutOf}
 
 -- ---- the same states, arrow ends and sizes of labels: the same layout
 
@@ -34,7 +35,7 @@ same-layout kind g h e z = ap (layoutOf kind) (same-plan g h e z)
 -- ---- a centre for each state
 
 ring-length : (part : ℕ → ℕ → Float) (n start : ℕ) (w : Float) → length (ringed part n start w) ≡ n
-unfolding ringed around
+unfolding ringed aroundRing
 ring-length part n start w =
     by-bool (eqb n 1) (λ t. rw t (sym (eqb-true n 1 t))) (λ t. rw t (table-length _ 0 n))
 
@@ -44,11 +45,11 @@ Whole p c = (length (c .xs) ≡ many p) × (length (c .ys) ≡ many p)
 
 ring-whole : (p : Plan) → Whole p (ring p)
 unfolding ring
-ring-whole p = (ring-length cosAt (many p) (startOf p) (widest p), ring-length sinAt (many p) (startOf p) (widest p))
+ring-whole p = (ring-length cosAt (many p) (planStart p) (widest p), ring-length sinAt (many p) (planStart p) (widest p))
 
 layers-whole : (p : Plan) → Whole p (layers p)
 unfolding layers
-layers-whole p = (xs-length (many p) (startOf p) (map arrowOf (p .arrows)) (widest p), ys-length (many p) (startOf p) (map arrowOf (p .arrows)) (tallest p))
+layers-whole p = (xs-length (many p) (planStart p) (map endPairOf (p .arrows)) (widest p), ys-length (many p) (planStart p) (map endPairOf (p .arrows)) (tallest p))
 
 chosen-whole : (kind : ℕ) (p : Plan) → kind ≤ lastKind → Whole p (chosen kind p)
 unfolding chosen
@@ -77,5 +78,5 @@ layout-whole kind g h =
 
 -- ---- "the first start state or 0"
 
-pub start-same : (g : Graph) → startOf (planOf g) ≡ Meaning.startOf g
+pub start-same : (g : Graph) → planStart (planOf g) ≡ Meaning.startOf g
 start-same g = refl

@@ -8,11 +8,11 @@ use Rattle.fit.specs.declared.Size.{Size}
 use Rattle.layout.specs.Layout.{Layout}
 
 -- the lent slices: one place a state, and there is a state; one place an arrow
-abbrev pub States : List ℕ → List Float → List Float → Type 0
-States flags xs ys = (0 < length flags) × (length flags ≤ 64) × (length xs ≡ length flags) × (length ys ≡ length flags)
+abbrev pub StateSlices : List ℕ → List Float → List Float → Type 0
+StateSlices flags xs ys = (0 < length flags) × (length flags ≤ 64) × (length xs ≡ length flags) × (length ys ≡ length flags)
 
-abbrev pub Arrows : List ℕ → List ℕ → List Float → List Float → Type 0
-Arrows sources targets widths heights = (length sources ≤ 256) × (length targets ≡ length sources) × (length widths ≡ length sources) × (length heights ≡ length sources)
+abbrev pub ArrowSlices : List ℕ → List ℕ → List Float → List Float → Type 0
+ArrowSlices sources targets widths heights = (length sources ≤ 256) × (length targets ≡ length sources) × (length widths ≡ length sources) × (length heights ≡ length sources)
 
 -- a layout: width and height are answered, the centres left
 pub record Left (l : Layout) (r : Size) (xs ys : List Float) : Type 0 where

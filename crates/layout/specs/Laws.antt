@@ -10,25 +10,25 @@ use lib.ListN.{length}
 use lib.Ieee.{Float}
 use Rattle.shape.specs.declared.«V».{«V»}
 use Rattle.shape.specs.Centres.{centres}
-use Rattle.spot.specs.declared.Geometry.{Geometry}
+use Rattle.label_spots.specs.declared.Geometry.{Geometry}
 use Rattle.records.specs.Records.{decodeRecords}
-use Rattle.routing.specs.Frames.{orZeros, centres-table}
-use Rattle.routing.specs.Decoded.{records-most}
+use Rattle.routing_laws.specs.Frames.{orZeros, centres-table}
+use Rattle.routing_laws.specs.Decoded.{records-most}
 use Rattle.clutter.specs.Clutter.{clutterOf}
 use Rattle.clutter.specs.Bounds.{clutter-le}
 use Rattle.fit.specs.Fit.{fitXs, fitYs, fitSize}
 use Rattle.fit.specs.declared.Size.{Size}
-use Rattle.layout.specs.Layout.{Plan, many, Placing, layers, ring, frameAt, drawnAt, clutterAt, isDense, isTangled, takesRing, chosen, noStates, fitted, layoutOf}
+use Rattle.layout.specs.Layout.{Plan, many, Placing, layers, ring, planFrame, recordsAt, clutterAt, isDense, isTangled, takesRing, chosen, noStates, fitted, layoutOf}
 use Rattle.layout.specs.Choice.{Left}
 use Rattle.layout.specs.Slices.{Reads}
 
 -- ---- the clutter at given centres
 
 module _ (p : Plan) (c : Placing) where
-  pub counted : (n m : ℕ) (l px py : List Float) → Reads (frameAt p c) (p .sizes) n l → px ≡ orZeros (c .xs) (many p) → py ≡ orZeros (c .ys) (many p)
+  pub clutter-counted : (n m : ℕ) (l px py : List Float) → Reads (planFrame p c) (p .sizes) n l → px ≡ orZeros (c .xs) (many p) → py ≡ orZeros (c .ys) (many p)
       → m ≡ clutterOf (centres px py) (decodeRecords n l) → m ≡ clutterAt p c
   unfolding clutterAt
-  counted n m l px py r ex ey e =
+  clutter-counted n m l px py r ex ey e =
       e
       ∙ ap₂ (λ (us vs : List Float). clutterOf (centres us vs) (decodeRecords n l)) ex ey
       ∙ ap₂ clutterOf (centres-table (c .xs) (c .ys) (many p)) (r .gives)
@@ -36,11 +36,11 @@ module _ (p : Plan) (c : Placing) where
   -- a count is small
   pub clutter-most : length (p .arrows) ≤ 256 → clutterAt p c ≤ 65792
   unfolding clutterAt
-  clutter-most m = clutter-le (frameAt p c .centres) (drawnAt p c) (omega (arith, records-most (frameAt p c) (p .sizes)))
+  clutter-most m = clutter-le (planFrame p c .centres) (recordsAt p c) (omega (arith, records-most (planFrame p c) (p .sizes)))
 
   -- ---- the fit
 
-  pub fitted-left : (n : ℕ) (l : List Float) (s : Size) (xs ys : List Float) → Reads (frameAt p c) (p .sizes) n l
+  pub fitted-left : (n : ℕ) (l : List Float) (s : Size) (xs ys : List Float) → Reads (planFrame p c) (p .sizes) n l
       → s ≡ fitSize (p .flags) (centres (c .xs) (c .ys)) (decodeRecords n l)
       → xs ≡ fitXs (p .flags) (centres (c .xs) (c .ys)) (decodeRecords n l) (c .xs)
       → ys ≡ fitYs (p .flags) (centres (c .xs) (c .ys)) (decodeRecords n l) (c .ys)
@@ -48,7 +48,7 @@ module _ (p : Plan) (c : Placing) where
   unfolding fitted
   fitted-left n l s xs ys r es ex ey =
       let cs : List «V» = centres (c .xs) (c .ys) in
-      let z : s ≡ fitSize (p .flags) cs (drawnAt p c) = es ∙ ap (fitSize (p .flags) cs) (r .gives) in
+      let z : s ≡ fitSize (p .flags) cs (recordsAt p c) = es ∙ ap (fitSize (p .flags) cs) (r .gives) in
       record {
         width = ap (λ (t : Size). t .width) z;
         height = ap (λ (t : Size). t .height) z;

@@ -5,20 +5,18 @@ use Prim.Native.Nat.{ℕ, zero, suc, _+_}
 use lib.Dec.{ltb, eqb}
 use lib.ListN.{length}
 use lib.Ieee.{Float}
-use Rattle.laws.specs.Flat.{table}
-use Rattle.laws.specs.Zip.{zip}
-use Rattle.float.specs.Constants.{f2, f2-5, f16}
-use Rattle.float.specs.Ops.{_⊗_, lt, count}
+use Rattle.laws.specs.Zip.{zipBy}
+use Rattle.float.specs.Constants.{f2, f2-5, margin}
+use Rattle.float.specs.Ops.{_⊗_, lt, ofNat}
 use Rattle.sheet.specs.Sheet.{Graph, flagsOf}
 use Rattle.sheet.specs.Meaning.{startIndex}
 use Rattle.shape.specs.Centres.{centres}
-use Rattle.spot.specs.declared.Geometry.{Geometry}
+use Rattle.label_spots.specs.declared.Geometry.{Geometry}
 use Rattle.routing.specs.Routing.{Ends, Frame, Size, records}
-use Rattle.routing.specs.Passes.{endsBy, sizesBy}
-use Rattle.routing.specs.Sheets.{centreAt, endsOf, sizesOf}
+use Rattle.routing.specs.Sheets.{endsBy, sizesBy, endsOf, sizesOf, frameWith, centresAt}
 use Rattle.clutter.specs.Clutter.{clutterOf}
-use Rattle.ring.specs.Ring.{largest, circularXs, circularYs}
-use Rattle.columns.specs.Columns.{Arrow, arrow}
+use Rattle.circular.specs.Ring.{largest, circularXs, circularYs}
+use Rattle.columns.specs.Columns.{EndPair, endPair}
 use Rattle.layered.specs.Layered.{layeredXs, layeredYs}
 use Rattle.fit.specs.Fit.{fitXs, fitYs, fitSize}
 
@@ -34,17 +32,17 @@ planOf g = record { flags = flagsOf g; arrows = map endsOf (g .arrows); sizes = 
 
 -- the plan that slices hold
 abbrev pub planBy : List ℕ → List ℕ → List ℕ → List Float → List Float → Plan
-planBy flags sources targets widths heights = record { flags = flags; arrows = zip endsBy sources targets; sizes = sizesBy widths heights }
+planBy flags sources targets widths heights = record { flags = flags; arrows = zipBy endsBy sources targets; sizes = sizesBy widths heights }
 
 -- how many states
 abbrev pub many : Plan → ℕ
 many p = length (p .flags)
 
 -- "the first start state or 0"
-abbrev pub startOf : Plan → ℕ
-startOf p = startIndex (p .flags)
+abbrev pub planStart : Plan → ℕ
+planStart p = startIndex (p .flags)
 
--- "the largest label": of all arrows, left-out ones too
+-- the largest label: of all arrows, left-out ones too
 abbrev pub widest : Plan → Float
 widest p = largest (map (λ z. z .width) (p .sizes))
 
@@ -60,40 +58,40 @@ pub record Placing : Type 0 where
 abbrev pub placing : List Float → List Float → Placing
 placing xs ys = record { xs = xs; ys = ys }
 
-abbrev pub arrowOf : Ends → Arrow
-arrowOf e = arrow (e .source) (e .target)
+abbrev pub endPairOf : Ends → EndPair
+endPairOf e = endPair (e .source) (e .target)
 
 -- "Layered: breadth-first from the first start state or 0"
-abbrev pub layersBy : ℕ → ℕ → List Arrow → Float → Float → Placing
+abbrev pub layersBy : ℕ → ℕ → List EndPair → Float → Float → Placing
 layersBy n start arrows w h = placing (layeredXs n start arrows w) (layeredYs n start arrows h)
 
 unfoldable pub layers : Plan → Placing
-layers p = layersBy (many p) (startOf p) (map arrowOf (p .arrows)) (widest p) (tallest p)
+layers p = layersBy (many p) (planStart p) (map endPairOf (p .arrows)) (widest p) (tallest p)
 
 -- "Circular"
 abbrev pub ringBy : ℕ → ℕ → Float → Placing
 ringBy n start w = placing (circularXs n start w) (circularYs n start w)
 
 unfoldable pub ring : Plan → Placing
-ring p = ringBy (many p) (startOf p) (widest p)
+ring p = ringBy (many p) (planStart p) (widest p)
 
 -- ---- the drawing at these centres
 
 -- "Centres missing or not finite count as 0."
-abbrev pub frameAt : Plan → Placing → Frame
-frameAt p c = record { flags = p .flags; centres = table (centreAt (c .xs) (c .ys)) 0 (many p); arrows = p .arrows }
+abbrev pub planFrame : Plan → Placing → Frame
+planFrame p c = frameWith (p .flags) (centresAt (c .xs) (c .ys) (many p)) (p .arrows)
 
-abbrev pub drawnAt : Plan → Placing → List Geometry
-drawnAt p c = records (frameAt p c) (p .sizes)
+abbrev pub recordsAt : Plan → Placing → List Geometry
+recordsAt p c = records (planFrame p c) (p .sizes)
 
 unfoldable pub clutterAt : Plan → Placing → ℕ
-clutterAt p c = clutterOf (frameAt p c .centres) (drawnAt p c)
+clutterAt p c = clutterOf (planFrame p c .centres) (recordsAt p c)
 
 -- ---- the choice: "Auto: the ring where arrows > 2.5·states, counting all arrows, or where layered clutter > ring clutter + 2."
 
 -- of n states and m arrows
 abbrev pub isMore : ℕ → ℕ → Bool
-isMore n m = lt (f2-5 ⊗ count n) (count m)
+isMore n m = lt (f2-5 ⊗ ofNat n) (ofNat m)
 
 unfoldable pub isDense : Plan → Bool
 isDense p = isMore (many p) (length (p .arrows))
@@ -125,13 +123,13 @@ pub record Layout : Type 0 where
 
 -- "No states: no centres, size 32 by 32."
 abbrev pub noStates : Layout
-noStates = record { xs = []; ys = []; width = f2 ⊗ f16; height = f2 ⊗ f16 }
+noStates = record { xs = []; ys = []; width = f2 ⊗ margin; height = f2 ⊗ margin }
 
 -- "`fit` then shifts to the margin 16."
 unfoldable pub fitted : Plan → Placing → Layout
 fitted p c =
     let cs = centres (c .xs) (c .ys) in
-    let gs = drawnAt p c in
+    let gs = recordsAt p c in
     record {
       xs = fitXs (p .flags) cs gs (c .xs);
       ys = fitYs (p .flags) cs gs (c .ys);

@@ -2,5 +2,4 @@ pub mod Layout
 pub mod Choice
 pub mod Slices
 pub mod Laws
-pub mod Lengths
 pub mod Alike

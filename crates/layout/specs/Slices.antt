@@ -1,63 +1,40 @@
 -- The plan that slices hold, and the records read back from the numbers of a drawing. Assumes nothing.
 use mathlib.Core.Path.{_≡_, refl, sym, ap, ap₂, _∙_, subst}
-use mathlib.Core.List.{List, [], _∷_, map}
+use mathlib.Core.List.{List, map}
 use Prim.Native.Nat.{ℕ, _≤_}
 use native.Mathlib.Omega.{arith}
 use lib.ListN.{length}
 use lib.Ieee.{Float}
 use Rattle.laws.specs.Put.{put}
-use Rattle.laws.specs.Zip.{zip, zip-length}
+use Rattle.laws.specs.Zip.{zip-length, map-zip-first, map-zip-second, map-zip}
 use Rattle.records.specs.Records.{decodeRecords}
 use Rattle.records.specs.Back.{Small}
 use Rattle.routing.specs.Routing.{Frame, Size, records}
-use Rattle.routing.specs.Passes.{endsBy, sizesBy}
-use Rattle.routing.specs.Passes as Passes
-use Rattle.routing.specs.Decoded.{records-most, records-small, records-decoded}
-use Rattle.route.specs.Geometry.{count, numbers}
-use Rattle.columns.specs.Columns.{Arrow, arrowsOf}
+use Rattle.routing.specs.Sheets.{endsBy, sizesBy, sizeHeld}
+use Rattle.routing_laws.specs.Decoded.{records-most, records-small, records-decoded}
+use Rattle.geometry.specs.Geometry.{recordCount, numbers}
+use Rattle.columns.specs.Columns.{EndPair, endPairs}
 use Rattle.layered.specs.Layered.{layeredXs, layeredYs}
 use Rattle.sheet.specs.Meaning.{startIndex}
-use Rattle.ring.specs.Ring.{largest, circularXs, circularYs}
-use Rattle.layout.specs.Layout.{planBy, placing, arrowOf, layersBy, layers, ringBy, ring, isMore, isDense}
-
--- ---- two lists as one, and each of them again
-
-module _ {A B C : Type 0} (f : A → B → C) where
-  zip-first : (g : C → A) → ((a : A) (b : B) → g (f a b) ≡ a) → (xs : List A) (ys : List B) → length ys ≡ length xs → map g (zip f xs ys) ≡ xs
-  unfolding zip
-  zip-first g e [] ys h = refl
-  zip-first g e (x ∷ xs) [] h = absurd (omega arith)
-  zip-first g e (x ∷ xs) (y ∷ ys) h = ap₂ (λ (a : A) (l : List A). a ∷ l) (e x y) (zip-first g e xs ys (omega arith))
-
-  zip-second : (g : C → B) → ((a : A) (b : B) → g (f a b) ≡ b) → (xs : List A) (ys : List B) → length ys ≡ length xs → map g (zip f xs ys) ≡ ys
-  unfolding zip
-  zip-second g e [] [] h = refl
-  zip-second g e [] (y ∷ ys) h = absurd (omega arith)
-  zip-second g e (x ∷ xs) [] h = absurd (omega arith)
-  zip-second g e (x ∷ xs) (y ∷ ys) h = ap₂ (λ (b : B) (l : List B). b ∷ l) (e x y) (zip-second g e xs ys (omega arith))
-
-  map-zip : {D : Type 0} (h : C → D) (xs : List A) (ys : List B) → map h (zip f xs ys) ≡ zip (λ a b. h (f a b)) xs ys
-  unfolding zip
-  map-zip h [] ys = refl
-  map-zip h (x ∷ xs) [] = refl
-  map-zip {D} h (x ∷ xs) (y ∷ ys) = ap (λ (l : List D). h (f x y) ∷ l) (map-zip h xs ys)
+use Rattle.circular.specs.Ring.{largest, circularXs, circularYs}
+use Rattle.layout.specs.Layout.{planBy, placing, endPairOf, layersBy, layers, ringBy, ring, isMore, isDense}
 
 -- ---- the plan that slices hold
 
 module _ (flags sources targets : List ℕ) (widths heights : List Float) where
   pub layers-slices : length heights ≡ length widths
-      → layersBy (length flags) (startIndex flags) (arrowsOf sources targets) (largest widths) (largest heights) ≡ layers (planBy flags sources targets widths heights)
+      → layersBy (length flags) (startIndex flags) (endPairs sources targets) (largest widths) (largest heights) ≡ layers (planBy flags sources targets widths heights)
   unfolding layers
   layers-slices h =
       let n : ℕ = length flags in
       let s : ℕ = startIndex flags in
       sym
-      (ap (λ (es : List Arrow). layersBy n s es (largest (map (λ z. z .width) (sizesBy widths heights))) (largest (map (λ z. z .height) (sizesBy widths heights)))) (map-zip endsBy arrowOf sources targets)
-      ∙ ap₂ (λ (ws hs : List Float). layersBy n s (arrowsOf sources targets) (largest ws) (largest hs)) (zip-first Passes.sizeBy (λ z. z .width) (λ a b. refl) widths heights h) (zip-second Passes.sizeBy (λ z. z .height) (λ a b. refl) widths heights h))
+      (ap (λ (es : List EndPair). layersBy n s es (largest (map (λ z. z .width) (sizesBy widths heights))) (largest (map (λ z. z .height) (sizesBy widths heights)))) (map-zip endsBy endPairOf sources targets)
+      ∙ ap₂ (λ (ws hs : List Float). layersBy n s (endPairs sources targets) (largest ws) (largest hs)) (map-zip-first sizeHeld (λ z. z .width) (λ a b. refl) widths heights h) (map-zip-second sizeHeld (λ z. z .height) (λ a b. refl) widths heights h))
 
   pub ring-slices : length heights ≡ length widths → ringBy (length flags) (startIndex flags) (largest widths) ≡ ring (planBy flags sources targets widths heights)
   unfolding ring
-  ring-slices h = sym (ap (λ (ws : List Float). ringBy (length flags) (startIndex flags) (largest ws)) (zip-first Passes.sizeBy (λ z. z .width) (λ a b. refl) widths heights h))
+  ring-slices h = sym (ap (λ (ws : List Float). ringBy (length flags) (startIndex flags) (largest ws)) (map-zip-first sizeHeld (λ z. z .width) (λ a b. refl) widths heights h))
 
   pub dense-slices : length targets ≡ length sources → isMore (length flags) (length sources) ≡ isDense (planBy flags sources targets widths heights)
   unfolding isDense
@@ -65,7 +42,7 @@ module _ (flags sources targets : List ℕ) (widths heights : List Float) where
 
   -- as the centres are computed
   pub layers-done : (n s : ℕ) (w h : Float) (xs ys : List Float) → n ≡ length flags → s ≡ startIndex flags → w ≡ largest widths → h ≡ largest heights → length heights ≡ length widths
-      → xs ≡ layeredXs n s (arrowsOf sources targets) w → ys ≡ layeredYs n s (arrowsOf sources targets) h → placing xs ys ≡ layers (planBy flags sources targets widths heights)
+      → xs ≡ layeredXs n s (endPairs sources targets) w → ys ≡ layeredYs n s (endPairs sources targets) h → placing xs ys ≡ layers (planBy flags sources targets widths heights)
   layers-done n s w h xs ys en es ew eh l ex ey = rw (ex, ey, en, es, ew, eh) (layers-slices l)
 
 pub ring-done : (flags : List ℕ) (widths : List Float) (n s : ℕ) (w : Float) (xs ys : List Float) → n ≡ length flags → s ≡ startIndex flags → w ≡ largest widths
@@ -80,7 +57,7 @@ pub record Reads (f : Frame) (sizes : List Size) (n : ℕ) (l : List Float) : Ty
   pub most : n ≤ 256
   pub small : Small (decodeRecords n l)
 
-pub reads-drawn : (f : Frame) (sizes : List Size) (n : ℕ) (l₀ l : List Float) → n ≡ count f sizes → l ≡ put l₀ 0 (numbers f sizes)
+pub reads-drawn : (f : Frame) (sizes : List Size) (n : ℕ) (l₀ l : List Float) → n ≡ recordCount f sizes → l ≡ put l₀ 0 (numbers f sizes)
     → length (f .arrows) ≤ 256 → 5120 ≤ length l₀ → Reads f sizes n l
 reads-drawn f sizes n l₀ l k w m room =
     let few : length (records f sizes) ≤ length (f .arrows) = records-most f sizes in

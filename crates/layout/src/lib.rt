@@ -1,14 +1,13 @@
 // The layout of a graph by kind: layers or ring, the choice between them, and the fit.
+use fit::MARGIN;
 use fit::Size;
 ghost use mathlib.Core.Path.{_≡_};
 ghost use Prim.Native.Nat.{_<_, _≤_};
 ghost use lib.ListN.{length};
 ghost use Rattle.sheet.specs.Meaning.{startIndex};
-ghost use Rattle.ring.specs.Ring.{largest};
+ghost use Rattle.circular.specs.Ring.{largest};
 ghost use Rattle.layout.specs.Layout as S;
 ghost use Rattle.layout.specs.Choice as C;
-
-const MARGIN: f64 = 16.0;
 
 // How much more cluttered than the ring the layers may be.
 const AUTO_TOLERANCE: usize = 2;
@@ -28,21 +27,30 @@ pub fn layers_at(
     xs: &mut [f64],
     ys: &mut [f64],
 )
-    requires { ⌜ C.States (now flags) (now xs) (now ys) × C.Arrows (now sources) (now targets) (now widths) (now heights) ⌝ }
-    ensures { λ _. ⌜ S.placing (now (xs .exit)) (now (ys .exit)) ≡ S.layers (S.planBy (now (flags .entry)) (now (sources .entry)) (now (targets .entry)) (now (widths .entry)) (now (heights .entry))) ⌝ }
+    requires { ⌜
+        C.StateSlices (now flags) (now xs) (now ys)
+        × C.ArrowSlices (now sources) (now targets) (now widths) (now heights)
+        ⌝ }
+    ensures { λ _.
+        let plan = S.planBy (now (flags .entry)) (now (sources .entry)) (now (targets .entry))
+        (now (widths .entry)) (now (heights .entry)) in
+        ⌜ S.placing (now (xs .exit)) (now (ys .exit)) ≡ S.layers plan ⌝ }
 {
     let start = sheet::start_index(flags);
-    let label_w = ring::largest(widths);
-    let label_h = ring::largest(heights);
+    let label_w = circular::largest(widths);
+    let label_h = circular::largest(heights);
     layered::layered(start, sources, targets, label_w, label_h, xs, ys);
 }
 
 // The centres on the ring.
 pub fn ring_at(flags: &[u8], widths: &[f64], xs: &mut [f64], ys: &mut [f64])
-    requires { ⌜ C.States (now flags) (now xs) (now ys) ⌝ }
-    ensures { λ _. ⌜ S.placing (now (xs .exit)) (now (ys .exit)) ≡ S.ringBy (length (now (flags .entry))) (startIndex (now (flags .entry))) (largest (now (widths .entry))) ⌝ }
+    requires { ⌜ C.StateSlices (now flags) (now xs) (now ys) ⌝ }
+    ensures { λ _. ⌜
+        S.placing (now (xs .exit)) (now (ys .exit))
+        ≡ S.ringBy (length (now (flags .entry))) (startIndex (now (flags .entry))) (largest (now (widths .entry)))
+        ⌝ }
 {
-    ring::circular(sheet::start_index(flags), ring::largest(widths), xs, ys);
+    circular::circular(sheet::start_index(flags), circular::largest(widths), xs, ys);
 }
 
 // ---- what is measured
@@ -59,11 +67,17 @@ fn clutter_by(
     px: &mut [f64],
     py: &mut [f64],
 ) -> usize
-    requires { ⌜ C.States (now flags) (now px) (now py) × C.Arrows (now sources) (now targets) (now widths) (now heights) ⌝ }
-    ensures { λ r. ⌜ r ≡ S.clutterAt (S.planBy (now (flags .entry)) (now (sources .entry)) (now (targets .entry)) (now (widths .entry)) (now (heights .entry))) (S.placing (now (xs .entry)) (now (ys .entry))) ⌝ }
+    requires { ⌜
+        C.StateSlices (now flags) (now px) (now py)
+        × C.ArrowSlices (now sources) (now targets) (now widths) (now heights)
+        ⌝ }
+    ensures { λ r.
+        let plan = S.planBy (now (flags .entry)) (now (sources .entry)) (now (targets .entry))
+        (now (widths .entry)) (now (heights .entry)) in
+        ⌜ r ≡ S.clutterAt plan (S.placing (now (xs .entry)) (now (ys .entry))) ⌝ }
 {
     let mut records = [0.0f64; 5120];
-    let count = route::geometry(
+    let count = geometry::geometry(
         flags,
         sources,
         targets,
@@ -73,8 +87,8 @@ fn clutter_by(
         ys,
         &mut records,
     );
-    lay::centred(xs, px);
-    lay::centred(ys, py);
+    curves::centred(xs, px);
+    curves::centred(ys, py);
     clutter::clutter(px, py, &records, count)
 }
 
@@ -88,8 +102,15 @@ fn clutter_at(
     xs: &[f64],
     ys: &[f64],
 ) -> usize
-    requires { ⌜ (0 < length (now flags)) × (length (now flags) ≤ 64) × C.Arrows (now sources) (now targets) (now widths) (now heights) ⌝ }
-    ensures { λ r. ⌜ r ≡ S.clutterAt (S.planBy (now (flags .entry)) (now (sources .entry)) (now (targets .entry)) (now (widths .entry)) (now (heights .entry))) (S.placing (now (xs .entry)) (now (ys .entry))) ⌝ }
+    requires { ⌜
+        (0 < length (now flags))
+        × (length (now flags) ≤ 64)
+        × C.ArrowSlices (now sources) (now targets) (now widths) (now heights)
+        ⌝ }
+    ensures { λ r.
+        let plan = S.planBy (now (flags .entry)) (now (sources .entry)) (now (targets .entry))
+        (now (widths .entry)) (now (heights .entry)) in
+        ⌜ r ≡ S.clutterAt plan (S.placing (now (xs .entry)) (now (ys .entry))) ⌝ }
 {
     let mut px = [0.0f64; 64];
     let mut py = [0.0f64; 64];
@@ -117,8 +138,14 @@ fn layers_clutter(
     xs: &mut [f64],
     ys: &mut [f64],
 ) -> usize
-    requires { ⌜ C.States (now flags) (now xs) (now ys) × C.Arrows (now sources) (now targets) (now widths) (now heights) ⌝ }
-    ensures { λ r. ⌜ r ≡ S.clutterAt (S.planBy (now (flags .entry)) (now (sources .entry)) (now (targets .entry)) (now (widths .entry)) (now (heights .entry))) (S.layers (S.planBy (now (flags .entry)) (now (sources .entry)) (now (targets .entry)) (now (widths .entry)) (now (heights .entry)))) ⌝ }
+    requires { ⌜
+        C.StateSlices (now flags) (now xs) (now ys)
+        × C.ArrowSlices (now sources) (now targets) (now widths) (now heights)
+        ⌝ }
+    ensures { λ r.
+        let plan = S.planBy (now (flags .entry)) (now (sources .entry)) (now (targets .entry))
+        (now (widths .entry)) (now (heights .entry)) in
+        ⌜ r ≡ S.clutterAt plan (S.layers plan) ⌝ }
 {
     layers_at(flags, sources, targets, widths, heights, xs, ys);
     clutter_at(flags, sources, targets, widths, heights, xs, ys)
@@ -134,8 +161,14 @@ fn ring_clutter(
     xs: &mut [f64],
     ys: &mut [f64],
 ) -> usize
-    requires { ⌜ C.States (now flags) (now xs) (now ys) × C.Arrows (now sources) (now targets) (now widths) (now heights) ⌝ }
-    ensures { λ r. ⌜ r ≡ S.clutterAt (S.planBy (now (flags .entry)) (now (sources .entry)) (now (targets .entry)) (now (widths .entry)) (now (heights .entry))) (S.ring (S.planBy (now (flags .entry)) (now (sources .entry)) (now (targets .entry)) (now (widths .entry)) (now (heights .entry)))) ⌝ }
+    requires { ⌜
+        C.StateSlices (now flags) (now xs) (now ys)
+        × C.ArrowSlices (now sources) (now targets) (now widths) (now heights)
+        ⌝ }
+    ensures { λ r.
+        let plan = S.planBy (now (flags .entry)) (now (sources .entry)) (now (targets .entry))
+        (now (widths .entry)) (now (heights .entry)) in
+        ⌜ r ≡ S.clutterAt plan (S.ring plan) ⌝ }
 {
     ring_at(flags, widths, xs, ys);
     clutter_at(flags, sources, targets, widths, heights, xs, ys)
@@ -161,8 +194,14 @@ fn takes_ring(
     xs: &mut [f64],
     ys: &mut [f64],
 ) -> bool
-    requires { ⌜ C.States (now flags) (now xs) (now ys) × C.Arrows (now sources) (now targets) (now widths) (now heights) ⌝ }
-    ensures { λ r. ⌜ r ≡ S.takesRing (S.planBy (now (flags .entry)) (now (sources .entry)) (now (targets .entry)) (now (widths .entry)) (now (heights .entry))) ⌝ }
+    requires { ⌜
+        C.StateSlices (now flags) (now xs) (now ys)
+        × C.ArrowSlices (now sources) (now targets) (now widths) (now heights)
+        ⌝ }
+    ensures { λ r.
+        let plan = S.planBy (now (flags .entry)) (now (sources .entry)) (now (targets .entry))
+        (now (widths .entry)) (now (heights .entry)) in
+        ⌜ r ≡ S.takesRing plan ⌝ }
 {
     if dense(flags.len(), sources.len()) {
         return true;
@@ -182,8 +221,14 @@ fn auto_at(
     xs: &mut [f64],
     ys: &mut [f64],
 )
-    requires { ⌜ C.States (now flags) (now xs) (now ys) × C.Arrows (now sources) (now targets) (now widths) (now heights) ⌝ }
-    ensures { λ _. ⌜ S.placing (now (xs .exit)) (now (ys .exit)) ≡ S.chosen 0 (S.planBy (now (flags .entry)) (now (sources .entry)) (now (targets .entry)) (now (widths .entry)) (now (heights .entry))) ⌝ }
+    requires { ⌜
+        C.StateSlices (now flags) (now xs) (now ys)
+        × C.ArrowSlices (now sources) (now targets) (now widths) (now heights)
+        ⌝ }
+    ensures { λ _.
+        let plan = S.planBy (now (flags .entry)) (now (sources .entry)) (now (targets .entry))
+        (now (widths .entry)) (now (heights .entry)) in
+        ⌜ S.placing (now (xs .exit)) (now (ys .exit)) ≡ S.chosen 0 plan ⌝ }
 {
     if takes_ring(flags, sources, targets, widths, heights, xs, ys) {
         ring_at(flags, widths, xs, ys);
@@ -203,8 +248,15 @@ fn choose(
     xs: &mut [f64],
     ys: &mut [f64],
 )
-    requires { ⌜ (kind ≤ S.lastKind) × C.States (now flags) (now xs) (now ys) × C.Arrows (now sources) (now targets) (now widths) (now heights) ⌝ }
-    ensures { λ _. ⌜ S.placing (now (xs .exit)) (now (ys .exit)) ≡ S.chosen kind (S.planBy (now (flags .entry)) (now (sources .entry)) (now (targets .entry)) (now (widths .entry)) (now (heights .entry))) ⌝ }
+    requires { ⌜
+        (kind ≤ S.lastKind)
+        × C.StateSlices (now flags) (now xs) (now ys)
+        × C.ArrowSlices (now sources) (now targets) (now widths) (now heights)
+        ⌝ }
+    ensures { λ _.
+        let plan = S.planBy (now (flags .entry)) (now (sources .entry)) (now (targets .entry))
+        (now (widths .entry)) (now (heights .entry)) in
+        ⌜ S.placing (now (xs .exit)) (now (ys .exit)) ≡ S.chosen kind plan ⌝ }
 {
     match kind {
         0 => auto_at(flags, sources, targets, widths, heights, xs, ys),
@@ -226,11 +278,17 @@ fn fit_at(
     xs: &mut [f64],
     ys: &mut [f64],
 ) -> Size
-    requires { ⌜ C.States (now flags) (now xs) (now ys) × C.Arrows (now sources) (now targets) (now widths) (now heights) ⌝ }
-    ensures { λ r. ⌜ C.Left (S.fitted (S.planBy (now (flags .entry)) (now (sources .entry)) (now (targets .entry)) (now (widths .entry)) (now (heights .entry))) (S.placing (now (xs .entry)) (now (ys .entry)))) r (now (xs .exit)) (now (ys .exit)) ⌝ }
+    requires { ⌜
+        C.StateSlices (now flags) (now xs) (now ys)
+        × C.ArrowSlices (now sources) (now targets) (now widths) (now heights)
+        ⌝ }
+    ensures { λ r.
+        let plan = S.planBy (now (flags .entry)) (now (sources .entry)) (now (targets .entry))
+        (now (widths .entry)) (now (heights .entry)) in
+        ⌜ C.Left (S.fitted plan (S.placing (now (xs .entry)) (now (ys .entry)))) r (now (xs .exit)) (now (ys .exit)) ⌝ }
 {
     let mut records = [0.0f64; 5120];
-    let count = route::geometry(
+    let count = geometry::geometry(
         flags,
         sources,
         targets,
@@ -254,8 +312,20 @@ pub fn layout(
     xs: &mut [f64],
     ys: &mut [f64],
 ) -> Size
-    requires { ⌜ (kind ≤ S.lastKind) × (length (now flags) ≤ 64) × (length (now xs) ≡ length (now flags)) × (length (now ys) ≡ length (now flags)) × (length (now sources) ≤ 256) × (length (now targets) ≡ length (now sources)) × (length (now widths) ≡ length (now sources)) × (length (now heights) ≡ length (now sources)) ⌝ }
-    ensures { λ r. ⌜ C.Left (S.layoutOf kind (S.planBy (now (flags .entry)) (now (sources .entry)) (now (targets .entry)) (now (widths .entry)) (now (heights .entry)))) r (now (xs .exit)) (now (ys .exit)) ⌝ }
+    requires { let states = length (now flags) in
+        let arrows = length (now sources) in
+        ⌜ (kind ≤ S.lastKind)
+        × (states ≤ 64)
+        × (length (now xs) ≡ states)
+        × (length (now ys) ≡ states)
+        × (arrows ≤ 256)
+        × (length (now targets) ≡ arrows)
+        × (length (now widths) ≡ arrows)
+        × (length (now heights) ≡ arrows) ⌝ }
+    ensures { λ r.
+        let plan = S.planBy (now (flags .entry)) (now (sources .entry)) (now (targets .entry))
+        (now (widths .entry)) (now (heights .entry)) in
+        ⌜ C.Left (S.layoutOf kind plan) r (now (xs .exit)) (now (ys .exit)) ⌝ }
 {
     if flags.len() == 0 {
         return Size {

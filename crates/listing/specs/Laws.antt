@@ -10,12 +10,12 @@ use lib.Seq.{length-take-le, take-all, take-append-seam}
 use borrow.Author.Tests.{lt-ltb, ltb-false}
 use Rattle.laws.specs.Cases.{by-bool, by-lt}
 use Rattle.laws.specs.Refusals.{Refusal, refusal, decide, clear-decides}
-use Rattle.laws.specs.Writers.{Wrote, fitted}
+use Rattle.laws.specs.Writers.{Wrote, written-fits}
 use Rattle.text.specs.Digits.{digits, digits-one, digits-more}
 use Rattle.sheet.specs.Refusals.{wrongLength}
-use Rattle.diagram.specs.Calls.{Outcome, values, number, short, onto, listing, listRefusals, list, listAfter}
-use Rattle.diagram.specs.Decided.{answered-clear}
-use Rattle.listing.specs.Listing.{asked, lent, refusedText, shown, output}
+use Rattle.calls.specs.Calls.{Outcome, values, number, short, onto, listing, listRefusals, list, listAfter}
+use Rattle.calls.specs.Decided.{answered-clear}
+use Rattle.listing.specs.Listing.{asked, lent, refusedText, answerText, output}
 
 -- the value of an answer, 0 where it is refused
 abbrev count : Outcome ℕ → ℕ
@@ -63,7 +63,7 @@ refused-short n h = rw (length-append, length-append) (omega (arith, digits-3 n 
 -- what was written at the front
 pub front : {l out txt : List ℕ} {n : ℕ} → Wrote l 0 out n txt → length txt ≤ length l → (n ≤ length l) × (take n out ≡ txt)
 front {l} {out} {txt} {n} w h =
-    let f = fitted w h in
+    let f = written-fits w h in
     (omega (arith, f .0), rw (f .0, f .1) (take-append-seam txt (drop (length txt) l)))
 
 -- ---- the call, with as much lent as there is
@@ -79,16 +79,16 @@ front-listing {n} s out e f =
     (take-append-seam (listing s 0) (drop (length (listing s 0)) out))
 
 -- what is shown of an answer is what the program writes
-shows : {o : Outcome ℕ} (s out : List ℕ) → length out ≡ lent → o ≡ list s 0 (length out) → shown o (listing s 0) ≡ output s
+shows : {o : Outcome ℕ} (s out : List ℕ) → length out ≡ lent → o ≡ list s 0 (length out) → answerText o (listing s 0) ≡ output s
 unfolding output
-shows s out l e = ap (λ (p : Outcome ℕ). shown p (listing s 0)) (e ∙ ap (list s 0) l)
+shows s out l e = ap (λ (p : Outcome ℕ). answerText p (listing s 0)) (e ∙ ap (list s 0) l)
 
-pub listed : {n : ℕ} {after : List ℕ} (s out : List ℕ) → length out ≡ lent → values n ≡ list s 0 (length out)
+pub listed-output : {n : ℕ} {after : List ℕ} (s out : List ℕ) → length out ≡ lent → values n ≡ list s 0 (length out)
     → after ≡ listAfter s 0 out → (n ≤ length out) × (take n after ≡ output s)
-listed s out l e f = (omega (arith, ap count e, list-fits s 0 (length out)), front-listing s out e f ∙ shows s out l e)
+listed-output s out l e f = (omega (arith, ap count e, list-fits s 0 (length out)), front-listing s out e f ∙ shows s out l e)
 
-pub refused : {n : ℕ} (s out : List ℕ) → length out ≡ lent → number n ≡ list s 0 (length out) → refusedText n ≡ output s
-refused s out l e = shows s out l e
+pub refused-output : {n : ℕ} (s out : List ℕ) → length out ≡ lent → number n ≡ list s 0 (length out) → refusedText n ≡ output s
+refused-output s out l e = shows s out l e
 
 -- ---- inputs longer than a sheet
 

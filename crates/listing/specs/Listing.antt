@@ -1,9 +1,9 @@
 -- What the program asks for, lends and writes.
-use mathlib.Core.List.{List, [], _∷_, _++_}
+use mathlib.Core.List.{List, _++_}
 use Prim.Native.Nat.{ℕ}
 use Rattle.text.specs.Digits.{digits}
 use Rattle.text.specs.Ascii.{ascii}
-use Rattle.diagram.specs.Calls.{Outcome, values, number, list, listing}
+use Rattle.calls.specs.Calls.{Outcome, values, number, list, listing}
 
 -- one byte more than the 65,536 of a sheet is asked for, so that a longer input is refused as a sheet of that length
 abbrev pub asked : ℕ
@@ -15,13 +15,13 @@ lent = 65536
 
 -- "Refused: `refused` and the number only."
 unfoldable pub refusedText : ℕ → List ℕ
-refusedText n = ascii "refused " ++ digits n ++ (10 ∷ [])
+refusedText n = ascii "refused " ++ digits n ++ ascii "\n"
 
 -- the text that the call answered with, or the refusal
-abbrev pub shown : Outcome ℕ → List ℕ → List ℕ
-shown (values n) text = text
-shown (number n) text = refusedText n
+abbrev pub answerText : Outcome ℕ → List ℕ → List ℕ
+answerText (values n) text = text
+answerText (number n) text = refusedText n
 
 -- "The listing program reads a sheet from standard input and lays out as Auto": what it writes of the bytes read
 unfoldable pub output : List ℕ → List ℕ
-output s = shown (list s 0 lent) (listing s 0)
+output s = answerText (list s 0 lent) (listing s 0)

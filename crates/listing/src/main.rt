@@ -32,7 +32,7 @@ fn output(input: &[u8; ASKED], n: usize, text: &mut [u8; LENT]) -> usize
         ⌝ }
 {
     let whole: &[u8] = input;
-    let c = diagram::list(&whole[..n], 0, text);
+    let c = calls::list(&whole[..n], 0, text);
     match c {
         number::Written::Length(m) => m,
         number::Written::Refused(m) => put_refused(text, m),

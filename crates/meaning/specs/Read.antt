@@ -19,8 +19,8 @@ abbrev pub targets : Graph → List ℕ
 targets g = map (λ a. a .target) (g .arrows)
 
 -- the first line record of each arrow, in their order
-unfoldable pub heads : List ℕ → List ℕ
-heads s = map (firstLine s) (arrowChain s)
+unfoldable pub firstLines : List ℕ → List ℕ
+firstLines s = map (firstLine s) (arrowChain s)
 
 flags-go : (s l : List ℕ) → map (λ a. a .flags) (map (stateOf s) l) ≡ map (byteOne s) l
 flags-go s [] = refl
@@ -48,8 +48,8 @@ pub targets-are : (s : List ℕ) → targets (meaning s) ≡ map (endOf s true) 
 unfolding arrowsOf
 targets-are s = targets-go s (arrowChain s)
 
-pub heads-length : (s : List ℕ) → length (heads s) ≡ length (arrowsOf s)
-unfolding heads arrowsOf
+pub heads-length : (s : List ℕ) → length (firstLines s) ≡ length (arrowsOf s)
+unfolding firstLines arrowsOf
 heads-length s = length-map (arrowChain s) (firstLine s) ∙ sym (length-map (arrowChain s) (arrowOf s))
 
 lines-go : (s l : List ℕ) (d : Arrow) (k : ℕ) → k < length l → getD (map (arrowOf s) l) k d .lines ≡ linesFrom s (getD (map (firstLine s) l) k 0)
@@ -63,6 +63,6 @@ unfolding arrowsOf
 length-arrows s = length-map (arrowChain s) (arrowOf s)
 
 -- The lines of arrow k are those of the chain from its first line record on.
-pub lines-at : (s : List ℕ) (d : Arrow) (k : ℕ) → k < length (arrowsOf s) → getD (arrowsOf s) k d .lines ≡ linesFrom s (getD (heads s) k 0)
-unfolding heads arrowsOf
+pub lines-at : (s : List ℕ) (d : Arrow) (k : ℕ) → k < length (arrowsOf s) → getD (arrowsOf s) k d .lines ≡ linesFrom s (getD (firstLines s) k 0)
+unfolding firstLines arrowsOf
 lines-at s d k h = lines-go s (arrowChain s) d k (rw (length-arrows s) at h)

@@ -3,6 +3,7 @@ ghost use mathlib.Core.Path.{_≡_};
 ghost use mathlib.Core.List.{map};
 ghost use Prim.Native.Nat.{_+_, _*_, _<_, _≤_};
 ghost use lib.ListN.{length, set};
+ghost use Rattle.laws.specs.Any.{anyOf};
 ghost use Rattle.laws.specs.Put.{put};
 ghost use Rattle.text.specs.Automaton.{feedAll};
 ghost use Rattle.sheet.specs.Sheet as S;
@@ -35,7 +36,11 @@ pub fn chain_length(s: &[u8], first: usize) -> usize
 // The place after the bytes of text record k, which start at 16 k + 4.
 pub fn piece_end(s: &[u8], k: usize) -> usize
     requires { ⌜ k < 65536 ⌝ }
-    ensures { λ r. ⌜ (r ≡ 16 * k + 4 + length (S.piece (now (s .entry)) k)) × (r ≤ 16 * k + 259) × (16 * k + 4 < r → r ≤ length (now (s .entry))) ⌝ }
+    ensures { λ r. ⌜
+        (r ≡ 16 * k + 4 + length (S.piece (now (s .entry)) k))
+        × (r ≤ 16 * k + 259)
+        × (16 * k + 4 < r → r ≤ length (now (s .entry)))
+        ⌝ }
 {
     let a = 16 * k + 4;
     let d = record_of(s, k);
@@ -72,7 +77,7 @@ pub fn line_length(s: &[u8], k: usize) -> usize
 // Whether a line of the chain from `first` on is longer than the limit.
 fn some_long(s: &[u8], first: usize, m: Limits) -> bool
     requires { ⌜ first < 65536 ⌝ }
-    ensures { λ r. ⌜ r ≡ R.any (R.longLine m) (S.linesFrom (now (s .entry)) first) ⌝ }
+    ensures { λ r. ⌜ r ≡ anyOf (R.longLine m) (S.linesFrom (now (s .entry)) first) ⌝ }
 {
     let mut i = first;
     let mut left = word_at(s, 2) + 1;
@@ -103,7 +108,7 @@ fn large_arrow(s: &[u8], k: usize, m: Limits) -> bool
 }
 
 fn some_large(s: &[u8], m: Limits) -> bool
-    ensures { λ r. ⌜ r ≡ R.any (R.largeArrow m) (S.arrowsOf (now (s .entry))) ⌝ }
+    ensures { λ r. ⌜ r ≡ anyOf (R.largeArrow m) (S.arrowsOf (now (s .entry))) ⌝ }
 {
     let mut i = word_at(s, 6);
     let mut left = word_at(s, 2) + 1;
@@ -165,7 +170,7 @@ fn ill_line(s: &[u8], k: usize) -> bool
 // Whether a line of the chain from `first` on is not well-formed UTF-8.
 fn some_ill(s: &[u8], first: usize) -> bool
     requires { ⌜ first < 65536 ⌝ }
-    ensures { λ r. ⌜ r ≡ R.any R.illLine (S.linesFrom (now (s .entry)) first) ⌝ }
+    ensures { λ r. ⌜ r ≡ anyOf R.illLine (S.linesFrom (now (s .entry)) first) ⌝ }
 {
     let mut i = first;
     let mut left = word_at(s, 2) + 1;
@@ -274,7 +279,10 @@ fn end_of(s: &[u8], k: usize, to: bool) -> usize
 
 // That end of each arrow, into `out` as far as it reaches.
 fn ends_into(s: &[u8], to: bool, out: &mut [usize])
-    ensures { λ _. ⌜ now (out .exit) ≡ put (now (out .entry)) 0 (map (M.endOf (now (s .entry)) to) (S.arrowChain (now (s .entry)))) ⌝ }
+    ensures { λ _. ⌜
+        now (out .exit)
+        ≡ put (now (out .entry)) 0 (map (M.endOf (now (s .entry)) to) (S.arrowChain (now (s .entry))))
+        ⌝ }
 {
     let mut i = word_at(s, 6);
     let mut left = word_at(s, 2) + 1;
@@ -306,7 +314,7 @@ pub fn targets_into(s: &[u8], out: &mut [usize])
 
 // The first line record of each arrow, into `out` as far as it reaches.
 pub fn heads_into(s: &[u8], out: &mut [u16])
-    ensures { λ _. ⌜ now (out .exit) ≡ put (now (out .entry)) 0 (M.heads (now (s .entry))) ⌝ }
+    ensures { λ _. ⌜ now (out .exit) ≡ put (now (out .entry)) 0 (M.firstLines (now (s .entry))) ⌝ }
 {
     let mut i = word_at(s, 6);
     let mut left = word_at(s, 2) + 1;

@@ -1,17 +1,17 @@
 -- What an exported call returns and what it leaves in the places it is lent for values, from what the call answers.
 use mathlib.Core.List.{List, [], _∷_}
 use Prim.Native.Nat.{ℕ}
-use Rattle.diagram.specs.Calls.{Outcome, values, number}
+use Rattle.calls.specs.Calls.{Outcome, values, number}
 
 -- the number returned: 0 where there are values, else the refusal's
-abbrev pub code : {A : Type 0} → Outcome A → ℕ
-code (values v) = 0
-code (number n) = n
+abbrev pub returned : {A : Type 0} → Outcome A → ℕ
+returned (values v) = 0
+returned (number n) = n
 
 -- what a lent place holds afterwards: of the values what `f` takes, and after a refusal what it held before
-abbrev pub after : {A B : Type 0} → (A → B) → Outcome A → B → B
-after f (values v) before = f v
-after f (number n) before = before
+abbrev pub heldAfter : {A B : Type 0} → (A → B) → Outcome A → B → B
+heldAfter f (values v) before = f v
+heldAfter f (number n) before = before
 
 -- two numbers in an array
 abbrev pub both : {A : Type 0} → A × A → List A
@@ -22,8 +22,8 @@ abbrev pub itself : {A : Type 0} → A → A
 itself a = a
 
 -- of a layout's values, the number of states, and the width and height
-abbrev pub statesOf : {A B : Type 0} → A × B × B → A
-statesOf (n, w, h) = n
+abbrev pub layoutStates : {A B : Type 0} → A × B × B → A
+layoutStates (n, w, h) = n
 
-abbrev pub sizeOf : {A B : Type 0} → A × B × B → List B
-sizeOf (n, w, h) = w ∷ h ∷ []
+abbrev pub layoutSize : {A B : Type 0} → A × B × B → List B
+layoutSize (n, w, h) = w ∷ h ∷ []

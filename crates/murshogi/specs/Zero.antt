@@ -13,58 +13,58 @@ use Rattle.sheet.specs.Refusals.{refusals}
 use Rattle.label.specs.Label.{labelRefusals, cut, blockWidth, blockHeight}
 use Rattle.number.specs.Number.{numText}
 use Rattle.draw.specs.Drawn.{drawRefusals}
-use Rattle.lines.specs.Lines.{pathsText}
+use Rattle.drawing_text.specs.Lines.{pathsText}
 use Rattle.routing.specs.Sheets.{frameOf}
 use Rattle.sheet.specs.Sheet.{meaning}
 use Rattle.clutter.specs.Clutter.{clutterOf}
-use Rattle.diagram.specs.Calls.{Outcome, values, number, mainScreen, check, labelSize, drawnOf, numbersOf, routeRefusals, route, clutter, numRefusals, writeNum, layoutFor, layoutRefusals, layout, listing, listRefusals, list}
-use Rattle.murshogi.specs.Exports.{code}
+use Rattle.calls.specs.Calls.{Outcome, values, number, mainScreen, check, labelSize, drawnOf, numbersOf, routeRefusals, route, clutter, numRefusals, writeNum, layoutFor, layoutRefusals, layout, listing, listRefusals, list}
+use Rattle.murshogi.specs.Exports.{returned}
 
 -- every refusal of a list has a number above 0
-abbrev pub numbered : List Refusal → Bool
-numbered [] = true
-numbered (r ∷ rs) = let rest = numbered rs in cond (ltb 0 (r .number)) rest false
+abbrev pub allNumbered : List Refusal → Bool
+allNumbered [] = true
+allNumbered (r ∷ rs) = let rest = allNumbered rs in cond (ltb 0 (r .number)) rest false
 
 each : (a b : Bool) → cond a b false ≡ true → (a ≡ true) × (b ≡ true)
 each true b h = (refl, h)
 each false b h = absurd (subst T (sym h) tt)
 
 module _ {A : Type 0} (v : A) where
-  step : (b : Bool) (n : ℕ) (o : Outcome A) → ltb 0 n ≡ true → (code o ≡ 0 → o ≡ values v) → code (cond b (number n) o) ≡ 0 → cond b (number n) o ≡ values v
+  step : (b : Bool) (n : ℕ) (o : Outcome A) → ltb 0 n ≡ true → (returned o ≡ 0 → o ≡ values v) → returned (cond b (number n) o) ≡ 0 → cond b (number n) o ≡ values v
   step true n o p f e = absurd (omega (arith, ltb-true 0 n p, e))
   step false n o p f e = f e
 
-  pub zero-values : (rs : List Refusal) → numbered rs ≡ true → code (decide rs number (values v)) ≡ 0 → decide rs number (values v) ≡ values v
+  pub zero-values : (rs : List Refusal) → allNumbered rs ≡ true → returned (decide rs number (values v)) ≡ 0 → decide rs number (values v) ≡ values v
   unfolding decide
   zero-values [] h e = refl
   zero-values (r ∷ rs) h e =
-      let p = each (ltb 0 (r .number)) (numbered rs) h in
+      let p = each (ltb 0 (r .number)) (allNumbered rs) h in
       step (r .cause) (r .number) (decide rs number (values v)) (p .0) (zero-values rs (p .1)) e
 
-pub check-zero : (s : List ℕ) → code (check s) ≡ 0 → check s ≡ values tt
+pub check-zero : (s : List ℕ) → returned (check s) ≡ 0 → check s ≡ values tt
 unfolding check
 check-zero s e = zero-values tt (refusals mainScreen s) refl e
 
-pub label-zero : (text lengths : List ℕ) → code (labelSize text lengths) ≡ 0 → labelSize text lengths ≡ values (blockWidth (cut text lengths), blockHeight (length lengths))
+pub label-zero : (text lengths : List ℕ) → returned (labelSize text lengths) ≡ 0 → labelSize text lengths ≡ values (blockWidth (cut text lengths), blockHeight (length lengths))
 unfolding labelSize
 label-zero text lengths e = zero-values (blockWidth (cut text lengths), blockHeight (length lengths)) (labelRefusals mainScreen text lengths) refl e
 
-pub layout-zero : (s : List ℕ) (kind xRoom yRoom : ℕ) → code (layout s kind xRoom yRoom) ≡ 0 → layout s kind xRoom yRoom ≡ values (length (meaning s .states), layoutFor s kind .width, layoutFor s kind .height)
+pub layout-zero : (s : List ℕ) (kind xRoom yRoom : ℕ) → returned (layout s kind xRoom yRoom) ≡ 0 → layout s kind xRoom yRoom ≡ values (length (meaning s .states), layoutFor s kind .width, layoutFor s kind .height)
 unfolding layout
 layout-zero s kind xRoom yRoom e = zero-values (length (meaning s .states), layoutFor s kind .width, layoutFor s kind .height) (layoutRefusals s kind xRoom yRoom) refl e
 
-pub route-zero : (s : List ℕ) (xs ys : List Float) (room textRoom : ℕ) → code (route s xs ys room textRoom) ≡ 0 → route s xs ys room textRoom ≡ values (length (numbersOf (drawnOf s xs ys)), length (pathsText (drawnOf s xs ys)))
+pub route-zero : (s : List ℕ) (xs ys : List Float) (room textRoom : ℕ) → returned (route s xs ys room textRoom) ≡ 0 → route s xs ys room textRoom ≡ values (length (numbersOf (drawnOf s xs ys)), length (pathsText (drawnOf s xs ys)))
 unfolding route
 route-zero s xs ys room textRoom e = zero-values (length (numbersOf (drawnOf s xs ys)), length (pathsText (drawnOf s xs ys))) (routeRefusals s xs ys room textRoom) refl e
 
-pub clutter-zero : (s : List ℕ) (xs ys : List Float) → code (clutter s xs ys) ≡ 0 → clutter s xs ys ≡ values (clutterOf (frameOf (meaning s) xs ys .centres) (drawnOf s xs ys))
+pub clutter-zero : (s : List ℕ) (xs ys : List Float) → returned (clutter s xs ys) ≡ 0 → clutter s xs ys ≡ values (clutterOf (frameOf (meaning s) xs ys .centres) (drawnOf s xs ys))
 unfolding clutter
 clutter-zero s xs ys e = zero-values (clutterOf (frameOf (meaning s) xs ys .centres) (drawnOf s xs ys)) (drawRefusals mainScreen s xs ys) refl e
 
-pub num-zero : (v : Float) (out : List ℕ) → code (writeNum v out) ≡ 0 → writeNum v out ≡ values (length (numText v))
+pub num-zero : (v : Float) (out : List ℕ) → returned (writeNum v out) ≡ 0 → writeNum v out ≡ values (length (numText v))
 unfolding writeNum
 num-zero v out e = zero-values (length (numText v)) (numRefusals v out) refl e
 
-pub list-zero : (s : List ℕ) (kind room : ℕ) → code (list s kind room) ≡ 0 → list s kind room ≡ values (length (listing s kind))
+pub list-zero : (s : List ℕ) (kind room : ℕ) → returned (list s kind room) ≡ 0 → list s kind room ≡ values (length (listing s kind))
 unfolding list
 list-zero s kind room e = zero-values (length (listing s kind)) (listRefusals s kind room) refl e

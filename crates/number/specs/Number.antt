@@ -1,6 +1,7 @@
 -- A written number, in whole hundredths: "at most two decimals, no trailing zeros, never `-0`; not finite gives `0`".
 use mathlib.Core.Bool.{Bool, true, false, cond, not, _&&_}
 use mathlib.Core.List.{List, [], _∷_, _++_}
+use Prim.Native.Char.{code}
 use Prim.Native.Nat.{ℕ, _+_, _/_, _%_}
 use lib.Dec.{eqb}
 use lib.Ieee.{Float, toUnsigned}
@@ -10,6 +11,7 @@ use Rattle.float.specs.Ops.{_⊗_, lt, le}
 use Rattle.float.specs.Constants.{f100, f1e13}
 use Rattle.float.specs.Standins.{negative, abs, round}
 use Rattle.text.specs.Digits.{digits}
+use Rattle.text.specs.Ascii.{ascii}
 use Rattle.number.specs.declared.Written.{Written}
 use Rattle.number.specs.declared.Written.the-variants.{Length, Refused}
 
@@ -24,8 +26,8 @@ writable v = not (tooLarge v)
 
 -- v · 100 rounded, "round goes half away from zero", its size as a whole number; 0 where v is not finite.
 -- A number that refusal 10 stops has 0 here too: callers refuse it first.
-unfoldable pub sizeOf : Float → ℕ
-sizeOf v = cond (lt (abs v) f1e13) (toUnsigned 64 (abs (round (v ⊗ f100)))) 0
+unfoldable pub roundedSize : Float → ℕ
+roundedSize v = cond (lt (abs v) f1e13) (toUnsigned 64 (abs (round (v ⊗ f100)))) 0
 
 -- a number of hundredths, below zero where minus holds
 pub record Hundredths : Type 0 where
@@ -37,20 +39,20 @@ abbrev pub signed : Bool → ℕ → Hundredths
 signed s n = record { minus = s && not (eqb n 0); size = n }
 
 abbrev pub hundredths : Float → Hundredths
-hundredths v = signed (negative v) (sizeOf v)
+hundredths v = signed (negative v) (roundedSize v)
 
--- ---- their text; 45 is `-`, 46 `.` and 48 `0`
+-- ---- their text
 
 unfoldable pub minusText : Bool → List ℕ
-minusText true = 45 ∷ []
+minusText true = ascii "-"
 minusText false = []
 
 -- the point and the digits after it, for n below 100
 unfoldable pub fraction : ℕ → List ℕ
 fraction n =
     cond (eqb n 0) []
-    (cond (eqb (n % 10) 0) (46 ∷ (48 + n / 10) ∷ [])
-    (46 ∷ (48 + n / 10) ∷ (48 + n % 10) ∷ []))
+    (cond (eqb (n % 10) 0) (code "." ∷ (code "0" + n / 10) ∷ [])
+    (code "." ∷ (code "0" + n / 10) ∷ (code "0" + n % 10) ∷ []))
 
 unfoldable pub decimal : Hundredths → List ℕ
 decimal h = minusText (h .minus) ++ digits (h .size / 100) ++ fraction (h .size % 100)
@@ -67,4 +69,4 @@ written v room = cond (tooLarge v) (Refused 10) (W.answer Length (Refused 7) (nu
 
 -- the text and what stood after it; as before where the call is refused
 unfoldable pub writtenAfter : Float → List ℕ → List ℕ
-writtenAfter v out = cond (tooLarge v) out (W.after (numText v) out)
+writtenAfter v out = cond (tooLarge v) out (W.writtenOver (numText v) out)

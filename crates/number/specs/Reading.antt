@@ -4,6 +4,7 @@ use mathlib.Core.Bool.{Bool, true, false, cond, not, _&&_, true≢false}
 use mathlib.Core.List.{List, [], _∷_, _++_, append-assoc}
 use mathlib.Core.Option.{Option, none, some}
 use Prim.Native.Nat.{ℕ, zero, suc, _+_, _-_, _*_, _/_, _%_, _≤_, _<_}
+use Prim.Native.Char.{code}
 use native.Mathlib.Nat.{le-refl}
 use native.Mathlib.Omega.{arith}
 use lib.Dec.{leb, ltb, eqb}
@@ -16,13 +17,14 @@ use Rattle.laws.specs.Cases.{by-bool}
 use Rattle.laws.specs.Loops.{over}
 use Rattle.float.specs.Standins.{negative}
 use Rattle.text.specs.Digits.{digitsBy, digits, value, value-digits}
-use Rattle.number.specs.Number.{Hundredths, signed, hundredths, sizeOf, minusText, fraction, decimal, numText}
+use Rattle.text.specs.Ascii.{ascii}
+use Rattle.number.specs.Number.{Hundredths, signed, hundredths, roundedSize, minusText, fraction, decimal, numText}
 
 -- ---- the reader: an optional `-`, digits, and an optional point with one or two digits
 
--- a digit is a byte from 48, `0`, to 57, `9`
+-- a digit is a byte from `0` to `9`
 abbrev pub isDigit : ℕ → Bool
-isDigit b = leb 48 b && leb b 57
+isDigit b = leb (code "0") b && leb b (code "9")
 
 -- the digits that a text begins with, and what follows them
 unfoldable pub leading : List ℕ → List ℕ
@@ -43,15 +45,15 @@ readAs minus n rest = record { number = record { minus = minus; size = n }; rest
 
 -- the digits after the point, one or two, as hundredths
 unfoldable pub decimals : Bool → ℕ → List ℕ → List ℕ → Option Read
-decimals minus n (a ∷ []) rest = some (readAs minus (100 * n + 10 * (a - 48)) rest)
-decimals minus n (a ∷ b ∷ []) rest = some (readAs minus (100 * n + (10 * (a - 48) + (b - 48))) rest)
+decimals minus n (a ∷ []) rest = some (readAs minus (100 * n + 10 * (a - code "0")) rest)
+decimals minus n (a ∷ b ∷ []) rest = some (readAs minus (100 * n + (10 * (a - code "0") + (b - code "0"))) rest)
 decimals minus n [] rest = none
 decimals minus n (a ∷ b ∷ c ∷ l) rest = none
 
 -- after the whole part n
 unfoldable pub point : Bool → ℕ → List ℕ → Option Read
 point minus n [] = some (readAs minus (100 * n) [])
-point minus n (b ∷ l) = cond (eqb b 46) (decimals minus n (leading l) (following l)) (some (readAs minus (100 * n) (b ∷ l)))
+point minus n (b ∷ l) = cond (eqb b (code ".")) (decimals minus n (leading l) (following l)) (some (readAs minus (100 * n) (b ∷ l)))
 
 -- after the sign: at least one digit
 unfoldable pub unsigned : Bool → List ℕ → Option Read
@@ -60,7 +62,7 @@ unsigned minus l = cond (eqb (length (leading l)) 0) none (point minus (value (l
 -- the number that a text begins with
 unfoldable pub readNumber : List ℕ → Option Read
 readNumber [] = none
-readNumber (b ∷ l) = cond (eqb b 45) (unsigned true l) (unsigned false (b ∷ l))
+readNumber (b ∷ l) = cond (eqb b (code "-")) (unsigned true l) (unsigned false (b ∷ l))
 
 -- ---- digits
 abbrev pub AllDigits : List ℕ → Type 0
@@ -105,9 +107,9 @@ abbrev pub NoDigit : List ℕ → Type 0
 NoDigit [] = Unit {0}
 NoDigit (b ∷ l) = isDigit b ≡ false
 
-abbrev pub Ends : List ℕ → Type 0
-Ends [] = Unit {0}
-Ends (b ∷ l) = (isDigit b ≡ false) × (eqb b 46 ≡ false)
+abbrev pub NumberEnds : List ℕ → Type 0
+NumberEnds [] = Unit {0}
+NumberEnds (b ∷ l) = (isDigit b ≡ false) × (eqb b 46 ≡ false)
 
 stops : (l : List ℕ) → NoDigit l → (leading l ≡ []) × (following l ≡ l)
 unfolding leading following
@@ -122,17 +124,17 @@ digits-split (d ∷ ds) l p h = let r = digits-split ds l (p .1) h in (rw (p .0)
 -- ---- reading back
 
 -- whatever ends a number is no digit
-no-digit : (l : List ℕ) → Ends l → NoDigit l
+no-digit : (l : List ℕ) → NumberEnds l → NoDigit l
 no-digit [] h = tt
 no-digit (b ∷ l) h = h .0
 
 -- after the whole part n: nothing, or the point and one or two digits
 module _ (minus : Bool) (n : ℕ) (rest : List ℕ) where
-  none-back : Ends rest → point minus n rest ≡ some (readAs minus (100 * n) rest)
+  none-back : NumberEnds rest → point minus n rest ≡ some (readAs minus (100 * n) rest)
   unfolding point
   none-back = go rest
     where
-      go : (l : List ℕ) → Ends l → point minus n l ≡ some (readAs minus (100 * n) l)
+      go : (l : List ℕ) → NumberEnds l → point minus n l ≡ some (readAs minus (100 * n) l)
       go [] h = refl
       go (b ∷ l) h = rw (h .1)
 
@@ -140,11 +142,11 @@ module _ (minus : Bool) (n : ℕ) (rest : List ℕ) where
   unfolding point decimals
   one-back a h k = let s = digits-split (a ∷ []) rest (h, tt) k in rw (s .0, s .1)
 
-  two-back : (a b : ℕ) → isDigit a ≡ true → isDigit b ≡ true → NoDigit rest → point minus n (46 ∷ a ∷ b ∷ rest) ≡ some (readAs minus (100 * n + (10 * (a - 48) + (b - 48))) rest)
+  two-back : (a b : ℕ) → isDigit a ≡ true → isDigit b ≡ true → NoDigit rest → point minus n (46 ∷ a ∷ b ∷ rest) ≡ some (readAs minus (100 * n + (10 * (a - code "0") + (b - code "0"))) rest)
   unfolding point decimals
   two-back a b h i k = let s = digits-split (a ∷ b ∷ []) rest (h, (i, tt)) k in rw (s .0, s .1)
 
-  fraction-back : (f : ℕ) → f < 100 → Ends rest → point minus n (fraction f ++ rest) ≡ some (readAs minus (100 * n + f) rest)
+  fraction-back : (f : ℕ) → f < 100 → NumberEnds rest → point minus n (fraction f ++ rest) ≡ some (readAs minus (100 * n + f) rest)
   unfolding fraction
   fraction-back f h k =
       let read : ℕ → Option Read = λ i. some (readAs minus i rest) in
@@ -155,7 +157,7 @@ module _ (minus : Bool) (n : ℕ) (rest : List ℕ) where
       (λ (g : eqb (f % 10) 0 ≡ false). rw (e, g) (two-back (48 + f / 10) (48 + f % 10) (digit-is (f / 10) (omega arith)) (digit-is (f % 10) (omega arith)) (no-digit rest k) ∙ ap read (omega arith))))
 
 -- what stands after the whole part begins with no digit
-fraction-ends : (f : ℕ) (rest : List ℕ) → Ends rest → NoDigit (fraction f ++ rest)
+fraction-ends : (f : ℕ) (rest : List ℕ) → NumberEnds rest → NoDigit (fraction f ++ rest)
 unfolding fraction
 fraction-ends f rest h =
     by-bool (eqb f 0) (λ (e : eqb f 0 ≡ true). rw e (no-digit rest h))
@@ -179,7 +181,7 @@ after-sign true ds l p h = refl
 after-sign false ds l p h = unfold readNumber in (no-minus ds l p h)
 
 -- What is written of h hundredths, with any text after it that ends a number, is read as h, with that text left.
-pub decimal-back : (h : Hundredths) (rest : List ℕ) → Ends rest → readNumber (decimal h ++ rest) ≡ some (record { number = h; rest = rest })
+pub decimal-back : (h : Hundredths) (rest : List ℕ) → NumberEnds rest → readNumber (decimal h ++ rest) ≡ some (record { number = h; rest = rest })
 unfolding decimal
 decimal-back h rest k =
     let m = minusText (h .minus) in
@@ -192,7 +194,7 @@ decimal-back h rest k =
     ∙ fraction-back (h .minus) (h .size / 100) rest (h .size % 100) (omega arith) k
     ∙ ap (λ (n : ℕ). some (readAs (h .minus) n rest)) (omega arith)
 
-pub num-back : (v : Float) (rest : List ℕ) → Ends rest → readNumber (numText v ++ rest) ≡ some (record { number = hundredths v; rest = rest })
+pub num-back : (v : Float) (rest : List ℕ) → NumberEnds rest → readNumber (numText v ++ rest) ≡ some (record { number = hundredths v; rest = rest })
 unfolding numText
 num-back v rest h = decimal-back (hundredths v) rest h
 
@@ -267,30 +269,30 @@ num-tidy v =
     ∙ tidy-fraction (h .size % 100) (omega arith)
 
 -- "never -0": no hundredths are `0`, whatever the sign
-pub num-zero : (v : Float) → sizeOf v ≡ 0 → numText v ≡ 48 ∷ []
+pub num-text-zero : (v : Float) → roundedSize v ≡ 0 → numText v ≡ ascii "0"
 unfolding numText decimal minusText fraction digits digitsBy
-num-zero v e = go (negative v) (sizeOf v) e
+num-text-zero v e = go (negative v) (roundedSize v) e
   where
-    go : (s : Bool) (n : ℕ) → n ≡ 0 → decimal (signed s n) ≡ 48 ∷ []
+    go : (s : Bool) (n : ℕ) → n ≡ 0 → decimal (signed s n) ≡ ascii "0"
     go true n e = rw e
     go false n e = rw e
 
 -- "not finite gives `0`": infinities of both signs and NaN
-pub not-finite-zero : (v : Float) → finite v ≡ false → numText v ≡ 48 ∷ []
-not-finite-zero v e = num-zero v (none v e)
+pub not-finite-zero : (v : Float) → finite v ≡ false → numText v ≡ ascii "0"
+not-finite-zero v e = num-text-zero v (none v e)
   where
-    none : (v : Float) → finite v ≡ false → sizeOf v ≡ 0
-    none nan e = unfold sizeOf Ieee.lt ofBits in refl
-    none (inf s) e = unfold sizeOf Ieee.lt ofBits in refl
+    none : (v : Float) → finite v ≡ false → roundedSize v ≡ 0
+    none nan e = unfold roundedSize Ieee.lt ofBits in refl
+    none (inf s) e = unfold roundedSize Ieee.lt ofBits in refl
     none (fin s m x) e = absurd (true≢false e)
 
 sizeRead : Option Read → ℕ
 sizeRead none = 0
 sizeRead (some r) = r .number .size
 
-pub never-minus-zero : (v : Float) → numText v ≡ 45 ∷ 48 ∷ [] → ⊥
+pub never-minus-zero : (v : Float) → numText v ≡ ascii "-0" → ⊥
 unfolding readNumber unsigned point leading following value over sizeRead
 never-minus-zero v e =
-    let z : sizeOf v ≡ 0 = sym (ap sizeRead (num-back v [] tt)) ∙ ap (λ (l : List ℕ). sizeRead (readNumber (l ++ []))) e in
-    let w : _≡_ {A = List ℕ} (48 ∷ []) (45 ∷ 48 ∷ []) = sym (num-zero v z) ∙ e in
+    let z : roundedSize v ≡ 0 = sym (ap sizeRead (num-back v [] tt)) ∙ ap (λ (l : List ℕ). sizeRead (readNumber (l ++ []))) e in
+    let w : ascii "0" ≡ ascii "-0" = sym (num-text-zero v z) ∙ e in
     omega (arith, ap length w)

@@ -1,5 +1,5 @@
 -- Below 10^13 the hundredths are the whole number that v · 100, rounded, is. Assumes nothing.
-use mathlib.Core.Path.{_≡_, refl, sym, _∙_, subst}
+use mathlib.Core.Path.{_≡_, sym, _∙_, subst}
 use mathlib.Core.Bool.{Bool, true, false, not, _&&_, _||_, true≢false}
 use Prim.Native.Nat.{ℕ, zero, suc, _+_, _-_, _*_, _/_, _%_, _^_, _≤_, _<_, compare}
 use native.Mathlib.Nat.{div-lt-iff-lt-mul, mul-one, mul-le-mul-right}
@@ -16,9 +16,9 @@ use lib.Ieee.Order.{round-mono}
 use lib.Ieee.Scale.{finite}
 use Rattle.laws.specs.Cases.{by-bool}
 use Rattle.float.specs.Ops.{_⊗_, lt, le}
-use Rattle.float.specs.Constants.{f100, f1e13, infinity}
+use Rattle.float.specs.Constants.{f100, f1e13}
 use Rattle.float.specs.Standins.{negative, abs, halfUp, round}
-use Rattle.number.specs.Number.{sizeOf, writable}
+use Rattle.number.specs.Number.{roundedSize, writable}
 
 -- ---- the sign of a rounded number is that of the exact one, and its size is that of the exact size
 abs-units : (s : Bool) (q k : ℕ) → (abs (Ieee.units binary64 s q k) ≡ Ieee.units binary64 false q k) × (negative (Ieee.units binary64 s q k) ≡ s)
@@ -117,9 +117,9 @@ castable (fin false m e) n p h =
     (lt→ltb 0 (1 * 1 * down e + m * up e * 1) (omega arith), lt→ltb (m * up e * 1) (1 * 2 ^ 64 * down e) (omega (arith, p .1)))
 
 -- Of a number below 10^13 in size: v · 100, rounded, is the whole number `sizeOf v` with the sign of v.
-pub record Rounded (v : Float) : Type 0 where
-  pub value : HasValue (round (v ⊗ f100)) (negative v) (sizeOf v) 1
-  pub small : sizeOf v ≤ 10 ^ 15
+pub record HundredthsRounded (v : Float) : Type 0 where
+  pub value : HasValue (round (v ⊗ f100)) (negative v) (roundedSize v) 1
+  pub small : roundedSize v ≤ 10 ^ 15
   pub low : T (lt (fin true 1 (pos 0)) (abs (round (v ⊗ f100))))
   pub high : T (lt (abs (round (v ⊗ f100))) (fin false 1 (pos 64)))
 
@@ -130,15 +130,15 @@ back : (n : ℕ) → n ≤ 10 ^ 15 → toUnsigned 64 (ofInt binary64 (pos n)) �
 unfolding inFloat
 back n h = unsigned-back binary64 64 n (le→leb n (2 ^ 53) (omega arith)) (omega arith) .1
 
-pub rounded : (v : Float) → lt (abs v) f1e13 ≡ true → Rounded v
+pub hundredths-rounded : (v : Float) → lt (abs v) f1e13 ≡ true → HundredthsRounded v
 unfolding Ieee.lt
-rounded nan h = absurd (true≢false (sym h))
-rounded (inf s) h = absurd (unfold ofBits in (true≢false (sym h)))
-rounded (fin s m e) h =
+hundredths-rounded nan h = absurd (true≢false (sym h))
+hundredths-rounded (inf s) h = absurd (unfold ofBits in (true≢false (sym h)))
+hundredths-rounded (fin s m e) h =
     let v = fin s m e in
     let x = v ⊗ f100 in
     let w : Whole x = whole x (within s m e h) in
-    let n : sizeOf v ≡ wholeOf x = unfold sizeOf in (rw (h, w .size) (back (wholeOf x) (w .small))) in
+    let n : roundedSize v ≡ wholeOf x = unfold roundedSize in (rw (h, w .size) (back (wholeOf x) (w .small))) in
     let c = castable (abs (round x)) (wholeOf x) (w .size-value) (w .small) in
     record {
       value = rw n (subst (λ (b : Bool). HasValue (round x) b (wholeOf x) 1) (same-sign s m e) (w .value));
@@ -157,15 +157,8 @@ below x y h =
     let b : y ≡ x → ⊥ = eqb-false y x g in
     lt-ltb x y (omega arith)))
 
-pub writable-rounded : (v : Float) → writable v ≡ true → finite v ≡ true → Rounded v
+pub writable-rounded : (v : Float) → writable v ≡ true → finite v ≡ true → HundredthsRounded v
 unfolding Ieee.lt Ieee.le Ieee.eq ofBits
 writable-rounded nan h f = absurd (true≢false (sym f))
 writable-rounded (inf s) h f = absurd (true≢false (sym f))
-writable-rounded (fin s m e) h f = rounded (fin s m e) (unfold Ieee.lt Ieee.le Ieee.eq ofBits in (below (m * up e * 1) (10 ^ 13 * down e) h))
-
--- ---- finite, by the test against infinity
-pub finite-test : (v : Float) → lt (abs v) infinity ≡ finite v
-unfolding Ieee.lt ofBits
-finite-test nan = refl
-finite-test (inf s) = refl
-finite-test (fin s m e) = refl
+writable-rounded (fin s m e) h f = hundredths-rounded (fin s m e) (unfold Ieee.lt Ieee.le Ieee.eq ofBits in (below (m * up e * 1) (10 ^ 13 * down e) h))

@@ -5,7 +5,6 @@ ghost use mathlib.Core.Bool.{not, _&&_};
 ghost use Prim.Native.Nat.{_<_};
 ghost use lib.Dec.{eqb};
 ghost use lib.ListN.{length};
-ghost use lib.Ieee.Scale.{finite};
 ghost use Rattle.laws.specs.Writers.{Wrote};
 ghost use Rattle.float.specs.Standins.{negative};
 ghost use Rattle.number.specs.Number as S;
@@ -16,17 +15,11 @@ pub enum Written {
     Refused(u8),
 }
 
-fn is_finite(v: f64) -> bool
-    ensures { λ r. ⌜ r ≡ finite v ⌝ }
-{
-    float::abs(v) < f64::from_bits(0x7ff0_0000_0000_0000)
-}
-
 // Whether a number may be written: not finite, or of size below 10^13.
 pub fn writable(v: f64) -> bool
     ensures { λ r. ⌜ r ≡ S.writable v ⌝ }
 {
-    if is_finite(v) {
+    if float::is_finite(v) {
         return !(1e13 <= float::abs(v));
     }
     true
@@ -34,7 +27,7 @@ pub fn writable(v: f64) -> bool
 
 // The whole number of hundredths; 0 where v is not finite or refusal 10 stops it.
 fn size_of(v: f64) -> u64
-    ensures { λ r. ⌜ r ≡ S.sizeOf v ⌝ }
+    ensures { λ r. ⌜ r ≡ S.roundedSize v ⌝ }
 {
     if float::abs(v) < 1e13 {
         return std::num::truncating_f64_to_u64(float::abs(float::round(v * 100.0)));
@@ -77,7 +70,8 @@ fn put_fraction(out: &mut [u8], at: usize, n: u64) -> usize
     text::put_number(out, tenths, n % 10)
 }
 
-// The text of v; `0` where v is not finite. A number that refusal 10 stops has the text `0` here too: callers refuse it first, by `writable`.
+// The text of v; `0` where v is not finite. A number that refusal 10 stops has the text `0` here too: callers
+// refuse it first, by `writable`.
 pub fn put_num(out: &mut [u8], at: usize, v: f64) -> usize
     ensures { λ r. ⌜ Wrote (now (out .entry)) at (now (out .exit)) r (S.numText v) ⌝ }
 {
@@ -87,9 +81,13 @@ pub fn put_num(out: &mut [u8], at: usize, v: f64) -> usize
     put_fraction(out, whole, n % 100)
 }
 
-// The text of v at the start of `out`, and its length; refused, and nothing changed, where v is finite and 10^13 or more in size, or the text does not fit.
+// The text of v at the start of `out`, and its length; refused, and nothing changed, where v is finite and 10^13 or
+// more in size, or the text does not fit.
 pub fn write_num(v: f64, out: &mut [u8]) -> Written
-    ensures { λ r. ⌜ (r ≡ S.written v (length (now (out .entry)))) × (now (out .exit) ≡ S.writtenAfter v (now (out .entry))) ⌝ }
+    ensures { λ r. ⌜
+        (r ≡ S.written v (length (now (out .entry))))
+        × (now (out .exit) ≡ S.writtenAfter v (now (out .entry)))
+        ⌝ }
 {
     if !writable(v) {
         return Written::Refused(10);

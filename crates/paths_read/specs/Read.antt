@@ -13,11 +13,11 @@ use Rattle.shape.specs.declared.«V».{«V»}
 use Rattle.svg.specs.Paths.{Command, curvePath, headOf, headPath, pathWritable}
 use Rattle.svg.specs.Reads.{ReadsAs}
 use Rattle.shape.specs.Centres.{centres}
-use Rattle.spot.specs.declared.Geometry.{Geometry}
+use Rattle.label_spots.specs.declared.Geometry.{Geometry}
 use Rattle.records.specs.Records.{decodeGeometry}
-use Rattle.lines.specs.Lines.{textLine, wholeField, wordField, bodyText, State, statesFrom, starts, startTip}
-use Rattle.demand.specs.Demand.{Call, Answered, recordAt, pathAt, lineAt}
-use Rattle.shown.specs.Shown.{Lent, Listed, LaidOut, xsLeft, ysLeft, routed, outLeft, lineOf, arrowAt}
+use Rattle.drawing_text.specs.Lines.{textLine, wholeField, wordField, bodyText, ListedState, statesFrom, starts, startTip}
+use Rattle.demand3.specs.Demand.{Call, Answered, recordAt, pathAt, textLineAt}
+use Rattle.listing_shows.specs.Shown.{Lent, ListAnswered, LayoutAnswered, xsLeft, ysLeft, routeCall, outLeft, recordLine, arrowNumber}
 
 -- ---- what a text is read as
 
@@ -44,7 +44,7 @@ curveIn c k = curvePath (recordIn c k .curve)
 
 -- those of the arrowhead at its tip and tip angle
 abbrev pub headIn : Call → ℕ → List (Command «V»)
-headIn c k = headPath (headOf (recordIn c k .tip) (recordIn c k .angle))
+headIn c k = headPath (headOf (recordIn c k .tip) (recordIn c k .«tip_angle»))
 
 -- ---- the claim
 
@@ -53,29 +53,29 @@ abbrev pub Routes : Type 0
 Routes = (c : Call) (a : Answered c) (k : ℕ) → 20 * k + 20 ≤ a .numbers → Path (pathAt c k) (curveIn c k)
 
 -- for all sheets, kinds and lent slices: the lines of the text that `list` leaves, and what `layout` and `route` give of the same sheet
-module _ (c : Lent) (l : LaidOut c) (r : Answered (routed c l)) where
+module _ (c : Lent) (l : LayoutAnswered c) (r : Answered (routeCall c l)) where
   -- "four lines a record": the first is `edge`, "arrow, path"
   abbrev pub Edges : Type 0
   Edges = (k : ℕ) → 20 * k + 20 ≤ r .numbers
-      → PathLine (lineAt (lineOf (l .states) k) (outLeft c)) "edge" (arrowAt (routed c l) k) (curveIn (routed c l) k)
+      → PathLine (textLineAt (recordLine (l .states) k) (outLeft c)) "edge" (arrowNumber (routeCall c l) k) (curveIn (routeCall c l) k)
 
   -- the third is `head`, "arrow, head"
   abbrev pub Heads : Type 0
   Heads = (k : ℕ) → 20 * k + 20 ≤ r .numbers
-      → PathLine (lineAt (lineOf (l .states) k + 2) (outLeft c)) "head" (arrowAt (routed c l) k) (headIn (routed c l) k)
+      → PathLine (textLineAt (recordLine (l .states) k + 2) (outLeft c)) "head" (arrowNumber (routeCall c l) k) (headIn (routeCall c l) k)
 
   -- the start states, with their centres
-  abbrev pub startStates : List State
+  abbrev pub startStates : List ListedState
   startStates = starts (flagsOf (meaning (c .sheet))) (statesFrom 0 (centres (xsLeft c l) (ysLeft c l)))
 
   -- "then starts", behind the lines of the last record: `start`, "start state, head"; on the rim, from the left, and pointing to the right
   abbrev pub Starts : Type 0
-  Starts = (j : ℕ) (s : State) → j < length startStates
-      → PathLine (lineAt (lineOf (l .states) (r .numbers / 20) + j) (outLeft c)) "start" (getD startStates j s .number)
+  Starts = (j : ℕ) (s : ListedState) → j < length startStates
+      → PathLine (textLineAt (recordLine (l .states) (r .numbers / 20) + j) (outLeft c)) "start" (getD startStates j s .number)
       (headPath (headOf (startTip (getD startStates j s .centre)) f0))
 
 pub record PathsRead : Type 0 where
   pub routes : Routes
-  pub edges : (c : Lent) → Listed c → (l : LaidOut c) (r : Answered (routed c l)) → Edges c l r
-  pub heads : (c : Lent) → Listed c → (l : LaidOut c) (r : Answered (routed c l)) → Heads c l r
-  pub starts : (c : Lent) → Listed c → (l : LaidOut c) (r : Answered (routed c l)) → Starts c l r
+  pub edges : (c : Lent) → ListAnswered c → (l : LayoutAnswered c) (r : Answered (routeCall c l)) → Edges c l r
+  pub heads : (c : Lent) → ListAnswered c → (l : LayoutAnswered c) (r : Answered (routeCall c l)) → Heads c l r
+  pub starts : (c : Lent) → ListAnswered c → (l : LayoutAnswered c) (r : Answered (routeCall c l)) → Starts c l r

@@ -2,17 +2,16 @@
 use mathlib.Core.Path.{_≡_, refl, sym, ap, ap₂, _∙_}
 use mathlib.Core.Bool.{Bool, true, false, or-false}
 use mathlib.Core.List.{List, []}
-use Prim.Native.Nat.{ℕ, zero, _+_, _≤_, _<_}
-use native.Mathlib.Numerals.{add-one}
+use Prim.Native.Nat.{ℕ, zero, _≤_, _<_}
 use borrow.Author.Tests.{lt-ltb, le-ltb, ne-eqb}
 use lib.Dec.{ltb}
-use lib.ListN.{length, getD, drop, set, length-map, drop-of-length-le}
-use lib.Seq.{drop-cons}
+use lib.ListN.{length, length-map}
 use lib.Ieee.{Float}
 use Rattle.laws.specs.Put.{put}
 use Rattle.laws.specs.Refusals.{Refusal, decide, decide-first, decide-rest}
+use Rattle.laws.specs.Any.{anyOf}
 use Rattle.sheet.specs.Sheet.{Graph, meaning, flagsOf}
-use Rattle.sheet.specs.Refusals.{any, checkOf}
+use Rattle.sheet.specs.Refusals.{checkOf}
 use Rattle.sheet.specs.Order.{check-refused, check-accepted}
 use Rattle.sheet.specs.declared.Limits.{Limits}
 use Rattle.sheet.specs.declared.Checked.the-variants as C
@@ -21,7 +20,7 @@ use Rattle.graph.specs.Sizes.{widths, heights}
 use Rattle.routing.specs.Routing.{Frame}
 use Rattle.routing.specs.Routing as Routing
 use Rattle.routing.specs.Sheets.{frameOf, sizesOf, SameFrame}
-use Rattle.routing.specs.Frames.{frame-sheet, sizes-sheet}
+use Rattle.routing_laws.specs.Frames.{frame-sheet, sizes-sheet}
 use Rattle.fit.specs.declared.Size.{Size}
 use Rattle.layout.specs.Layout.{Plan, many, planOf, planBy, layers, ring, isDense, lastKind, layoutOf}
 use Rattle.layout.specs.Choice as Layout
@@ -29,7 +28,7 @@ use Rattle.layout.specs.Alike.{same-plan}
 use Rattle.plan.specs.Measured.{beyondAt, anyBeyond, measured, layoutBeyond}
 use Rattle.plan.specs.declared.Planned.{Planned}
 use Rattle.plan.specs.declared.Planned.the-variants as Planned
-use Rattle.plan.specs.Planned.{layoutRefusals, sheetRefusals, planRefusals, laidOut, answerBy, xsBy, ysBy}
+use Rattle.plan.specs.Planned.{measuredRefusals, sheetRefusals, planRefusals, laidOut, planAnswer, xsBy, ysBy}
 
 -- ---- what is read
 
@@ -42,21 +41,12 @@ pub plan-read : (g : Graph) (flags from to : List ℕ) (ws hs : List Float) → 
     → planBy flags from to ws hs ≡ planOf g
 plan-read g flags from to ws hs a b c d e = rw (a, b, c, d, e) (plan-sheet g)
 
--- ---- a copy, turn by turn
-
-module _ {A : Type 0} (d : A) where
-  pub copy-turn : (to from : List A) (i : ℕ) → i < length from → put (set to i (getD from i d)) (i + 1) (drop (i + 1) from) ≡ put to i (drop i from)
-  unfolding put
-  copy-turn to from i h = rw (drop-cons from i d h, add-one)
-
-pub copy-end : {A : Type 0} (to from : List A) (i : ℕ) → length from ≤ i → put to i (drop i from) ≡ to
-unfolding put
-copy-end to from i h = rw (drop-of-length-le from h)
+-- ---- a copy, step by step
 
 -- ---- what is answered and left under a list of refusals
 
 abbrev Left : List Refusal → ℕ → Graph → Planned → List Float → List Float → List Float → List Float → Type 0
-Left rs kind g r xs ys xs′ ys′ = (r ≡ answerBy rs kind g) × (xs′ ≡ xsBy rs kind g xs) × (ys′ ≡ ysBy rs kind g ys)
+Left rs kind g r xs ys xs′ ys′ = (r ≡ planAnswer rs kind g) × (xs′ ≡ xsBy rs kind g xs) × (ys′ ≡ ysBy rs kind g ys)
 
 left-refused : (rs : List Refusal) (n kind : ℕ) (g : Graph) (xs ys : List Float) → ((A : Type 0) (refuse : ℕ → A) (accept : A) → refuse n ≡ decide rs refuse accept)
     → Left rs kind g (Planned.Refused n) xs ys xs ys
@@ -80,40 +70,40 @@ module _ (m : Limits) (kind : ℕ) (s : List ℕ) (xs ys : List Float) where
   plan-refused n h e =
       left-refused (planRefusals m kind s) n kind (meaning s) xs ys
       (λ A refuse accept.
-      check-refused m s (layoutRefusals kind (meaning s)) refuse accept n e ∙ decide-rest 11 (ltb lastKind kind) (sheetRefusals m kind s) refuse accept (le-ltb lastKind kind h))
+      check-refused m s (measuredRefusals kind (meaning s)) refuse accept n e ∙ decide-rest 11 (ltb lastKind kind) (sheetRefusals m kind s) refuse accept (le-ltb lastKind kind h))
 
   pub plan-accepted : (r : Planned) (xs′ ys′ : List Float) → kind ≤ lastKind → C.Accepted ≡ checkOf m s
-      → Left (layoutRefusals kind (meaning s)) kind (meaning s) r xs ys xs′ ys′ → Left (planRefusals m kind s) kind (meaning s) r xs ys xs′ ys′
+      → Left (measuredRefusals kind (meaning s)) kind (meaning s) r xs ys xs′ ys′ → Left (planRefusals m kind s) kind (meaning s) r xs ys xs′ ys′
   plan-accepted r xs′ ys′ h e =
-      left-as (layoutRefusals kind (meaning s)) (planRefusals m kind s) kind (meaning s) r xs ys xs′ ys′
+      left-as (measuredRefusals kind (meaning s)) (planRefusals m kind s) kind (meaning s) r xs ys xs′ ys′
       (λ A refuse accept.
-      check-accepted m s (layoutRefusals kind (meaning s)) refuse accept e ∙ decide-rest 11 (ltb lastKind kind) (sheetRefusals m kind s) refuse accept (le-ltb lastKind kind h))
+      check-accepted m s (measuredRefusals kind (meaning s)) refuse accept e ∙ decide-rest 11 (ltb lastKind kind) (sheetRefusals m kind s) refuse accept (le-ltb lastKind kind h))
 
 -- ---- 9, step by step
 
 module _ (p : Plan) where
-  pub auto-dense : (r : Bool) → isDense p ≡ true → r ≡ beyondAt p (ring p) → r ≡ anyBeyond p (measured zero p)
-  unfolding anyBeyond measured any
-  auto-dense r d e = rw d (e ∙ sym (or-false (beyondAt p (ring p))))
+  pub beyond-auto-dense : (r : Bool) → isDense p ≡ true → r ≡ beyondAt p (ring p) → r ≡ anyBeyond p (measured zero p)
+  unfolding anyBeyond measured anyOf
+  beyond-auto-dense r d e = rw d (e ∙ sym (or-false (beyondAt p (ring p))))
 
-  pub auto-layers : isDense p ≡ false → beyondAt p (layers p) ≡ true → true ≡ anyBeyond p (measured zero p)
-  unfolding anyBeyond measured any
-  auto-layers d b = rw (d, b)
+  pub beyond-auto-layers : isDense p ≡ false → beyondAt p (layers p) ≡ true → true ≡ anyBeyond p (measured zero p)
+  unfolding anyBeyond measured anyOf
+  beyond-auto-layers d b = rw (d, b)
 
-  pub auto-both : (r : Bool) → isDense p ≡ false → beyondAt p (layers p) ≡ false → r ≡ beyondAt p (ring p) → r ≡ anyBeyond p (measured zero p)
-  unfolding anyBeyond measured any
-  auto-both r d b e = rw (d, b) (e ∙ sym (or-false (beyondAt p (ring p))))
+  pub beyond-auto-both : (r : Bool) → isDense p ≡ false → beyondAt p (layers p) ≡ false → r ≡ beyondAt p (ring p) → r ≡ anyBeyond p (measured zero p)
+  unfolding anyBeyond measured anyOf
+  beyond-auto-both r d b e = rw (d, b) (e ∙ sym (or-false (beyondAt p (ring p))))
 
-  pub kind-auto : (r : Bool) (k : ℕ) → k ≡ 0 → r ≡ anyBeyond p (measured zero p) → r ≡ anyBeyond p (measured k p)
-  kind-auto r k e h = h ∙ ap (λ (j : ℕ). anyBeyond p (measured j p)) (sym e)
+  pub beyond-auto : (r : Bool) (k : ℕ) → k ≡ 0 → r ≡ anyBeyond p (measured zero p) → r ≡ anyBeyond p (measured k p)
+  beyond-auto r k e h = h ∙ ap (λ (j : ℕ). anyBeyond p (measured j p)) (sym e)
 
-  pub kind-layers : (r : Bool) (k : ℕ) → k ≡ 1 → r ≡ beyondAt p (layers p) → r ≡ anyBeyond p (measured k p)
-  unfolding anyBeyond measured any
-  kind-layers r k e h = h ∙ sym (or-false (beyondAt p (layers p))) ∙ ap (λ (j : ℕ). anyBeyond p (measured j p)) (sym e)
+  pub beyond-layers : (r : Bool) (k : ℕ) → k ≡ 1 → r ≡ beyondAt p (layers p) → r ≡ anyBeyond p (measured k p)
+  unfolding anyBeyond measured anyOf
+  beyond-layers r k e h = h ∙ sym (or-false (beyondAt p (layers p))) ∙ ap (λ (j : ℕ). anyBeyond p (measured j p)) (sym e)
 
-  pub kind-ring : (r : Bool) (k : ℕ) → k ≡ 2 → r ≡ beyondAt p (ring p) → r ≡ anyBeyond p (measured k p)
-  unfolding anyBeyond measured any
-  kind-ring r k e h = h ∙ sym (or-false (beyondAt p (ring p))) ∙ ap (λ (j : ℕ). anyBeyond p (measured j p)) (sym e)
+  pub beyond-ring : (r : Bool) (k : ℕ) → k ≡ 2 → r ≡ beyondAt p (ring p) → r ≡ anyBeyond p (measured k p)
+  unfolding anyBeyond measured anyOf
+  beyond-ring r k e h = h ∙ sym (or-false (beyondAt p (ring p))) ∙ ap (λ (j : ℕ). anyBeyond p (measured j p)) (sym e)
 
   pub none-refused : (kind : ℕ) → many p ≡ 0 → false ≡ layoutBeyond kind p
   unfolding layoutBeyond
@@ -131,14 +121,14 @@ same-refused kind g h e z = ap (layoutBeyond kind) (same-plan g h e z)
 
 module _ (kind : ℕ) (g : Graph) {p : Plan} (e : p ≡ planOf g) where
   -- refused by 9: nothing is stored
-  pub plan-beyond : (xs ys : List Float) → layoutBeyond kind p ≡ true → Left (layoutRefusals kind g) kind g (Planned.Refused 9) xs ys xs ys
+  pub plan-beyond : (xs ys : List Float) → layoutBeyond kind p ≡ true → Left (measuredRefusals kind g) kind g (Planned.Refused 9) xs ys xs ys
   plan-beyond xs ys b =
-      left-refused (layoutRefusals kind g) 9 kind g xs ys
+      left-refused (measuredRefusals kind g) 9 kind g xs ys
       (λ A refuse accept. decide-first 9 (layoutBeyond kind (planOf g)) [] refuse accept (ap (layoutBeyond kind) (sym e) ∙ b))
 
   -- laid out
   pub plan-size : (n : ℕ) (s : Size) (xs ys px py xs′ ys′ : List Float) → layoutBeyond kind p ≡ false → n ≡ length (flagsOf g) → Layout.Left (layoutOf kind p) s px py
-      → xs′ ≡ put xs 0 px → ys′ ≡ put ys 0 py → Left (layoutRefusals kind g) kind g (Planned.Size n (s .width) (s .height)) xs ys xs′ ys′
+      → xs′ ≡ put xs 0 px → ys′ ≡ put ys 0 py → Left (measuredRefusals kind g) kind g (Planned.Size n (s .width) (s .height)) xs ys xs′ ys′
   unfolding decide
   plan-size n s xs ys px py xs′ ys′ b m l ex ey =
       let t : layoutBeyond kind (planOf g) ≡ false = ap (layoutBeyond kind) (sym e) ∙ b in

@@ -3,16 +3,16 @@ use mathlib.Core.Bool.{Bool, false, cond}
 use mathlib.Core.List.{List, [], _∷_}
 use Prim.Native.Nat.{ℕ, zero, suc}
 use lib.Dec.{eqb}
-use Rattle.sheet.specs.Refusals.{any}
+use Rattle.laws.specs.Any.{anyOf}
 use Rattle.beyond.specs.Beyond.{beyond}
-use Rattle.layout.specs.Layout.{Plan, many, Placing, layers, ring, frameAt, isDense}
+use Rattle.layout.specs.Layout.{Plan, many, Placing, layers, ring, planFrame, isDense}
 
 -- the drawing at these centres is refused
 abbrev pub beyondAt : Plan → Placing → Bool
-beyondAt p c = beyond (frameAt p c)
+beyondAt p c = beyond (planFrame p c)
 
 unfoldable pub anyBeyond : Plan → List Placing → Bool
-anyBeyond p cs = any (beyondAt p) cs
+anyBeyond p cs = anyOf (beyondAt p) cs
 
 -- the centres whose drawing it measures, by kind: for clutter both, where Auto has to compare; to fit it, the one chosen
 unfoldable pub measured : ℕ → Plan → List Placing

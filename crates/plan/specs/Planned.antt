@@ -17,12 +17,12 @@ use Rattle.plan.specs.declared.Planned.the-variants.{Size, Refused}
 -- ---- the order: 'Order: 11, 1, 2, 4, 3, 5, 6, .. 9'
 
 -- 'A layout is refused by 9 if any drawing it measures is.'
-abbrev pub layoutRefusals : ℕ → Graph → List Refusal
-layoutRefusals kind g = refusal 9 (layoutBeyond kind (planOf g)) ∷ []
+abbrev pub measuredRefusals : ℕ → Graph → List Refusal
+measuredRefusals kind g = refusal 9 (layoutBeyond kind (planOf g)) ∷ []
 
 -- of a sheet, by a kind that is one
 abbrev pub sheetRefusals : Limits → ℕ → List ℕ → List Refusal
-sheetRefusals m kind s = refusals m s ++ layoutRefusals kind (meaning s)
+sheetRefusals m kind s = refusals m s ++ measuredRefusals kind (meaning s)
 
 -- 'layout kind not 0 Auto, 1 Layered, 2 Circular'
 abbrev pub planRefusals : Limits → ℕ → List ℕ → List Refusal
@@ -35,8 +35,8 @@ abbrev pub laidOut : ℕ → Graph → Layout
 laidOut kind g = layoutOf kind (planOf g)
 
 -- how many states there are, width and height; or the number of the refusal
-abbrev pub answerBy : List Refusal → ℕ → Graph → Planned
-answerBy rs kind g = decide rs Refused (Size (length (g .states)) (laidOut kind g .width) (laidOut kind g .height))
+abbrev pub planAnswer : List Refusal → ℕ → Graph → Planned
+planAnswer rs kind g = decide rs Refused (Size (length (g .states)) (laidOut kind g .width) (laidOut kind g .height))
 
 -- the centres from the front on, and behind them what stood there; a refused call leaves all as before
 abbrev pub xsBy : List Refusal → ℕ → Graph → List Float → List Float
@@ -46,10 +46,10 @@ abbrev pub ysBy : List Refusal → ℕ → Graph → List Float → List Float
 ysBy rs kind g ys = decide rs (λ n. ys) (put ys 0 (laidOut kind g .ys))
 
 abbrev pub planned : Limits → ℕ → List ℕ → Planned
-planned m kind s = answerBy (planRefusals m kind s) kind (meaning s)
+planned m kind s = planAnswer (planRefusals m kind s) kind (meaning s)
 
-abbrev pub xsAfter : Limits → ℕ → List ℕ → List Float → List Float
-xsAfter m kind s xs = xsBy (planRefusals m kind s) kind (meaning s) xs
+abbrev pub xsPlanned : Limits → ℕ → List ℕ → List Float → List Float
+xsPlanned m kind s xs = xsBy (planRefusals m kind s) kind (meaning s) xs
 
-abbrev pub ysAfter : Limits → ℕ → List ℕ → List Float → List Float
-ysAfter m kind s ys = ysBy (planRefusals m kind s) kind (meaning s) ys
+abbrev pub ysPlanned : Limits → ℕ → List ℕ → List Float → List Float
+ysPlanned m kind s ys = ysBy (planRefusals m kind s) kind (meaning s) ys

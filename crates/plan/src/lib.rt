@@ -3,7 +3,6 @@ use sheet::Checked;
 ghost use mathlib.Core.Path.{_≡_};
 ghost use Prim.Native.Nat.{_≤_};
 ghost use lib.ListN.{length};
-ghost use Rattle.laws.specs.Put.{put};
 ghost use Rattle.sheet.specs.Sheet as G;
 ghost use Rattle.sheet.specs.Refusals as R;
 ghost use Rattle.sheet.specs.declared.Checked.the-variants.{Accepted};
@@ -30,8 +29,14 @@ fn layers_beyond(
     px: &mut [f64],
     py: &mut [f64],
 ) -> bool
-    requires { ⌜ C.States (now flags) (now px) (now py) × C.Arrows (now sources) (now targets) (now widths) (now heights) ⌝ }
-    ensures { λ r. ⌜ r ≡ M.beyondAt (L.planBy (now (flags .entry)) (now (sources .entry)) (now (targets .entry)) (now (widths .entry)) (now (heights .entry))) (L.layers (L.planBy (now (flags .entry)) (now (sources .entry)) (now (targets .entry)) (now (widths .entry)) (now (heights .entry)))) ⌝ }
+    requires { ⌜
+        C.StateSlices (now flags) (now px) (now py)
+        × C.ArrowSlices (now sources) (now targets) (now widths) (now heights)
+        ⌝ }
+    ensures { λ r.
+        let plan = L.planBy (now (flags .entry)) (now (sources .entry)) (now (targets .entry))
+        (now (widths .entry)) (now (heights .entry)) in
+        ⌜ r ≡ M.beyondAt plan (L.layers plan) ⌝ }
 {
     layout::layers_at(flags, sources, targets, widths, heights, px, py);
     beyond::beyond(flags, sources, targets, px, py)
@@ -47,8 +52,14 @@ fn ring_beyond(
     px: &mut [f64],
     py: &mut [f64],
 ) -> bool
-    requires { ⌜ C.States (now flags) (now px) (now py) × C.Arrows (now sources) (now targets) (now widths) (now heights) ⌝ }
-    ensures { λ r. ⌜ r ≡ M.beyondAt (L.planBy (now (flags .entry)) (now (sources .entry)) (now (targets .entry)) (now (widths .entry)) (now (heights .entry))) (L.ring (L.planBy (now (flags .entry)) (now (sources .entry)) (now (targets .entry)) (now (widths .entry)) (now (heights .entry)))) ⌝ }
+    requires { ⌜
+        C.StateSlices (now flags) (now px) (now py)
+        × C.ArrowSlices (now sources) (now targets) (now widths) (now heights)
+        ⌝ }
+    ensures { λ r.
+        let plan = L.planBy (now (flags .entry)) (now (sources .entry)) (now (targets .entry))
+        (now (widths .entry)) (now (heights .entry)) in
+        ⌜ r ≡ M.beyondAt plan (L.ring plan) ⌝ }
 {
     layout::ring_at(flags, widths, px, py);
     beyond::beyond(flags, sources, targets, px, py)
@@ -64,8 +75,14 @@ fn auto_beyond(
     px: &mut [f64],
     py: &mut [f64],
 ) -> bool
-    requires { ⌜ C.States (now flags) (now px) (now py) × C.Arrows (now sources) (now targets) (now widths) (now heights) ⌝ }
-    ensures { λ r. ⌜ r ≡ M.anyBeyond (L.planBy (now (flags .entry)) (now (sources .entry)) (now (targets .entry)) (now (widths .entry)) (now (heights .entry))) (M.measured 0 (L.planBy (now (flags .entry)) (now (sources .entry)) (now (targets .entry)) (now (widths .entry)) (now (heights .entry)))) ⌝ }
+    requires { ⌜
+        C.StateSlices (now flags) (now px) (now py)
+        × C.ArrowSlices (now sources) (now targets) (now widths) (now heights)
+        ⌝ }
+    ensures { λ r.
+        let plan = L.planBy (now (flags .entry)) (now (sources .entry)) (now (targets .entry))
+        (now (widths .entry)) (now (heights .entry)) in
+        ⌜ r ≡ M.anyBeyond plan (M.measured 0 plan) ⌝ }
 {
     if layout::dense(flags.len(), sources.len()) {
         return ring_beyond(flags, sources, targets, widths, heights, px, py);
@@ -87,8 +104,15 @@ fn kind_beyond(
     px: &mut [f64],
     py: &mut [f64],
 ) -> bool
-    requires { ⌜ (kind ≤ L.lastKind) × C.States (now flags) (now px) (now py) × C.Arrows (now sources) (now targets) (now widths) (now heights) ⌝ }
-    ensures { λ r. ⌜ r ≡ M.anyBeyond (L.planBy (now (flags .entry)) (now (sources .entry)) (now (targets .entry)) (now (widths .entry)) (now (heights .entry))) (M.measured kind (L.planBy (now (flags .entry)) (now (sources .entry)) (now (targets .entry)) (now (widths .entry)) (now (heights .entry)))) ⌝ }
+    requires { ⌜
+        (kind ≤ L.lastKind)
+        × C.StateSlices (now flags) (now px) (now py)
+        × C.ArrowSlices (now sources) (now targets) (now widths) (now heights)
+        ⌝ }
+    ensures { λ r.
+        let plan = L.planBy (now (flags .entry)) (now (sources .entry)) (now (targets .entry))
+        (now (widths .entry)) (now (heights .entry)) in
+        ⌜ r ≡ M.anyBeyond plan (M.measured kind plan) ⌝ }
 {
     match kind {
         0 => auto_beyond(flags, sources, targets, widths, heights, px, py),
@@ -98,7 +122,8 @@ fn kind_beyond(
     }
 }
 
-// Whether a drawing that the layout measures is refused; without states nothing is drawn. Nothing is said of the room for centres afterwards.
+// Whether a drawing that the layout measures is refused; without states nothing is drawn. Nothing is said of the
+// room for centres afterwards.
 pub fn layout_beyond(
     kind: u8,
     flags: &[u8],
@@ -109,8 +134,20 @@ pub fn layout_beyond(
     px: &mut [f64],
     py: &mut [f64],
 ) -> bool
-    requires { ⌜ (kind ≤ L.lastKind) × (length (now flags) ≤ 64) × (length (now px) ≡ length (now flags)) × (length (now py) ≡ length (now flags)) × (length (now sources) ≤ 256) × (length (now targets) ≡ length (now sources)) × (length (now widths) ≡ length (now sources)) × (length (now heights) ≡ length (now sources)) ⌝ }
-    ensures { λ r. ⌜ r ≡ M.layoutBeyond kind (L.planBy (now (flags .entry)) (now (sources .entry)) (now (targets .entry)) (now (widths .entry)) (now (heights .entry))) ⌝ }
+    requires { let states = length (now flags) in
+        let arrows = length (now sources) in
+        ⌜ (kind ≤ L.lastKind)
+        × (states ≤ 64)
+        × (length (now px) ≡ states)
+        × (length (now py) ≡ states)
+        × (arrows ≤ 256)
+        × (length (now targets) ≡ arrows)
+        × (length (now widths) ≡ arrows)
+        × (length (now heights) ≡ arrows) ⌝ }
+    ensures { λ r.
+        let plan = L.planBy (now (flags .entry)) (now (sources .entry)) (now (targets .entry))
+        (now (widths .entry)) (now (heights .entry)) in
+        ⌜ r ≡ M.layoutBeyond kind plan ⌝ }
 {
     if flags.len() == 0 {
         return false;
@@ -119,18 +156,6 @@ pub fn layout_beyond(
 }
 
 // ---- the call
-
-// Puts `from` at the front of `to`.
-fn copy(from: &[f64], to: &mut [f64])
-    requires { ⌜ length (now from) ≤ length (now to) ⌝ }
-    ensures { λ _. ⌜ now (to .exit) ≡ put (now (to .entry)) 0 (now (from .entry)) ⌝ }
-{
-    let mut i: usize = 0;
-    while i < from.len() {
-        to[i] = from[i];
-        i += 1;
-    }
-}
 
 // Lays out an accepted sheet; what is read of it, and its centres, in the slices lent for that.
 fn plan_read(
@@ -146,25 +171,54 @@ fn plan_read(
     xs: &mut [f64],
     ys: &mut [f64],
 ) -> Planned
-    requires { ⌜ (kind ≤ L.lastKind) × (length (now flags) ≡ length (G.statesOf (now s))) × (length (now px) ≡ length (G.statesOf (now s))) × (length (now py) ≡ length (G.statesOf (now s))) × (length (G.statesOf (now s)) ≤ 64) × (64 ≤ length (now xs)) × (64 ≤ length (now ys)) ⌝ }
-    requires { ⌜ (length (now sources) ≡ length (G.arrowsOf (now s))) × (length (now targets) ≡ length (G.arrowsOf (now s))) ⌝ }
-    requires { ⌜ (length (now widths) ≡ length (G.arrowsOf (now s))) × (length (now heights) ≡ length (G.arrowsOf (now s))) × (length (G.arrowsOf (now s)) ≤ 256) ⌝ }
-    ensures { λ r. ⌜ (r ≡ S.answerBy (S.layoutRefusals kind (G.meaning (now (s .entry)))) kind (G.meaning (now (s .entry)))) × (now (xs .exit) ≡ S.xsBy (S.layoutRefusals kind (G.meaning (now (s .entry)))) kind (G.meaning (now (s .entry))) (now (xs .entry))) × (now (ys .exit) ≡ S.ysBy (S.layoutRefusals kind (G.meaning (now (s .entry)))) kind (G.meaning (now (s .entry))) (now (ys .entry))) ⌝ }
+    requires { let states = length (G.statesOf (now s)) in
+        ⌜ (kind ≤ L.lastKind)
+        × (length (now flags) ≡ states)
+        × (length (now px) ≡ states)
+        × (length (now py) ≡ states)
+        × (states ≤ 64)
+        × (64 ≤ length (now xs))
+        × (64 ≤ length (now ys)) ⌝ }
+    requires { let arrows = length (G.arrowsOf (now s)) in
+        ⌜ (length (now sources) ≡ arrows)
+        × (length (now targets) ≡ arrows)
+        × (length (now widths) ≡ arrows)
+        × (length (now heights) ≡ arrows)
+        × (arrows ≤ 256) ⌝ }
+    ensures { λ r.
+        let graph = G.meaning (now (s .entry)) in
+        let refusals = S.measuredRefusals kind graph in
+        ⌜ (r ≡ S.planAnswer refusals kind graph)
+        × (now (xs .exit) ≡ S.xsBy refusals kind graph (now (xs .entry)))
+        × (now (ys .exit) ≡ S.ysBy refusals kind graph (now (ys .entry))) ⌝ }
 {
     graph::read(s, flags, sources, targets, widths, heights);
     if layout_beyond(kind, flags, sources, targets, widths, heights, px, py) {
         return Planned::Refused(9);
     }
     let size = layout::layout(kind, flags, sources, targets, widths, heights, px, py);
-    copy(px, xs);
-    copy(py, ys);
+    slices::copy(px, xs);
+    slices::copy(py, ys);
     Planned::Size(flags.len(), size.width, size.height)
 }
 
 // Lays out an accepted sheet of n states and m arrows.
 fn plan_sized(s: &[u8], kind: u8, n: usize, m: usize, xs: &mut [f64], ys: &mut [f64]) -> Planned
-    requires { ⌜ (kind ≤ L.lastKind) × (n ≡ length (G.statesOf (now s))) × (n ≤ 64) × (m ≡ length (G.arrowsOf (now s))) × (m ≤ 256) × (64 ≤ length (now xs)) × (64 ≤ length (now ys)) ⌝ }
-    ensures { λ r. ⌜ (r ≡ S.answerBy (S.layoutRefusals kind (G.meaning (now (s .entry)))) kind (G.meaning (now (s .entry)))) × (now (xs .exit) ≡ S.xsBy (S.layoutRefusals kind (G.meaning (now (s .entry)))) kind (G.meaning (now (s .entry))) (now (xs .entry))) × (now (ys .exit) ≡ S.ysBy (S.layoutRefusals kind (G.meaning (now (s .entry)))) kind (G.meaning (now (s .entry))) (now (ys .entry))) ⌝ }
+    requires { ⌜
+        (kind ≤ L.lastKind)
+        × (n ≡ length (G.statesOf (now s)))
+        × (n ≤ 64)
+        × (m ≡ length (G.arrowsOf (now s)))
+        × (m ≤ 256)
+        × (64 ≤ length (now xs))
+        × (64 ≤ length (now ys))
+        ⌝ }
+    ensures { λ r.
+        let graph = G.meaning (now (s .entry)) in
+        let refusals = S.measuredRefusals kind graph in
+        ⌜ (r ≡ S.planAnswer refusals kind graph)
+        × (now (xs .exit) ≡ S.xsBy refusals kind graph (now (xs .entry)))
+        × (now (ys .exit) ≡ S.ysBy refusals kind graph (now (ys .entry))) ⌝ }
 {
     let mut flags = [0u8; 64];
     let mut sources = [0usize; 256];
@@ -190,23 +244,38 @@ fn plan_sized(s: &[u8], kind: u8, n: usize, m: usize, xs: &mut [f64], ys: &mut [
 
 // Lays out an accepted sheet.
 fn plan_accepted(s: &[u8], kind: u8, xs: &mut [f64], ys: &mut [f64]) -> Planned
-    requires { ⌜ (R.checkOf R.mainScreen (now s) ≡ Accepted) × (kind ≤ L.lastKind) × (64 ≤ length (now xs)) × (64 ≤ length (now ys)) ⌝ }
-    ensures { λ r. ⌜ (r ≡ S.answerBy (S.layoutRefusals kind (G.meaning (now (s .entry)))) kind (G.meaning (now (s .entry)))) × (now (xs .exit) ≡ S.xsBy (S.layoutRefusals kind (G.meaning (now (s .entry)))) kind (G.meaning (now (s .entry))) (now (xs .entry))) × (now (ys .exit) ≡ S.ysBy (S.layoutRefusals kind (G.meaning (now (s .entry)))) kind (G.meaning (now (s .entry))) (now (ys .entry))) ⌝ }
+    requires { ⌜
+        (R.checkOf R.mainScreen (now s) ≡ Accepted)
+        × (kind ≤ L.lastKind)
+        × (64 ≤ length (now xs))
+        × (64 ≤ length (now ys))
+        ⌝ }
+    ensures { λ r.
+        let graph = G.meaning (now (s .entry)) in
+        let refusals = S.measuredRefusals kind graph in
+        ⌜ (r ≡ S.planAnswer refusals kind graph)
+        × (now (xs .exit) ≡ S.xsBy refusals kind graph (now (xs .entry)))
+        × (now (ys .exit) ≡ S.ysBy refusals kind graph (now (ys .entry))) ⌝ }
 {
     let n = meaning::state_count(s);
     let m = meaning::arrow_count(s);
     plan_sized(s, kind, n, m, xs, ys)
 }
 
-// Checks a sheet and lays it out by kind, 0 Auto, 1 Layered, 2 Circular: the centres from the front of `xs` and `ys` on, or a refusal.
+// Checks a sheet and lays it out by kind, 0 Auto, 1 Layered, 2 Circular: the centres from the front of `xs` and
+// `ys` on, or a refusal.
 pub fn plan(s: &[u8], kind: u8, xs: &mut [f64], ys: &mut [f64]) -> Planned
     requires { ⌜ (64 ≤ length (now xs)) × (64 ≤ length (now ys)) ⌝ }
-    ensures { λ r. ⌜ (r ≡ S.planned R.mainScreen kind (now (s .entry))) × (now (xs .exit) ≡ S.xsAfter R.mainScreen kind (now (s .entry)) (now (xs .entry))) × (now (ys .exit) ≡ S.ysAfter R.mainScreen kind (now (s .entry)) (now (ys .entry))) ⌝ }
+    ensures { λ r. ⌜
+        (r ≡ S.planned R.mainScreen kind (now (s .entry)))
+        × (now (xs .exit) ≡ S.xsPlanned R.mainScreen kind (now (s .entry)) (now (xs .entry)))
+        × (now (ys .exit) ≡ S.ysPlanned R.mainScreen kind (now (s .entry)) (now (ys .entry)))
+        ⌝ }
 {
     if layout::LAST_KIND < kind {
         return Planned::Refused(11);
     }
-    let c = walk::check_within(s, sheet::main_screen());
+    let c = sheet_check::check_within(s, sheet::main_screen());
     match c {
         Checked::Refused(n) => Planned::Refused(n),
         Checked::Accepted => plan_accepted(s, kind, xs, ys),

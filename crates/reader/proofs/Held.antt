@@ -50,11 +50,11 @@ bytes d = sliceVal (d .sheet .ptr) (length (d .sheet .now))
 abbrev pub Own : Lft → Reader → Fml
 Own κ d = B (κ, tt) .own d (mach d ∷ [])
 
-abbrev pub passed : Reader → List Val × (List Val × Unit {0})
-passed d = (bytes d ∷ [], (vint w64 (d .at) ∷ [], tt))
+abbrev pub readerPassed : Reader → List Val × (List Val × Unit {0})
+readerPassed d = (bytes d ∷ [], (vint w64 (d .at) ∷ [], tt))
 
 abbrev pub Fields : Lft → Reader → Fml
-Fields κ d = owns (ShrSlice (named 0) κ u8 ∷ usize ∷ []) (d .sheet, (d .at, tt)) (passed d)
+Fields κ d = owns (ShrSlice (named 0) κ u8 ∷ usize ∷ []) (d .sheet, (d .at, tt)) (readerPassed d)
 
 module _ {M : Type 1} (𝓤 : URA M) (H : Heap 𝓤) (A : Atoms 𝓤) (W : Given 𝓤 H A) (κ : Lft) (d : Reader) where
   abbrev vd : Values (D (κ, tt) .parts)

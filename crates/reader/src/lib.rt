@@ -1,5 +1,6 @@
-// A reader over the sheet, which walks one chain through the sheet's bytes: a thin layer over plain bytes and an index.
-// Each function over the struct takes it apart and calls a covered function on slice and number; each is proved by hand.
+// A reader over the sheet, which walks one chain through the sheet's bytes: a thin layer over plain bytes and an
+// index. Each function over the struct takes it apart and calls a covered function on slice and number; each is
+// proved by hand.
 ghost use mathlib.Core.Path.{_≡_};
 ghost use Prim.Native.Nat.{_<_};
 ghost use Rattle.sheet.specs.Sheet as S;
@@ -63,7 +64,11 @@ pub fn read<'a>(r: Reader<'a>) -> Record
 // The reader at the next record of the chain.
 pub fn step<'a>(r: Reader<'a>) -> Reader<'a>
     requires { ⌜ r .at < 65536 ⌝ }
-    ensures { λ q. ⌜ (q .sheet ≡ r .entry .sheet) × (q .at ≡ S.next (now (r .entry .sheet)) (r .entry .at)) × (q .at < 65536) ⌝ }
+    ensures { λ q. ⌜
+        (q .sheet ≡ r .entry .sheet)
+        × (q .at ≡ S.next (now (r .entry .sheet)) (r .entry .at))
+        × (q .at < 65536)
+        ⌝ }
 {
     let at = next_at(r.sheet, r.at);
     Reader { sheet: r.sheet, at }

@@ -11,15 +11,15 @@ use Rattle.laws.specs.Put.{put}
 use Rattle.shape.specs.declared.Curve.{Curve}
 use Rattle.shape.specs.declared.Curve.the-variants.{Line, Quad, Cubic}
 use Rattle.trace.specs.Forms.{whole-back}
-use Rattle.bow.specs.declared.Shape.{Shape}
-use Rattle.bow.specs.declared.Shape.the-variants as Shape
-use Rattle.bow.specs.declared.Routed.{Routed}
-use Rattle.spot.specs.declared.Anchor.{Anchor}
-use Rattle.spot.specs.declared.Anchor.the-variants.{Start, Middle, End}
-use Rattle.spot.specs.declared.Geometry.{Geometry}
+use Rattle.bend.specs.declared.Shape.{Shape}
+use Rattle.bend.specs.declared.Shape.the-variants as Shape
+use Rattle.bend.specs.declared.Routed.{Routed}
+use Rattle.label_spots.specs.declared.Anchor.{Anchor}
+use Rattle.label_spots.specs.declared.Anchor.the-variants.{Start, Middle, End}
+use Rattle.label_spots.specs.declared.Geometry.{Geometry}
 use Rattle.records.specs.Records.{cornersOf, curveOf, anchorNumber, anchorOf, fields, decodeGeometry, decodeRecords}
-use Rattle.records.specs.Slots.{shapedOf, shapeOf, routedFields, decodeRouted, decodeSlots}
-use Rattle.records.specs.Flats as Flats
+use Rattle.records.specs.Slots.{shapedOf, shapeOf, routedFields, decodeRouted}
+use Rattle.laws.specs.Flats as Flats
 
 -- ---- records
 
@@ -36,7 +36,7 @@ anchor-back Middle = refl
 anchor-back End = refl
 
 abbrev geometry : ℕ → Curve → Anchor → Geometry → Geometry
-geometry edge curve anchor g = record { edge = edge; curve = curve; tip = g .tip; angle = g .angle; label = g .label; anchor = anchor; bounds = g .bounds }
+geometry edge curve anchor g = record { edge = edge; curve = curve; tip = g .tip; «tip_angle» = g .«tip_angle»; label = g .label; anchor = anchor; «label_box» = g .«label_box» }
 
 pub decode-fields : (g : Geometry) → g .edge < 65536 → decodeGeometry (fields g) ≡ g
 unfolding decodeGeometry
@@ -99,17 +99,3 @@ length-routed r = refl
 -- slot k is read back
 pub slot-back : (l : List Float) (k : ℕ) (r : Routed) → 20 * k + 20 ≤ length l → decodeRouted (part 20 k (put l (20 * k) (routedFields r))) ≡ r
 slot-back l k r room = ap decodeRouted (part-new 20 (20 * k) l (routedFields r) (length-routed r) room) ∙ decode-routed r
-
--- one slot more, after n
-pub slots-push : (n : ℕ) (l : List Float) (r : Routed) → 20 * n + 20 ≤ length l → decodeSlots (n + 1) (put l (20 * n) (routedFields r)) ≡ decodeSlots n l ++ (r ∷ [])
-slots-push n l r room =
-    records-push decodeRouted 20 n l (routedFields r) (length-routed r) room
-    ∙ ap (λ (x : Routed). decodeSlots n l ++ (x ∷ [])) (decode-routed r)
-
-back-slots : (rs : List Routed) → Flats.Back routedFields 20 length-routed decodeRouted rs
-back-slots [] = tt
-back-slots (r ∷ rs) = (decode-routed r, back-slots rs)
-
--- arrows put one after another are read back
-pub decode-slots : (l : List Float) (rs : List Routed) → 20 * length rs ≤ length l → decodeSlots (length rs) (put l 0 (flatMap routedFields rs)) ≡ rs
-decode-slots l rs room = Flats.records-back routedFields 20 length-routed decodeRouted l rs room (back-slots rs)

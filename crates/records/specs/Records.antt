@@ -5,17 +5,17 @@ use mathlib.Core.List.{List, [], _∷_}
 use Prim.Native.Nat.{ℕ, _+_}
 use lib.ListN.{getD}
 use lib.Ieee.{Float, nan}
-use Rattle.laws.specs.Flat.{records}
-use Rattle.float.specs.Ops.{count, eq}
+use Rattle.laws.specs.Flat.{decodeFlat}
+use Rattle.float.specs.Ops.{ofNat, eq}
 use Rattle.float.specs.Constants.{f0, f1, f2, f3, f4}
 use Rattle.shape.specs.declared.«V».{«V»}
 use Rattle.shape.specs.declared.Curve.{Curve}
 use Rattle.shape.specs.declared.Curve.the-variants.{Line, Quad, Cubic}
 use Rattle.shape.specs.Plane.{vec, rect}
 use Rattle.trace.specs.Form.{wholeOf}
-use Rattle.spot.specs.declared.Anchor.{Anchor}
-use Rattle.spot.specs.declared.Anchor.the-variants.{Start, Middle, End}
-use Rattle.spot.specs.declared.Geometry.{Geometry}
+use Rattle.label_spots.specs.declared.Anchor.{Anchor}
+use Rattle.label_spots.specs.declared.Anchor.the-variants.{Start, Middle, End}
+use Rattle.label_spots.specs.declared.Geometry.{Geometry}
 use Rattle.records.specs.declared.Corners.{Corners}
 
 -- ---- writing
@@ -41,11 +41,11 @@ anchorNumber End = f2
 abbrev pub fields : Geometry → List Float
 fields g =
     let p = cornersOf (g .curve) in
-    count (g .edge)
+    ofNat (g .edge)
     ∷ p .n ∷ p .a .x ∷ p .a .y ∷ p .b .x ∷ p .b .y ∷ p .c .x ∷ p .c .y ∷ p .d .x ∷ p .d .y
-    ∷ g .tip .x ∷ g .tip .y ∷ g .angle
+    ∷ g .tip .x ∷ g .tip .y ∷ g .«tip_angle»
     ∷ g .label .x ∷ g .label .y ∷ anchorNumber (g .anchor)
-    ∷ g .bounds .x0 ∷ g .bounds .y0 ∷ g .bounds .x1 ∷ g .bounds .y1 ∷ []
+    ∷ g .«label_box» .x0 ∷ g .«label_box» .y0 ∷ g .«label_box» .x1 ∷ g .«label_box» .y1 ∷ []
 
 -- ---- reading
 
@@ -68,12 +68,12 @@ decodeGeometry l = record {
   edge = wholeOf (getD l 0 nan);
   curve = curveOf (cornersIn l);
   tip = pointIn l 10;
-  angle = getD l 12 nan;
+  «tip_angle» = getD l 12 nan;
   label = pointIn l 13;
   anchor = anchorOf (getD l 15 nan);
-  bounds = rect (getD l 16 nan) (getD l 17 nan) (getD l 18 nan) (getD l 19 nan);
+  «label_box» = rect (getD l 16 nan) (getD l 17 nan) (getD l 18 nan) (getD l 19 nan);
 }
 
 -- the first n records of a slice
 abbrev pub decodeRecords : ℕ → List Float → List Geometry
-decodeRecords n l = records decodeGeometry 20 n l
+decodeRecords n l = decodeFlat decodeGeometry 20 n l

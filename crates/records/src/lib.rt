@@ -1,12 +1,12 @@
 // A record of the drawing: the twenty numbers of an arrow, written into its own part of a lent slice, and read from it.
 // A slot: an arrow whose label is still to be placed, in twenty numbers too.
-use bow::Routed;
-use bow::Shape;
+use bend::Routed;
+use bend::Shape;
+use label_spots::Anchor;
+use label_spots::Geometry;
 use shape::Curve;
 use shape::Rect;
 use shape::V;
-use spot::Anchor;
-use spot::Geometry;
 ghost use mathlib.Core.Path.{_≡_};
 ghost use Prim.Native.Nat.{_+_, _*_, _≤_};
 ghost use lib.ListN.{length};
@@ -80,14 +80,14 @@ pub fn write_record(part: &mut [f64], g: Geometry)
     part[9] = p.d.y;
     part[10] = g.tip.x;
     part[11] = g.tip.y;
-    part[12] = g.angle;
+    part[12] = g.tip_angle;
     part[13] = g.label.x;
     part[14] = g.label.y;
     part[15] = k;
-    part[16] = g.bounds.x0;
-    part[17] = g.bounds.y0;
-    part[18] = g.bounds.x1;
-    part[19] = g.bounds.y1;
+    part[16] = g.label_box.x0;
+    part[17] = g.label_box.y0;
+    part[18] = g.label_box.x1;
+    part[19] = g.label_box.y1;
 }
 
 // Record k, in its own twenty numbers.
@@ -170,13 +170,13 @@ pub fn geometry_of(part: &[f64]) -> Geometry
             x: part[10],
             y: part[11],
         },
-        angle: part[12],
+        tip_angle: part[12],
         label: V {
             x: part[13],
             y: part[14],
         },
         anchor,
-        bounds: Rect {
+        label_box: Rect {
             x0: part[16],
             y0: part[17],
             x1: part[18],
@@ -197,7 +197,16 @@ pub fn geometry_at(records: &[f64], k: usize) -> Geometry
 
 // ---- slots
 
-// The kind of shape, 0 line, 1 arc, 2 loop, and its numbers, unused ones 0.
+// The sorts of arrows.
+pub const LEFT_OUT: usize = 0;
+
+pub const LOOP: usize = 1;
+
+pub const ARC: usize = 2;
+
+pub const STRAIGHT: usize = 3;
+
+// The sort as a float, LOOP, ARC or STRAIGHT, and the shape's numbers, unused ones 0.
 pub struct Shaped {
     pub kind: f64,
     pub v: V,
@@ -208,14 +217,14 @@ fn shaped_of(shape: Shape) -> Shaped
 {
     match shape {
         Shape::Line => Shaped {
-            kind: 0.0,
+            kind: 3.0,
             v: V { x: 0.0, y: 0.0 },
         },
         Shape::Arc(outer) => Shaped {
-            kind: 1.0,
+            kind: 2.0,
             v: V { x: outer, y: 0.0 },
         },
-        Shape::Loop(out) => Shaped { kind: 2.0, v: out },
+        Shape::Loop(out) => Shaped { kind: 1.0, v: out },
     }
 }
 
@@ -262,10 +271,10 @@ fn shape_of(s: Shaped) -> Shape
     ensures { λ r. ⌜ r ≡ L.shapeOf s ⌝ }
 {
     let v = s.v;
-    if s.kind == 0.0 {
+    if s.kind == 3.0 {
         return Shape::Line;
     }
-    if s.kind == 1.0 {
+    if s.kind == 2.0 {
         return Shape::Arc(v.x);
     }
     Shape::Loop(v)

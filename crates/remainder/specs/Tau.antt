@@ -19,7 +19,7 @@ use Rattle.laws.specs.Cases.{by-bool, by-lt}
 use Rattle.root.specs.Rounded.{magnitude, bits-value}
 use Rattle.root.specs.Closest.{magnitude-lt}
 use Rattle.remainder.specs.Modulo.{mod-scale}
-use Rattle.remainder.specs.Unique.{fits-sign, signed, finite-bits, size-bits, big, round-own}
+use Rattle.remainder.specs.Unique.{fits-sign, signed-bits, finite-bits, size-bits, big, round-own}
 
 -- TAU, its significand of 53 places, and the same with no zeros at its end
 abbrev pub τ : Float
@@ -103,41 +103,41 @@ less-is m e l = ap (Ieee.sub binary64 (fin false m e)) tau-is ∙ at m e l
 
 -- ---- from TAU on, by the bits
 -- the number with the bits b, in units of 2 ^ -50
-abbrev pub shifted : ℕ → ℕ
-shifted b = (2 ^ 52 + b % 2 ^ 52) * 2 ^ (b / 2 ^ 52 - 1025)
+abbrev pub shiftedBits : ℕ → ℕ
+shiftedBits b = (2 ^ 52 + b % 2 ^ 52) * 2 ^ (b / 2 ^ 52 - 1025)
 
 module _ (b : ℕ) (l : tauBits ≤ b) where
-  shifted-is : (x d : ℕ) → x * 2 ^ 1074 ≡ magnitude b * d → x * 2 ^ 50 ≡ shifted b * d
+  shifted-is : (x d : ℕ) → x * 2 ^ 1074 ≡ magnitude b * d → x * 2 ^ 50 ≡ shiftedBits b * d
   shifted-is x d e =
       let k = b / 2 ^ 52 - 1025 in
       let h : b / 2 ^ 52 ≡ suc (k + 1024) = omega arith in
       in-units x d (2 ^ 52 + b % 2 ^ 52) k (e ∙ ap (λ (n : ℕ). n * d) (big b (k + 1024) h))
 
-  rem-shifted : (x : Float) → HasValue x false (magnitude b) (2 ^ 1074) → Ieee.rem binary64 x τ ≡ round binary64 false (shifted b % significand) (2 ^ 50)
+  rem-shifted : (x : Float) → HasValue x false (magnitude b) (2 ^ 1074) → Ieee.rem binary64 x τ ≡ round binary64 false (shiftedBits b % significand) (2 ^ 50)
   rem-shifted nan h = absurd h
   rem-shifted (inf s) h = absurd h
   rem-shifted (fin true m e) h = absurd (subst T (h .0) tt)
   rem-shifted (fin false m e) h =
       rem-is false m e
-      ∙ round-same binary64 false (m * up e * 2 ^ 47 % (core * down e)) (down e * 2 ^ 47) (shifted b % significand) (2 ^ 50) (mul-pos (down-pos e) (pow-pos 47)) (pow-pos 50)
-      (remainder-is (m * up e) (down e) (shifted b) (down-pos e) (shifted-is (m * up e) (down e) (h .1)))
+      ∙ round-same binary64 false (m * up e * 2 ^ 47 % (core * down e)) (down e * 2 ^ 47) (shiftedBits b % significand) (2 ^ 50) (mul-pos (down-pos e) (pow-pos 47)) (pow-pos 50)
+      (remainder-is (m * up e) (down e) (shiftedBits b) (down-pos e) (shifted-is (m * up e) (down e) (h .1)))
 
-  pub rem-from : b < infinityBits → round binary64 false (shifted b % significand) (2 ^ 50) ≡ Ieee.rem binary64 (ofBits binary64 b) τ
+  pub rem-from : b < infinityBits → round binary64 false (shiftedBits b % significand) (2 ^ 50) ≡ Ieee.rem binary64 (ofBits binary64 b) τ
   rem-from u = sym (rem-shifted (ofBits binary64 b) (bits-value b u))
 
   -- below 2 TAU the significand goes once
-  once : b < twiceBits → (significand ≤ shifted b) × (shifted b < 2 * significand)
+  once : b < twiceBits → (significand ≤ shiftedBits b) × (shiftedBits b < 2 * significand)
   once u =
       by-lt b (1026 * 2 ^ 52)
       (λ (h : b < 1026 * 2 ^ 52). let e : b / 2 ^ 52 - 1025 ≡ 0 = omega arith in rw e (omega arith, omega arith))
       (λ (h : 1026 * 2 ^ 52 ≤ b). let e : b / 2 ^ 52 - 1025 ≡ 1 = omega arith in rw e (omega arith, omega arith))
 
-  less-shifted : b < twiceBits → (x : Float) → HasValue x false (magnitude b) (2 ^ 1074) → Ieee.sub binary64 x τ ≡ round binary64 false (shifted b % significand) (2 ^ 50)
+  less-shifted : b < twiceBits → (x : Float) → HasValue x false (magnitude b) (2 ^ 1074) → Ieee.sub binary64 x τ ≡ round binary64 false (shiftedBits b % significand) (2 ^ 50)
   less-shifted u nan h = absurd h
   less-shifted u (inf s) h = absurd h
   less-shifted u (fin true m e) h = absurd (subst T (h .0) tt)
   less-shifted u (fin false m e) h =
-      let n = shifted b in
+      let n = shiftedBits b in
       let d = down e in
       let x = m * up e in
       let o = once u in
@@ -226,7 +226,7 @@ unfolding Ieee.rem
 rem-nan = refl
 
 low-is : (s : Bool) (m : ℕ) (e : ℤ) → T (fits binary64 (fin s m e)) → toBits binary64 (fin s m e) % 2 ^ 63 ≡ toBits binary64 (fin false m e)
-low-is true m e h = omega (arith, signed m e, finite-bits m e (fits-sign true false m e h))
+low-is true m e h = omega (arith, signed-bits m e, finite-bits m e (fits-sign true false m e h))
 low-is false m e h = omega (arith, finite-bits m e h)
 
 infinite-bits : (s : Bool) → toBits binary64 (inf s) % 2 ^ 63 ≡ infinityBits

@@ -1,4 +1,8 @@
 // The remainder of an f64 by TAU, exact, as Rust's `%` and C's fmod have it, by whole numbers of 64 bits.
+use root::FRACTION;
+use root::INFINITY_BITS;
+use root::LEADING;
+use root::SIGN;
 ghost use mathlib.Core.Path.{_≡_};
 ghost use Prim.Native.Nat.{_*_, _%_, _^_, _≤_, _<_};
 ghost use lib.Ieee.{rem, binary64, ofBits};
@@ -9,12 +13,16 @@ pub const TAU: f64 = 6.283185307179586;
 
 const SIGNIFICAND: u64 = 7074237752028440;
 
-// The bits of TAU, of 2 * TAU and of infinity.
+// 2^50.
+const UNITS: f64 = 1125899906842624.0;
+
+// All bits but the sign.
+const SIZE: u64 = SIGN - 1;
+
+// The bits of TAU and of 2 * TAU.
 const TAU_BITS: u64 = 4618760256179416344;
 
 const TWICE_BITS: u64 = 4623263855806786840;
-
-const INFINITY_BITS: u64 = 9218868437227405312;
 
 // m * 2^k modulo TAU's significand, eleven places at a time.
 fn reduce(m: u64, k: u64) -> u64
@@ -38,11 +46,8 @@ fn from_tau(size: u64) -> f64
     if size < TWICE_BITS {
         return f64::from_bits(size) - TAU;
     }
-    let r = reduce(
-        4503599627370496 + (size & 4503599627370495),
-        (size >> 52) - 1025,
-    );
-    r as f64 / 1125899906842624.0
+    let r = reduce(LEADING + (size & FRACTION), (size >> 52) - 1025);
+    r as f64 / UNITS
 }
 
 // a % TAU.
@@ -53,7 +58,7 @@ pub fn rem_tau(a: f64) -> f64
         return a;
     }
     let b = f64::to_bits(a);
-    let size = b & 9223372036854775807;
+    let size = b & SIZE;
     if size < TAU_BITS {
         return a;
     }

@@ -1,4 +1,4 @@
--- One turn of each loop, and bounds.
+-- One step of each loop, and bounds.
 use mathlib.Core.Path.{_≡_, refl, sym, subst}
 use mathlib.Core.Bool.{true, false}
 use lib.Dec.{T}
@@ -7,14 +7,12 @@ use Prim.Native.Nat.{ℕ, zero, suc, _+_, _-_, _*_, _/_, _%_, _^_, _≤_, _<_}
 use native.Mathlib.Nat.{not-suc-le-zero, mul-le-mul}
 use native.Mathlib.Omega.{arith}
 use borrow.Author.Tests.{lt-ltb, le-ltb}
+use Rattle.laws.specs.Loops.{less-one}
 use Rattle.root.specs.declared.Digits.{Digits}
 use Rattle.root.specs.declared.Scaled.{Scaled}
 use Rattle.root.specs.Root.{scale, scaled, evened, wholeRoot, nearestRoot, packed, rootBits}
 use Rattle.root.specs.Nearest.{nearest-root-le}
-use Rattle.root.specs.Digits.{step, Sound, step-sound, sound-root}
-
-down : (k : ℕ) → suc k - 1 ≡ k
-down k = omega arith
+use Rattle.root.specs.Digits.{digitStep, Sound, step-sound, sound-root}
 
 pub twice-fits : (q : ℕ) → q < 2 ^ 53 → 2 * q < 2 ^ 64
 twice-fits q h = omega arith
@@ -22,9 +20,9 @@ twice-fits q h = omega arith
 pub twice-one-fits : (q : ℕ) → q < 2 ^ 53 → 2 * q + 1 < 2 ^ 64
 twice-one-fits q h = omega arith
 
-pub sound-turn : (x0 n : ℕ) (d : Digits) → 0 < n → Sound x0 n d → Sound x0 (n - 1) (step d)
-sound-turn x0 zero d h g = absurd (not-suc-le-zero h)
-sound-turn x0 (suc n) d h g = rw down (step-sound x0 n d g)
+pub sound-step : (x0 n : ℕ) (d : Digits) → 0 < n → Sound x0 n d → Sound x0 (n - 1) (digitStep d)
+sound-step x0 zero d h g = absurd (not-suc-le-zero h)
+sound-step x0 (suc n) d h g = rw less-one (step-sound x0 n d g)
 
 pub sound-end : (a n : ℕ) (d : Digits) → a < 2 ^ 54 → n ≤ 0 → Sound (a * 1024) n d → (d .q ≡ wholeRoot (a * 2 ^ 52)) × (d .q * d .q + d .r ≡ a * 2 ^ 52)
 sound-end a zero d h k g = sound-root a d h g
@@ -33,10 +31,10 @@ sound-end a (suc n) d h k g = absurd (not-suc-le-zero k)
 pub nearest-fits : (a p : ℕ) → a < 2 ^ 54 → p ≡ nearestRoot (a * 2 ^ 52) → p ≤ 2 ^ 53
 nearest-fits a p h e = rw e (nearest-root-le (a * 2 ^ 52) (omega arith))
 
-pub scale-turn : (n s e : ℕ) → 0 < n → s < 2 ^ 52 → scale (n - 1) (2 * s) (e - 1) ≡ scale n s e
+pub scale-step : (n s e : ℕ) → 0 < n → s < 2 ^ 52 → scale (n - 1) (2 * s) (e - 1) ≡ scale n s e
 unfolding scale
-scale-turn zero s e h k = absurd (not-suc-le-zero h)
-scale-turn (suc n) s e h k = rw (down, lt-ltb _ _ k)
+scale-step zero s e h k = absurd (not-suc-le-zero h)
+scale-step (suc n) s e h k = rw (less-one, lt-ltb _ _ k)
 
 pub scale-stop : (n s e : ℕ) → 2 ^ 52 ≤ s → _≡_ {A = Scaled} (record { s = s; e = e }) (scale n s e)
 unfolding scale

@@ -8,7 +8,7 @@ use lib.Dec.{eqb, ltb}
 use lib.Pow.{pow-pos}
 use borrow.Author.Tests.{eqb-true, eqb-false, ltb-true, ltb-false, ne-eqb}
 use Rattle.root.specs.Root.{rootBits}
-use Rattle.root.specs.Rounded.{magnitude, NearestRoot, square, rootDigits, rootPower, root-bits-are, root-number, number-reaches, root-nearest, root-digits, magnitude-of}
+use Rattle.root.specs.Rounded.{magnitude, NearestRoot, four-square, rootDigits, rootPower, root-bits-are, root-number, number-reaches, root-nearest, root-digits, magnitude-of}
 
 -- ---- magnitudes are in the order of their bits
 -- by the field x and the digits t
@@ -121,7 +121,7 @@ is-over : (k p M : ℕ) → 2 ^ 52 ≤ p → p ≤ 2 ^ 53 → 4 * M < (2 * p + 1
 is-over k p M l u n c h =
     over-by p (2 ^ k) (magnitude (k * 2 ^ 52 + p)) (magnitude c) (4 * M) (magnitude-of k p l u)
     (le-trans (next-up k p l u) (magnitude-le (suc (k * 2 ^ 52 + p)) c h))
-    (subst (λ (q : ℕ). 4 * M < (2 * p + 1) * (2 * p + 1) * q) (square k) n)
+    (subst (λ (q : ℕ). 4 * M < (2 * p + 1) * (2 * p + 1) * q) (four-square k) n)
 
 is-under : (k p M : ℕ) → 2 ^ 52 ≤ p → p ≤ 2 ^ 53 → (2 * p - 1) * (2 * p - 1) * 4 ^ k < 4 * M → 2 ^ 104 * 4 ^ k ≤ M → (c : ℕ) → c < k * 2 ^ 52 + p
     → (magnitude (k * 2 ^ 52 + p) + magnitude c) * (magnitude (k * 2 ^ 52 + p) + magnitude c) < 4 * M
@@ -137,12 +137,12 @@ is-under k (suc q) M l u n m c h = go (ltb q (2 ^ 52)) refl
         let e : suc q ≡ 2 ^ 52 = omega arith in
         let f : magnitude (k * 2 ^ 52 + suc q) ≡ 2 ^ 52 * 2 ^ k = magnitude-of k (suc q) l u ∙ ap (λ (n : ℕ). n * 2 ^ k) e in
         under-least (magnitude (k * 2 ^ 52 + suc q)) (magnitude c) M (magnitude-lt c (k * 2 ^ 52 + suc q) h)
-        (subst (λ (n : ℕ). n * n ≤ M) (sym f) (subst (λ (n : ℕ). n ≤ M) (ap (λ (n : ℕ). 2 ^ 104 * n) (square k) ∙ spread (2 ^ 52) (2 ^ k)) m))
+        (subst (λ (n : ℕ). n * n ≤ M) (sym f) (subst (λ (n : ℕ). n ≤ M) (ap (λ (n : ℕ). 2 ^ 104 * n) (four-square k) ∙ spread (2 ^ 52) (2 ^ k)) m))
     go false x =
         let y : 2 ^ 52 ≤ q = ltb-false q (2 ^ 52) x in
         under-by q (2 ^ k) (magnitude (k * 2 ^ 52 + suc q)) (magnitude c) (4 * M) (magnitude-of k (suc q) l u)
         (subst (λ (n : ℕ). magnitude c ≤ n) (magnitude-of k q y (omega arith)) (magnitude-le c (k * 2 ^ 52 + q) (omega arith)))
-        (subst (λ (n : ℕ). (2 * q + 1) * (2 * q + 1) * n < 4 * M) (square k) (subst (λ (n : ℕ). n * n * 4 ^ k < 4 * M) twice n))
+        (subst (λ (n : ℕ). (2 * q + 1) * (2 * q + 1) * n < 4 * M) (four-square k) (subst (λ (n : ℕ). n * n * 4 ^ k < 4 * M) twice n))
 
 -- The root's bits are those of the binary64 closest to the exact root.
 pub root-closest : (b : ℕ) → 0 < b → Closest b (rootBits b)

@@ -12,8 +12,8 @@ use Rattle.root.specs.Nearest.{whole-root-unique}
 
 -- `Digits` is the root q of the digits taken so far, the remainder r, and the digits still to come, in the top places of x.
 -- One digit: bring it down, and append 1 to the root if 4 q + 1 fits into the remainder, else 0.
-abbrev pub step : Digits → Digits
-step d =
+abbrev pub digitStep : Digits → Digits
+digitStep d =
     let down = 4 * d .r + d .x / 2 ^ 62 in
     let t = 4 * d .q + 1 in
     let rest = 4 * (d .x % 2 ^ 62) in
@@ -23,36 +23,36 @@ abbrev pub begin : ℕ → Digits
 begin x = record { q = 0; r = 0; x = x }
 
 -- with k digits to come, out of x0: what q and r are
-pub record Good (x0 k q r x : ℕ) : Type 0 where
+pub record GoodDigits (x0 k q r x : ℕ) : Type 0 where
   pub value : ((q * q + r) * 2 ^ 64 + x) * 4 ^ k ≡ x0 * 4 ^ 53
   pub small : r ≤ 2 * q
   pub room : x < 2 ^ 64
 
 abbrev pub Sound : ℕ → ℕ → Digits → Type 0
-Sound x0 k d = Good x0 k (d .q) (d .r) (d .x)
+Sound x0 k d = GoodDigits x0 k (d .q) (d .r) (d .x)
 
 four : (p k : ℕ) → 4 * p * 4 ^ k ≡ p * 4 ^ suc k
 four p k = rw (pow-suc, mul-comm 4 p, mul-assoc, mul-comm 4 (4 ^ k))
 
 -- the two outcomes of a digit
-module _ (x0 k q r x : ℕ) (g : Good x0 (suc k) q r x) where
-  one : 4 * q + 1 ≤ 4 * r + x / 2 ^ 62 → Good x0 k (2 * q + 1) (4 * r + x / 2 ^ 62 - (4 * q + 1)) (4 * (x % 2 ^ 62))
+module _ (x0 k q r x : ℕ) (g : GoodDigits x0 (suc k) q r x) where
+  one : 4 * q + 1 ≤ 4 * r + x / 2 ^ 62 → GoodDigits x0 k (2 * q + 1) (4 * r + x / 2 ^ 62 - (4 * q + 1)) (4 * (x % 2 ^ 62))
   one h =
       let e : ((2 * q + 1) * (2 * q + 1) + (4 * r + x / 2 ^ 62 - (4 * q + 1))) * 2 ^ 64 + 4 * (x % 2 ^ 62) ≡ 4 * ((q * q + r) * 2 ^ 64 + x) = omega arith in
       let s : r ≤ 2 * q = g .small in
       let w : x < 2 ^ 64 = g .room in
       record { value = ap (λ (n : ℕ). n * 4 ^ k) e ∙ four ((q * q + r) * 2 ^ 64 + x) k ∙ g .value; small = omega arith; room = omega arith }
 
-  zero-digit : 4 * r + x / 2 ^ 62 < 4 * q + 1 → Good x0 k (2 * q) (4 * r + x / 2 ^ 62) (4 * (x % 2 ^ 62))
+  zero-digit : 4 * r + x / 2 ^ 62 < 4 * q + 1 → GoodDigits x0 k (2 * q) (4 * r + x / 2 ^ 62) (4 * (x % 2 ^ 62))
   zero-digit h =
       let e : (2 * q * (2 * q) + (4 * r + x / 2 ^ 62)) * 2 ^ 64 + 4 * (x % 2 ^ 62) ≡ 4 * ((q * q + r) * 2 ^ 64 + x) = omega arith in
       let w : x < 2 ^ 64 = g .room in
       record { value = ap (λ (n : ℕ). n * 4 ^ k) e ∙ four ((q * q + r) * 2 ^ 64 + x) k ∙ g .value; small = omega arith; room = omega arith }
 
-pub step-sound : (x0 k : ℕ) (d : Digits) → Sound x0 (suc k) d → Sound x0 k (step d)
+pub step-sound : (x0 k : ℕ) (d : Digits) → Sound x0 (suc k) d → Sound x0 k (digitStep d)
 step-sound x0 k d g = go (leb (4 * d .q + 1) (4 * d .r + d .x / 2 ^ 62)) refl
   where
-    go : (b : Bool) → leb (4 * d .q + 1) (4 * d .r + d .x / 2 ^ 62) ≡ b → Sound x0 k (step d)
+    go : (b : Bool) → leb (4 * d .q + 1) (4 * d .r + d .x / 2 ^ 62) ≡ b → Sound x0 k (digitStep d)
     go true e = rw e (one x0 k (d .q) (d .r) (d .x) g (leb-true _ _ e))
     go false e = rw e (zero-digit x0 k (d .q) (d .r) (d .x) g (leb-false _ _ e))
 
@@ -90,7 +90,7 @@ too-big x0 p w s h a b c d =
     let dn : w < 2 ^ 64 * 4 ^ 53 = subst (λ (n : ℕ). n < 2 ^ 64 * 4 ^ 53) (sym d) (mul-lt-mul-of-pos-right h (pos4 53)) in
     lt-irrefl w (lt-of-lt-of-le dn up)
 
-pub root-lt : (x0 k q r x : ℕ) → Good x0 k q r x → x0 < 2 ^ 64 → q < 2 ^ 53
+pub root-lt : (x0 k q r x : ℕ) → GoodDigits x0 k q r x → x0 < 2 ^ 64 → q < 2 ^ 53
 root-lt x0 k q r x g h = go (ltb q (2 ^ 53)) refl
   where
     part : (s t y : ℕ) → s * 2 ^ 64 ≤ (s + t) * 2 ^ 64 + y

@@ -2,10 +2,10 @@
 use mathlib.Core.Path.{_≡_, refl, sym, ap, ap₂, _∙_, subst}
 use mathlib.Core.Bool.{Bool, true, false, not, _||_, cond, true≢false}
 use Prim.Native.Nat.{ℕ, zero, suc, _+_, _-_, _*_, _/_, _%_, _^_, _≤_, _<_}
-use native.Mathlib.Nat.{le-trans, le-antisymm, lt-of-le-of-lt, lt-of-lt-of-le, le-of-lt}
+use native.Mathlib.Nat.{le-trans, le-antisymm, lt-of-le-of-lt, le-of-lt}
 use native.Mathlib.Omega.{arith}
 use lib.Dec.{T, eqb, leb, ltb}
-use borrow.Author.Tests.{eqb-true, eqb-false, ltb-true, ltb-false, leb-true, leb-false, le-ltb, le-leb, lt-leb, eq-eqb, ne-eqb}
+use borrow.Author.Tests.{eqb-true, eqb-false, ltb-true, ltb-false, leb-true, leb-false, le-ltb, le-leb, eq-eqb, ne-eqb}
 use lib.Ieee.{Float, nan, inf, fin, Format, prec, emax, low, up, down, binary64, fits, isNan, ofBits, toBits, ofFields, odd, units, round, sum, add, mul, lt, le, eq, ne}
 use lib.Ieee.Exact.{HasValue}
 use lib.Ieee.Fits.{round-is, add-fits}
@@ -150,7 +150,7 @@ plain-order b c h k = go (ltb b (2047 * 2 ^ 52)) refl (ltb c (2047 * 2 ^ 52)) re
     go false x false y = subst (λ (n : ℕ). SameOrder n c) (sym (end b h x)) (subst (SameOrder (2047 * 2 ^ 52)) (sym (end c k y)) at-infinity)
 
 -- ---- the root of a plain float
--- Its bits from the float's: the bits of the nearest root, and "zero gives itself, plus infinity itself".
+-- Its bits from the float's: the bits of the nearest root, and "Zero gives itself, plus infinity itself".
 unfoldable pub rootPlain : ℕ → ℕ
 rootPlain b = let r = rootBits b in cond (eqb b 0) 0 (cond (eqb b (2047 * 2 ^ 52)) (2047 * 2 ^ 52) r)
 
@@ -208,7 +208,7 @@ plain-itself (inf false) p = refl
 plain-itself (fin true m e) p = absurd (true≢false (sym (p .clear)))
 plain-itself (fin false m e) p = let a = m * up e * down e in rw (eq-eqb a a refl)
 
-value-plain : (x : Float) (a n : ℕ) → HasValue x false a n → plain x ≡ true
+pub value-plain : (x : Float) (a n : ℕ) → HasValue x false a n → plain x ≡ true
 value-plain nan a n h = absurd h
 value-plain (inf s) a n h = absurd h
 value-plain (fin s m e) a n h = ap not (h .0)
@@ -220,50 +220,24 @@ bits-plain b h = record { held = ofBits-fits binary64 b; clear = go (ltb b (2047
     go true e = let l : b < 2047 * 2 ^ 52 = ltb-true b (2047 * 2 ^ 52) e in value-plain (ofBits binary64 b) (magnitude b) (2 ^ 1074) (bits-value b l)
     go false e = ap plain (ap (ofBits binary64) (le-antisymm h (ltb-false b (2047 * 2 ^ 52) e)) ∙ infinite)
 
--- of two plain floats either is plain
-pub either-plain : (b : Bool) (x y : Float) → Plain x → Plain y → Plain (cond b x y)
-either-plain true x y p q = p
-either-plain false x y p q = q
-
 -- what a root is over plain floats
 pub record IsRoot (root : Float → Float) : Type 0 where
   pub at : (b : ℕ) → b ≤ 2047 * 2 ^ 52 → root (ofBits binary64 b) ≡ ofBits binary64 (rootPlain b)
 
 -- s is the first number whose root is t or more
-pub record First (s t : ℕ) : Type 0 where
+pub record FirstRoot (s t : ℕ) : Type 0 where
   pub some : 0 < s
   pub number : s ≤ 2047 * 2 ^ 52
   pub bound : t ≤ 2047 * 2 ^ 52
   pub before : rootPlain (s - 1) < t
   pub from : t ≤ rootPlain s
 
--- s is the last number whose root is t or less
-pub record Last (s t : ℕ) : Type 0 where
-  pub number : s < 2047 * 2 ^ 52
-  pub bound : t ≤ 2047 * 2 ^ 52
-  pub to : rootPlain s ≤ t
-  pub after : t < rootPlain (s + 1)
-
-module _ (s t : ℕ) (f : First s t) (b : ℕ) (h : b ≤ 2047 * 2 ^ 52) where
+module _ (s t : ℕ) (f : FirstRoot s t) (b : ℕ) (h : b ≤ 2047 * 2 ^ 52) where
   first-under : b < s → rootPlain b < t
   first-under l = lt-of-le-of-lt (root-plain-monotone b (s - 1) (omega arith) (omega (arith, f .number))) (f .before)
 
   first-over : s ≤ b → t ≤ rootPlain b
   first-over l = le-trans (f .from) (root-plain-monotone s b l h)
-
-module _ (s t : ℕ) (f : Last s t) (b : ℕ) (h : b ≤ 2047 * 2 ^ 52) where
-  last-under : b ≤ s → rootPlain b ≤ t
-  last-under l = le-trans (root-plain-monotone b s l (le-of-lt (f .number))) (f .to)
-
-  last-over : s < b → t < rootPlain b
-  last-over l = lt-of-lt-of-le (f .after) (root-plain-monotone (s + 1) b (omega arith) h)
-
-leb-same : (x y a b : ℕ) → (a ≤ b → x ≤ y) → (b < a → y < x) → leb x y ≡ leb a b
-leb-same x y a b f g = go (leb a b) refl
-  where
-    go : (t : Bool) → leb a b ≡ t → leb x y ≡ leb a b
-    go true e = le-leb x y (f (leb-true a b e)) ∙ sym e
-    go false e = lt-leb x y (g (leb-false a b e)) ∙ sym e
 
 -- the bits of a plain float, the order by them, and the root by them
 abbrev bits : Float → ℕ
@@ -338,34 +312,10 @@ module _ (root : Float → Float) (is : IsRoot root) where
     against : t ≤ 2047 * 2 ^ 52 → SameOrder (rootPlain (bits x)) t × SameOrder t (rootPlain (bits x))
     against k = (plain-order (rootPlain (bits x)) t (root-plain-under (bits x) (bits-low x p)) k, plain-order t (rootPlain (bits x)) k (root-plain-under (bits x) (bits-low x p)))
 
-    pub root-lt-first : First s t → lt (root x) (ofBits binary64 t) ≡ lt x (ofBits binary64 s)
+    pub root-lt-first : FirstRoot s t → lt (root x) (ofBits binary64 t) ≡ lt x (ofBits binary64 s)
     root-lt-first f =
         ap (λ (v : Float). lt v (ofBits binary64 t)) (root-of x p)
         ∙ against (f .bound) .0 .less
         ∙ ltb-same (rootPlain (bits x)) t (bits x) s (first-under s t f (bits x) (bits-low x p)) (first-over s t f (bits x) (bits-low x p))
         ∙ sym (plain-order (bits x) s (bits-low x p) (f .number) .less)
         ∙ ap (λ (v : Float). lt v (ofBits binary64 s)) (sym (back x p))
-
-    pub first-le-root : First s t → le (ofBits binary64 t) (root x) ≡ le (ofBits binary64 s) x
-    first-le-root f =
-        ap (le (ofBits binary64 t)) (root-of x p)
-        ∙ against (f .bound) .1 .at-most
-        ∙ leb-same t (rootPlain (bits x)) s (bits x) (first-over s t f (bits x) (bits-low x p)) (first-under s t f (bits x) (bits-low x p))
-        ∙ sym (plain-order s (bits x) (f .number) (bits-low x p) .at-most)
-        ∙ ap (le (ofBits binary64 s)) (sym (back x p))
-
-    pub root-le-last : Last s t → le (root x) (ofBits binary64 t) ≡ le x (ofBits binary64 s)
-    root-le-last f =
-        ap (λ (v : Float). le v (ofBits binary64 t)) (root-of x p)
-        ∙ against (f .bound) .0 .at-most
-        ∙ leb-same (rootPlain (bits x)) t (bits x) s (last-under s t f (bits x) (bits-low x p)) (last-over s t f (bits x) (bits-low x p))
-        ∙ sym (plain-order (bits x) s (bits-low x p) (le-of-lt (f .number)) .at-most)
-        ∙ ap (λ (v : Float). le v (ofBits binary64 s)) (sym (back x p))
-
-    pub last-lt-root : Last s t → lt (ofBits binary64 t) (root x) ≡ lt (ofBits binary64 s) x
-    last-lt-root f =
-        ap (lt (ofBits binary64 t)) (root-of x p)
-        ∙ against (f .bound) .1 .less
-        ∙ ltb-same t (rootPlain (bits x)) s (bits x) (last-over s t f (bits x) (bits-low x p)) (last-under s t f (bits x) (bits-low x p))
-        ∙ sym (plain-order s (bits x) (le-of-lt (f .number)) (bits-low x p) .less)
-        ∙ ap (lt (ofBits binary64 s)) (sym (back x p))

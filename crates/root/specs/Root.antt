@@ -10,13 +10,13 @@ abbrev pub withDigit : ℕ → ℕ → ℕ → ℕ
 withDigit n k q = cond (leb ((q + 2 ^ k) * (q + 2 ^ k)) n) (q + 2 ^ k) q
 
 -- q, with each of the k lowest binary digits tried, the highest first
-unfoldable pub digits : ℕ → ℕ → ℕ → ℕ
-digits n zero q = q
-digits n (suc k) q = digits n k (withDigit n k q)
+unfoldable pub tryDigits : ℕ → ℕ → ℕ → ℕ
+tryDigits n zero q = q
+tryDigits n (suc k) q = tryDigits n k (withDigit n k q)
 
 -- The whole root: the largest q with q * q ≤ n, for n below 2 ^ 106 (`whole-root` of Nearest).
 unfoldable pub wholeRoot : ℕ → ℕ
-wholeRoot n = digits n 53 0
+wholeRoot n = tryDigits n 53 0
 
 -- The whole number nearest to the exact root: up where q + 1/2 is at most that root. There is no tie: the odd square (2 q + 1) * (2 q + 1) is never 4 n (`no-tie` of Nearest).
 unfoldable pub nearestRoot : ℕ → ℕ

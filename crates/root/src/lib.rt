@@ -3,7 +3,36 @@ ghost use mathlib.Core.Path.{_≡_};
 ghost use mathlib.Core.Bool.{true};
 ghost use Prim.Native.Nat.{_+_, _*_, _^_, _≤_, _<_};
 ghost use Rattle.root.specs.Root.{wholeRoot, nearestRoot, scale, scaled, evened, rootBits};
-ghost use Rattle.root.specs.Digits.{step};
+ghost use Rattle.root.specs.Digits.{digitStep};
+
+// An f64 by its bits: the sign, eleven places of the exponent, and 52 of the fraction. A normal number has a leading 1
+// above them that is not stored.
+pub const SIGN: u64 = 0x8000_0000_0000_0000;
+
+pub const LEADING: u64 = 0x0010_0000_0000_0000;
+
+pub const FRACTION: u64 = LEADING - 1;
+
+pub const ONE_BITS: u64 = 0x3ff0_0000_0000_0000;
+
+pub const INFINITY_BITS: u64 = 0x7ff0_0000_0000_0000;
+
+// A digit is the upper two of 64 places: 2^62 divides them off.
+const DIGIT: u64 = 0x4000_0000_0000_0000;
+
+// 2^26 parts a significand of 53 places into halves; LOW keeps the lower.
+const HALF: u64 = 0x0400_0000;
+
+const LOW: u64 = HALF - 1;
+
+// 2^37: no right guess leaves as much, and what is below it fits 64 bits when it is shifted by 26 places.
+const FAR: u64 = 0x0020_0000_0000;
+
+// INVERSE less half the bits of x are about the bits of 1 / root(x): the exponent is halved and negated, and the fraction is a first guess.
+const INVERSE: u64 = 0x5fe6_eb50_c7b5_37a9;
+
+// 2^27 + 1: with t = g * SPLITTER, t - (t - g) is the upper half of g's 53 places.
+const SPLITTER: f64 = 134217729.0;
 
 // The root of the digits taken so far, the remainder, and the digits to come.
 pub struct Digits {
@@ -21,11 +50,11 @@ pub struct Scaled {
 // Takes one digit.
 fn digit(d: Digits) -> Digits
     requires { ⌜ (d .q < 2 ^ 53) × (d .r ≤ 2 * d .q) ⌝ }
-    ensures { λ r. ⌜ r ≡ step d ⌝ }
+    ensures { λ r. ⌜ r ≡ digitStep d ⌝ }
 {
-    let down = 4 * d.r + d.x / 4611686018427387904;
+    let down = 4 * d.r + d.x / DIGIT;
     let t = 4 * d.q + 1;
-    let rest = 4 * (d.x % 4611686018427387904);
+    let rest = 4 * (d.x % DIGIT);
     if t <= down {
         return Digits {
             q: 2 * d.q + 1,
@@ -40,7 +69,8 @@ fn digit(d: Digits) -> Digits
     }
 }
 
-// The whole root of a * 2^52, and its remainder.
+// The whole root of a * 2^52, and its remainder: a's 54 places stand in the upper of 64, and two go into each of 53
+// digits, zeros after the last.
 fn whole_root(a: u64) -> Digits
     requires { ⌜ a < 2 ^ 54 ⌝ }
     ensures { λ r. ⌜ (r .q ≡ wholeRoot (a * 2 ^ 52)) × (r .q * r .q + r .r ≡ a * 2 ^ 52) ⌝ }
@@ -58,7 +88,8 @@ fn whole_root(a: u64) -> Digits
     d
 }
 
-// The significand shifted up to 2^52 or more, 52 places at the most.
+// The significand shifted up to 2^52 or more, 52 places at the most. Exponents count from 64 more than the field has, so
+// that they stay above zero.
 fn scale_up(s0: u64, e0: u64) -> Scaled
     requires { ⌜ (s0 < 2 ^ 53) × (e0 ≡ 65) ⌝ }
     ensures { λ r. ⌜ (r ≡ scale 52 s0 e0) × (r .s < 2 ^ 53) × (r .e ≤ 65) ⌝ }
@@ -67,7 +98,7 @@ fn scale_up(s0: u64, e0: u64) -> Scaled
     let mut e = e0;
     let mut left: u64 = 52;
     while 0 < left {
-        if 4503599627370496 <= s {
+        if LEADING <= s {
             return Scaled { s: s, e: e };
         }
         s = 2 * s;
@@ -83,12 +114,12 @@ fn split(b: u64) -> Scaled
     ensures { λ r. ⌜ (r ≡ scaled b) × (r .s < 2 ^ 53) × (r .e < 2111) ⌝ }
 {
     let field = b >> 52;
-    let low = b & 4503599627370495;
+    let low = b & FRACTION;
     if field == 0 {
         return scale_up(low, 65);
     }
     Scaled {
-        s: 4503599627370496 + low,
+        s: LEADING + low,
         e: field + 64,
     }
 }
@@ -123,7 +154,7 @@ fn near_root(x: f64, y: f64) -> f64 {
     let c2 = 1.5 - g2 * h2;
     let g = g2 * c2;
     let h = h2 * c2;
-    let t = g * 134217729.0;
+    let t = g * SPLITTER;
     let top = t - (t - g);
     let low = g - top;
     let rest = ((x - top * top) - 2.0 * top * low) - low * low;
@@ -136,12 +167,12 @@ fn guess(b: u64) -> u64
     ensures { λ r. ⌜ r < 2 ^ 53 ⌝ }
 {
     let x = f64::from_bits(b);
-    let y = f64::from_bits(6910469410427058089 - (b >> 1));
+    let y = f64::from_bits(INVERSE - (b >> 1));
     let g = near_root(x, y);
     if g != g {
         return 0;
     }
-    (f64::to_bits(g) & 4503599627370495) + 4503599627370496
+    (f64::to_bits(g) & FRACTION) + LEADING
 }
 
 // Whether p is seen to be the whole number nearest to the root of a * 2^52. With a * 2^52 for n, n + p - p * p is then from 1 to 2 * p;
@@ -151,25 +182,25 @@ fn is_nearest(a: u64, p: u64) -> bool
     ensures { λ r. ⌜ (r ≡ true → p ≡ nearestRoot (a * 2 ^ 52)) ⌝ }
 {
     let h = p >> 26;
-    let l = p & 67108863;
+    let l = p & LOW;
     let hh = h * h;
     if a < hh {
         return false;
     }
     let d = a - hh;
-    if 137438953472 <= d {
+    if FAR <= d {
         return false;
     }
-    let m = d * 67108864 + h;
+    let m = d * HALF + h;
     let hl = 2 * h * l;
     if m < hl {
         return false;
     }
     let y = m - hl;
-    if 137438953472 <= y {
+    if FAR <= y {
         return false;
     }
-    let z = y * 67108864 + l;
+    let z = y * HALF + l;
     let ll = l * l;
     if z <= ll {
         return false;
@@ -182,7 +213,7 @@ fn unit_bits(c: Scaled) -> u64
     requires { ⌜ c .s < 2 ^ 53 ⌝ }
     ensures { λ r. ⌜ r < 2047 * 2 ^ 52 ⌝ }
 {
-    c.s + 4607182418800017408 - c.e % 2 * 4503599627370496
+    c.s + ONE_BITS - c.e % 2 * LEADING
 }
 
 // The significand of the root: a guess where it is seen to be right, else digit by digit.
@@ -199,11 +230,13 @@ fn nearest(c: Scaled) -> u64
 }
 
 // The bits of the f64 nearest to the exact square root of the one with the bits b, which is finite and above zero.
+// Half the exponent and the bias 1023, less the 64 that exponents count from, make 959; the leading 1 of p adds one
+// to the field.
 pub fn root_bits(b: u64) -> u64
     requires { ⌜ (0 < b) × (b < 2047 * 2 ^ 52) ⌝ }
     ensures { λ r. ⌜ (r ≡ rootBits b) × (r < 2047 * 2 ^ 52) ⌝ }
 {
     let c = split(b);
     let p = nearest(c);
-    ((c.e + 959) / 2 - 1) * 4503599627370496 + p
+    ((c.e + 959) / 2 - 1) * LEADING + p
 }

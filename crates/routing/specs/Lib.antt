@@ -1,12 +1,3 @@
 pub mod Routing
-pub mod Lists
-pub mod Numbers
-pub mod Passes
-pub mod Order
-pub mod Slots
-pub mod Demand
-pub mod Turns
-pub mod Rim
 pub mod Sheets
-pub mod Frames
-pub mod Decoded
+pub mod Worked

@@ -5,10 +5,10 @@ use Prim.Native.Nat.{ℕ, suc, _-_}
 use lib.Dec.{eqb}
 use lib.ListN.{length, getD}
 use lib.Ieee.{Float}
-use Rattle.laws.specs.Filter.{filter}
-use Rattle.laws.specs.Zip.{zip}
+use Rattle.laws.specs.Filter.{filterBy}
+use Rattle.laws.specs.Zip.{zipBy}
 use Rattle.laws.specs.Run as Run
-use Rattle.float.specs.Constants.{f0, f22, f28, π}
+use Rattle.float.specs.Constants.{f0, nodeRadius, startArrowLength, π}
 use Rattle.shape.specs.declared.«V».{«V»}
 use Rattle.shape.specs.declared.Curve.{Curve}
 use Rattle.shape.specs.declared.Curve.the-variants.{Line}
@@ -17,18 +17,18 @@ use Rattle.shape.specs.Curves.{start, end}
 use Rattle.trace.specs.Traces.{Trace, nobody, arrow, traceOf}
 use Rattle.shape.specs.Centres.{centre}
 use Rattle.sheet.specs.Meaning.{isStart, endsBelow}
-use Rattle.bow.specs.declared.Routed.{Routed}
-use Rattle.bow.specs.declared.Shape.{Shape}
-use Rattle.bow.specs.declared.Shape.the-variants as Shape
-use Rattle.bow.specs.Bend.{leads}
-use Rattle.bow.specs.Between.{between}
-use Rattle.spot.specs.declared.Turn.{Turn}
-use Rattle.spot.specs.declared.Geometry.{Geometry}
-use Rattle.spot.specs.Spots.{labelSpots}
-use Rattle.place.specs.Scene.{Scene, sceneOf, withBox, withTrace, boxCost}
-use Rattle.place.specs.Turn as Place
-use Rattle.looped.specs.Looped.{Loop, loopOf, loopDrawn, traceBy, directionCost}
-use Rattle.looped.specs.Looped as Looped
+use Rattle.bend.specs.declared.Routed.{Routed}
+use Rattle.bend.specs.declared.Shape.{Shape}
+use Rattle.bend.specs.declared.Shape.the-variants as Shape
+use Rattle.bend.specs.Bend.{leads}
+use Rattle.bend.specs.Between.{between}
+use Rattle.label_spots.specs.declared.Turn.{Turn}
+use Rattle.label_spots.specs.declared.Geometry.{Geometry}
+use Rattle.label_spots.specs.Spots.{labelSpots}
+use Rattle.scene.specs.Scene.{Scene, sceneOf, withBox, withTrace, boxCost}
+use Rattle.scene.specs.Turn as Place
+use Rattle.self_loop.specs.Looped.{Loop, loopOf, loopDrawn, traceBy, directionCost}
+use Rattle.self_loop.specs.Looped as Looped
 
 -- ---- what is routed: no label enters the frame
 
@@ -47,8 +47,8 @@ pub record Size : Type 0 where
   pub width : Float
   pub height : Float
 
-abbrev pub none : Size
-none = record { width = f0; height = f0 }
+abbrev pub noSize : Size
+noSize = record { width = f0; height = f0 }
 
 -- ---- arrows by their numbers
 
@@ -63,22 +63,33 @@ numberedFrom k (e ∷ es) = record { edge = k; ends = e } ∷ numberedFrom (suc 
 abbrev pub numbered : Frame → List Numbered
 numbered f = numberedFrom 0 (f .arrows)
 
+abbrev pub numberedBy : ℕ → Ends → Numbered
+numberedBy k e = record { edge = k; ends = e }
+
+-- past the last arrow
+abbrev pub noEnds : Ends
+noEnds = record { source = 0; target = 0 }
+
+-- arrow k
+abbrev pub numberedAt : Frame → ℕ → Numbered
+numberedAt f k = numberedBy k (getD (f .arrows) k noEnds)
+
 -- "An arrow with an end not below the number of states is accepted and left out of the records"
-abbrev pub isKept : Frame → Numbered → Bool
-isKept f a = endsBelow (length (f .flags)) (a .ends .source) (a .ends .target)
+abbrev pub isKeptIn : Frame → Numbered → Bool
+isKeptIn f a = endsBelow (length (f .flags)) (a .ends .source) (a .ends .target)
 
 -- "A loop's ends are the same state"
 abbrev pub isLoop : Numbered → Bool
 isLoop a = eqb (a .ends .source) (a .ends .target)
 
 unfoldable pub kept : Frame → List Numbered
-kept f = filter (isKept f) (numbered f)
+kept f = filterBy (isKeptIn f) (numbered f)
 
 abbrev pub loops : Frame → List Numbered
-loops f = filter isLoop (kept f)
+loops f = filterBy isLoop (kept f)
 
 abbrev pub crossing : Frame → List Numbered
-crossing f = filter (λ a. not (isLoop a)) (kept f)
+crossing f = filterBy (λ a. not (isLoop a)) (kept f)
 
 -- ---- arrows between different states
 
@@ -103,7 +114,7 @@ routes f = map (routeOf f) (crossing f)
 
 -- the start arrow ends on the rim, from the left, 28 long
 abbrev pub startCurve : «V» → Curve
-startCurve c = let tip = sub c (vec f22 f0) in Line (sub tip (vec f28 f0)) tip
+startCurve c = let tip = sub c (vec nodeRadius f0) in Line (sub tip (vec startArrowLength f0)) tip
 
 abbrev pub startTraces : List ℕ → List «V» → List Trace
 startTraces [] cs = []
@@ -150,14 +161,26 @@ isArc r = arcShape (r .routed .shape)
 
 -- loops, then arcs, then straight arrows, each in arrow order
 unfoldable pub order : Frame → List Item
-order f = map loop (loops f) ++ map label (filter isArc (routes f)) ++ map label (filter (λ r. not (isArc r)) (routes f))
+order f = map loop (loops f) ++ map label (filterBy isArc (routes f)) ++ map label (filterBy (λ r. not (isArc r)) (routes f))
+
+-- the turn of a kept arrow
+abbrev pub itemFor : Frame → Numbered → Item
+itemFor f a = cond (isLoop a) (loop a) (label (routeOf f a))
+
+-- whether a turn is arrow k's
+abbrev pub isTurn : ℕ → Item → Bool
+isTurn k i = eqb (edgeOf i) k
+
+-- past the last turn
+abbrev pub noItem : Item
+noItem = loop (numberedBy 0 noEnds)
 
 pub record Step : Type 0 where
   pub item : Item
   pub size : Size
 
 abbrev pub stepOf : List Size → Item → Step
-stepOf sizes i = record { item = i; size = getD sizes (edgeOf i) none }
+stepOf sizes i = record { item = i; size = getD sizes (edgeOf i) noSize }
 
 -- "Each arrow of the records has one turn"
 abbrev pub steps : Frame → List Size → List Step
@@ -177,25 +200,25 @@ labelTurn r size = turnOf (r .from .edge) (r .routed) size
 
 -- "Listed are the places named above, in that order; for a loop, the directions of `self_loop` in its order": how many
 abbrev pub listedBy : Frame → Item → ℕ
-listedBy f (loop a) = Looped.listed (loopTurn f a none)
+listedBy f (loop a) = Looped.directionCount (loopTurn f a noSize)
 listedBy f (label r) = length (labelSpots (r .routed .curve) (r .routed .shape))
 
 -- place or direction j of a turn, drawn
 abbrev pub drawnBy : Frame → Item → Size → ℕ → Geometry
 drawnBy f (loop a) size j = let l = loopTurn f a size in loopDrawn l (Looped.direction l j)
-drawnBy f (label r) size j = Place.drawnAt (labelTurn r size) j
+drawnBy f (label r) size j = Place.labelledAt (labelTurn r size) j
 
 -- ---- full costs
 
 -- "for a loop, what `self_loop` adds too": `directionCost` of Looped
 abbrev pub costBy : Frame → Scene → Item → Size → ℕ → ℕ
 costBy f s (loop a) size j = directionCost s (loopTurn f a size) j
-costBy f s (label r) size j = boxCost s (r .from .edge) (drawnBy f (label r) size j .bounds)
+costBy f s (label r) size j = boxCost s (r .from .edge) (drawnBy f (label r) size j .«label_box»)
 
 -- "what `geometry` adds before the next turn goes into the scene"
 abbrev pub afterBy : Scene → Item → Geometry → Scene
-afterBy s (loop a) g = withBox (withTrace s (traceBy g)) (g .bounds)
-afterBy s (label r) g = withBox s (g .bounds)
+afterBy s (loop a) g = withBox (withTrace s (traceBy g)) (g .«label_box»)
+afterBy s (label r) g = withBox s (g .«label_box»)
 
 -- ---- the run
 
@@ -210,24 +233,24 @@ cost f s t j = costBy f s (t .item) (t .size) j
 abbrev pub drawnStep : Frame → Step → ℕ → Geometry
 drawnStep f t j = drawnBy f (t .item) (t .size) j
 
-abbrev pub after : Frame → Scene → Step → ℕ → Scene
-after f s t j = afterBy s (t .item) (drawnStep f t j)
+abbrev pub sceneAfter : Frame → Scene → Step → ℕ → Scene
+sceneAfter f s t j = afterBy s (t .item) (drawnStep f t j)
 
 -- the places taken, turn by turn: "The first that no other undercuts is taken"
-abbrev pub taken : Frame → List Size → List ℕ
-taken f sizes = Run.run (more f) (cost f) (after f) (firstScene f) (steps f sizes)
+abbrev pub placesTaken : Frame → List Size → List ℕ
+placesTaken f sizes = Run.run (more f) (cost f) (sceneAfter f) (firstScene f) (steps f sizes)
 
 -- the scene at turn k
 abbrev pub sceneAt : Frame → List Size → ℕ → Scene
-sceneAt f sizes k = Run.scene (more f) (cost f) (after f) (firstScene f) (steps f sizes) k
+sceneAt f sizes k = Run.runScene (more f) (cost f) (sceneAfter f) (firstScene f) (steps f sizes) k
 
 -- what is drawn, in the order of the turns
 unfoldable pub drawing : Frame → List Size → List Geometry
-drawing f sizes = zip (drawnStep f) (steps f sizes) (taken f sizes)
+drawing f sizes = zipBy (drawnStep f) (steps f sizes) (placesTaken f sizes)
 
 -- the drawing of an arrow
 abbrev pub drawnFor : List Geometry → Numbered → List Geometry
-drawnFor gs a = filter (λ g. eqb (g .edge) (a .edge)) gs
+drawnFor gs a = filterBy (λ g. eqb (g .edge) (a .edge)) gs
 
 -- the records, in arrow order; a left-out arrow has none
 unfoldable pub records : Frame → List Size → List Geometry

@@ -1,1 +1,1 @@
-// No code: routing as document 01's plain run, and what holds of it, in specs/.
+// No code: routing as document 01's plain run, in specs/.

@@ -10,8 +10,8 @@ use Rattle.shape.specs.declared.Clip.{Clip}
 use Rattle.shape.specs.Plane.{sub, spanning, touches}
 
 -- what is left of the segment: its parameters from low to high, or nothing
-abbrev pub kept : Float → Float → Clip
-kept low high = record { enter = low; leave = high; ok = true }
+abbrev pub keptPart : Float → Float → Clip
+keptPart low high = record { enter = low; leave = high; ok = true }
 
 abbrev pub nothing : Clip
 nothing = record { enter = f0; leave = f0; ok = false }
@@ -25,23 +25,23 @@ unfoldable pub test : Float → Float → Float → Float → Clip
 test p q low high =
     let r = q ⊘ p in
     cond (lt p f0)
-    (cond (lt high r) nothing (cond (lt low r) (kept r high) (kept low high)))
+    (cond (lt high r) nothing (cond (lt low r) (keptPart r high) (keptPart low high)))
     (cond (lt f0 p)
-    (cond (lt r low) nothing (cond (lt r high) (kept low r) (kept low high)))
-    (cond (eq p f0 && lt q f0) nothing (kept low high)))
+    (cond (lt r low) nothing (cond (lt r high) (keptPart low r) (keptPart low high)))
+    (cond (eq p f0 && lt q f0) nothing (keptPart low high)))
 
 -- once nothing is left, no more sides are tested
 unfoldable pub side : Float → Float → Clip → Clip
 side p q c = cond (c .ok) (test p q (c .enter) (c .leave)) c
 
--- the four sides in turn, left, right, y0 and y1; d leads from the start of the segment to its end
+-- the four sides in turn, left, right, top and bottom, where y points down; d leads from the start of the segment to its end
 unfoldable pub meets : «V» → «V» → Rect → Bool
 meets from d r =
-    let left = side (neg (d .x)) (from .x ⊖ r .x0) (kept f0 f1) in
+    let left = side (neg (d .x)) (from .x ⊖ r .x0) (keptPart f0 f1) in
     let right = side (d .x) (r .x1 ⊖ from .x) left in
-    let bottom = side (neg (d .y)) (from .y ⊖ r .y0) right in
-    let top = side (d .y) (r .y1 ⊖ from .y) bottom in
-    top .ok
+    let top = side (neg (d .y)) (from .y ⊖ r .y0) right in
+    let bottom = side (d .y) (r .y1 ⊖ from .y) top in
+    bottom .ok
 
 -- The box around the segment is tested first. A segment that touches the box hits it.
 unfoldable pub segmentHitsRect : «V» → «V» → Rect → Bool

@@ -1,8 +1,8 @@
 -- Points and boxes: "Points and boxes are passed by value, each as named f64 fields." Each operation rounds once, in the order written.
 use mathlib.Core.Bool.{Bool, cond, _&&_}
 use lib.Ieee.{Float}
-use Rattle.float.specs.Ops.{_⊕_, _⊖_, _⊗_, _⊘_, lt, le, neg as minus}
-use Rattle.float.specs.Constants.{f0, f1e-9}
+use Rattle.float.specs.Ops.{_⊕_, _⊖_, _⊗_, _⊘_, lt, le, ne, neg as minus}
+use Rattle.float.specs.Constants.{f0, eps, infinity}
 use Rattle.float.specs.Standins.{min, max, hypot, sin, cos, atan2}
 use Rattle.shape.specs.declared.«V».{«V»}
 use Rattle.shape.specs.declared.Rect.{Rect}
@@ -18,8 +18,8 @@ add a b = vec (a .x ⊕ b .x) (a .y ⊕ b .y)
 abbrev pub sub : «V» → «V» → «V»
 sub a b = vec (a .x ⊖ b .x) (a .y ⊖ b .y)
 
-abbrev pub neg : «V» → «V»
-neg a = vec (minus (a .x)) (minus (a .y))
+abbrev pub negV : «V» → «V»
+negV a = vec (minus (a .x)) (minus (a .y))
 
 abbrev pub mul : «V» → Float → «V»
 mul a k = vec (a .x ⊗ k) (a .y ⊗ k)
@@ -40,9 +40,9 @@ len a = hypot (a .x) (a .y)
 abbrev pub angle : «V» → Float
 angle a = atan2 (a .y) (a .x)
 
--- the unit vector in this direction; where its length is not above 1e-9 a vector has none, and the fallback is taken
+-- the unit vector in this direction; where its length is not above eps a vector has none, and the fallback is taken
 unfoldable pub unitOr : «V» → «V» → «V»
-unitOr a fallback = cond (lt f1e-9 (len a)) (div a (len a)) fallback
+unitOr a fallback = cond (lt eps (len a)) (div a (len a)) fallback
 
 -- 90 degrees to the left on screen, where y points down
 abbrev pub left : «V» → «V»
@@ -50,6 +50,13 @@ left a = vec (a .y) (minus (a .x))
 
 abbrev pub dist : «V» → «V» → Float
 dist a b = len (sub a b)
+
+-- its square; 0 where it is NaN, since the root of NaN is 0 (`dist-root` of Squares)
+abbrev pub squares : «V» → Float
+squares a = a .x ⊗ a .x ⊕ a .y ⊗ a .y
+
+abbrev pub distSquared : «V» → «V» → Float
+distSquared a b = let q = squares (sub a b) in cond (ne q q) f0 q
 
 -- ---- boxes
 
@@ -76,6 +83,16 @@ grown r d = rect (r .x0 ⊖ d) (r .y0 ⊖ d) (r .x1 ⊕ d) (r .y1 ⊕ d)
 unfoldable pub outside : Float → Float → Float → Float
 outside low high v = max (max (low ⊖ v) (v ⊖ high)) f0
 
--- the distance from a point to a box, 0 inside
+-- the distance from a point to a box, 0 inside, and its square
 abbrev pub boxDist : Rect → «V» → Float
 boxDist r p = hypot (outside (r .x0) (r .x1) (p .x)) (outside (r .y0) (r .y1) (p .y))
+
+abbrev pub boxDistSquared : Rect → «V» → Float
+boxDistSquared r p = squares (vec (outside (r .x0) (r .x1) (p .x)) (outside (r .y0) (r .y1) (p .y)))
+
+-- the box of no points, and a box with one point more
+abbrev pub noBounds : Rect
+noBounds = rect infinity infinity (minus infinity) (minus infinity)
+
+unfoldable pub extended : Rect → «V» → Rect
+extended r p = rect (min (r .x0) (p .x)) (min (r .y0) (p .y)) (max (r .x1) (p .x)) (max (r .y1) (p .y))

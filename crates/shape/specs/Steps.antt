@@ -10,8 +10,8 @@ use lib.Dec.{T, lt→ltb}
 use lib.Ieee.{Float, nan, inf, fin, up, down, below, level, ofBits}
 use lib.IntN.{pos}
 use lib.Ieee as Ieee
-use Rattle.laws.specs.Cases.{by-bool, holds}
-use Rattle.laws.specs.Between.{between, above-num, below-num}
+use Rattle.laws.specs.Cases.{by-bool, holds, is-true, not-both}
+use Rattle.laws.specs.Between.{lt-between, above-num, below-num}
 use Rattle.float.specs.Ops.{_⊖_, _⊘_, lt, eq, ne, neg}
 use Rattle.float.specs.Constants.{f0, f1}
 use Rattle.float.specs.Standins.{min, max}
@@ -19,25 +19,25 @@ use Rattle.shape.specs.declared.«V».{«V»}
 use Rattle.shape.specs.declared.Rect.{Rect}
 use Rattle.shape.specs.declared.Clip.{Clip}
 use Rattle.shape.specs.Plane.{sub, spanning, touches}
-use Rattle.shape.specs.Clipping.{kept, nothing, test, side, meets, segmentHitsRect}
+use Rattle.shape.specs.Clipping.{keptPart, nothing, test, side, meets, segmentHitsRect}
 
 -- ---- what the code computes
 
 unfoldable pub settled : Float → Float → Clip
-settled e l = cond (lt l e) nothing (kept e l)
+settled e l = cond (lt l e) nothing (keptPart e l)
 
-unfoldable pub step : Float → Float → Clip → Clip
-step p q c =
+unfoldable pub clipStep : Float → Float → Clip → Clip
+clipStep p q c =
     let r = q ⊘ p in
     cond (eq p f0) (cond (lt q f0) nothing c)
     (cond (lt p f0) (settled (max (c .enter) r) (c .leave)) (settled (c .enter) (min (c .leave) r)))
 
-unfoldable pub edge : Float → Float → Clip → Clip
-edge p q c = cond (c .ok) (step p q c) c
+unfoldable pub edgeStep : Float → Float → Clip → Clip
+edgeStep p q c = cond (c .ok) (clipStep p q c) c
 
 unfoldable pub clipped : «V» → «V» → Rect → Bool
 clipped from d r =
-    edge (d .y) (r .y1 ⊖ from .y) (edge (neg (d .y)) (from .y ⊖ r .y0) (edge (d .x) (r .x1 ⊖ from .x) (edge (neg (d .x)) (from .x ⊖ r .x0) (kept f0 f1)))) .ok
+    edgeStep (d .y) (r .y1 ⊖ from .y) (edgeStep (neg (d .y)) (from .y ⊖ r .y0) (edgeStep (d .x) (r .x1 ⊖ from .x) (edgeStep (neg (d .x)) (from .x ⊖ r .x0) (keptPart f0 f1)))) .ok
 
 -- ---- a rate is below zero, above it, zero, or NaN
 
@@ -78,60 +78,53 @@ by-nan (fin s m e) = refl
 -- ---- they are the same
 
 -- while something is left, the ends are numbers in order
-pub record Good (low high : Float) : Type 0 where
+pub record GoodClip (low high : Float) : Type 0 where
   pub low-num : ne low low ≡ false
   pub high-num : ne high high ≡ false
   pub ordered : lt high low ≡ false
 
 data State : Clip → Type 0 where
   shut : State nothing
-  held : (low high : Float) → Good low high → State (kept low high)
+  held : (low high : Float) → GoodClip low high → State (keptPart low high)
 
-is-true : (b : Bool) → T b → b ≡ true
-is-true true t = refl
-is-true false t = absurd t
-
-not-both : {b : Bool} → T b → b ≡ false → ⊥
-not-both t e = subst T e t
-
-module _ (e l r : Float) (g : Good e l) where
-  enters : settled (max e r) l ≡ cond (lt l r) nothing (cond (lt e r) (kept r l) (kept e l))
+module _ (e l r : Float) (g : GoodClip e l) where
+  enters : settled (max e r) l ≡ cond (lt l r) nothing (cond (lt e r) (keptPart r l) (keptPart e l))
   unfolding settled
   enters =
       by-bool (lt l r)
       (λ t.
-      let k : lt e r ≡ true = is-true (lt e r) (⊎-elim (λ (x : T (lt l e)). absurd (not-both x (g .ordered))) (λ (x : T (lt e r)). x) (between l e r (g .low-num) (holds t))) in
+      let k : lt e r ≡ true = is-true (lt e r) (⊎-elim (λ (x : T (lt l e)). absurd (not-both x (g .ordered))) (λ (x : T (lt e r)). x) (lt-between l e r (g .low-num) (holds t))) in
       rw (g .low-num, k, t))
       (λ t. by-bool (lt e r) (λ k. rw (g .low-num, k, t)) (λ k. rw (g .low-num, k, t, g .ordered)))
 
-  leaves : settled e (min l r) ≡ cond (lt r e) nothing (cond (lt r l) (kept e r) (kept e l))
+  leaves : settled e (min l r) ≡ cond (lt r e) nothing (cond (lt r l) (keptPart e r) (keptPart e l))
   unfolding settled
   leaves =
       by-bool (lt r e)
       (λ t.
-      let k : lt r l ≡ true = is-true (lt r l) (⊎-elim (λ (x : T (lt r l)). x) (λ (x : T (lt l e)). absurd (not-both x (g .ordered))) (between r l e (g .high-num) (holds t))) in
+      let k : lt r l ≡ true = is-true (lt r l) (⊎-elim (λ (x : T (lt r l)). x) (λ (x : T (lt l e)). absurd (not-both x (g .ordered))) (lt-between r l e (g .high-num) (holds t))) in
       rw (g .high-num, k, t))
       (λ t. by-bool (lt r l) (λ k. rw (g .high-num, k, t)) (λ k. rw (g .high-num, k, t, g .ordered)))
 
-  entered : State (cond (lt l r) nothing (cond (lt e r) (kept r l) (kept e l)))
+  entered : State (cond (lt l r) nothing (cond (lt e r) (keptPart r l) (keptPart e l)))
   entered =
       by-bool (lt l r) (λ t. rw t shut)
       (λ t. by-bool (lt e r) (λ k. rw (t, k) (held r l (record { low-num = above-num e r (holds k); high-num = g .high-num; ordered = t })))
       (λ k. rw (t, k) (held e l g)))
 
-  left : State (cond (lt r e) nothing (cond (lt r l) (kept e r) (kept e l)))
+  left : State (cond (lt r e) nothing (cond (lt r l) (keptPart e r) (keptPart e l)))
   left =
       by-bool (lt r e) (λ t. rw t shut)
       (λ t. by-bool (lt r l) (λ k. rw (t, k) (held e r (record { low-num = g .low-num; high-num = below-num r l (holds k); ordered = t })))
       (λ k. rw (t, k) (held e l g)))
 
 -- at a NaN rate the code's earlier end is the one it had
-nan-leaves : (p q e l : Float) → p ≡ nan → cond (lt (q ⊘ p) e) nothing (cond (lt (q ⊘ p) l) (kept e (q ⊘ p)) (kept e l)) ≡ kept e l
+nan-leaves : (p q e l : Float) → p ≡ nan → cond (lt (q ⊘ p) e) nothing (cond (lt (q ⊘ p) l) (keptPart e (q ⊘ p)) (keptPart e l)) ≡ keptPart e l
 unfolding Ieee.lt
 nan-leaves p q e l n = rw (n, by-nan q)
 
-edge-is : (p q : Float) {c : Clip} → State c → edge p q c ≡ side p q c
-unfolding edge side step test
+edge-is : (p q : Float) {c : Clip} → State c → edgeStep p q c ≡ side p q c
+unfolding edgeStep side clipStep test
 edge-is p q shut = refl
 edge-is p q (held e l g) =
     by-bool (eq p f0)
@@ -150,12 +143,12 @@ side-state p q (held e l g) =
     (λ b. by-bool (lt f0 p) (λ a. rw (b, a) (left e l (q ⊘ p) g))
     (λ a. by-bool (eq p f0 && lt q f0) (λ z. rw (b, a, z) shut) (λ z. rw (b, a, z) (held e l g))))
 
-start : State (kept f0 f1)
+start : State (keptPart f0 f1)
 unfolding ofBits Ieee.ne Ieee.lt Ieee.eq
 start = held f0 f1 (record { low-num = refl; high-num = refl; ordered = refl })
 
-next : (p q : Float) {c c′ : Clip} → c ≡ c′ → State c′ → edge p q c ≡ side p q c′
-next p q e s = ap (edge p q) e ∙ edge-is p q s
+next : (p q : Float) {c c′ : Clip} → c ≡ c′ → State c′ → edgeStep p q c ≡ side p q c′
+next p q e s = ap (edgeStep p q) e ∙ edge-is p q s
 
 pub clipped-is : (from d : «V») (r : Rect) → clipped from d r ≡ meets from d r
 unfolding clipped meets
@@ -177,18 +170,18 @@ module _ (from to : «V») (r b : Rect) (t : Bool) (e : b ≡ spanning from to) 
       k ∙ ap (λ (v : «V»). clipped from v r) g ∙ clipped-is from (sub to from) r
       ∙ sym (ap (λ (q : Bool). q && meets from (sub to from) r) (spans ∙ h))
 
-  pub apart : t ≡ false → false ≡ segmentHitsRect from to r
+  pub spans-apart : t ≡ false → false ≡ segmentHitsRect from to r
   unfolding segmentHitsRect
-  apart h = sym (ap (λ (q : Bool). q && meets from (sub to from) r) (spans ∙ h))
+  spans-apart h = sym (ap (λ (q : Bool). q && meets from (sub to from) r) (spans ∙ h))
 
-pub edge-on : (p q : Float) (c : Clip) → c .ok ≡ true → step p q c ≡ edge p q c
-unfolding edge
-edge-on p q c e = sym (ap (λ (t : Bool). cond t (step p q c) c) e)
+pub edge-on : (p q : Float) (c : Clip) → c .ok ≡ true → clipStep p q c ≡ edgeStep p q c
+unfolding edgeStep
+edge-on p q c e = sym (ap (λ (t : Bool). cond t (clipStep p q c) c) e)
 
-pub step-enters : (p q : Float) (c : Clip) → eq p f0 ≡ false → lt p f0 ≡ true → settled (max (c .enter) (q ⊘ p)) (c .leave) ≡ step p q c
-unfolding step
+pub step-enters : (p q : Float) (c : Clip) → eq p f0 ≡ false → lt p f0 ≡ true → settled (max (c .enter) (q ⊘ p)) (c .leave) ≡ clipStep p q c
+unfolding clipStep
 step-enters p q c z b = rw (z, b)
 
-pub step-leaves : (p q : Float) (c : Clip) → eq p f0 ≡ false → lt p f0 ≡ false → settled (c .enter) (min (c .leave) (q ⊘ p)) ≡ step p q c
-unfolding step
+pub step-leaves : (p q : Float) (c : Clip) → eq p f0 ≡ false → lt p f0 ≡ false → settled (c .enter) (min (c .leave) (q ⊘ p)) ≡ clipStep p q c
+unfolding clipStep
 step-leaves p q c z b = rw (z, b)

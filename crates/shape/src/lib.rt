@@ -1,12 +1,22 @@
 // Points, boxes and curves of f64 by value; clipping and crossing. Each operation rounds once, in the order written.
 ghost use mathlib.Core.Path.{_≡_};
-ghost use Prim.Native.Nat.{_<_};
+ghost use mathlib.Core.Bool.{cond};
+ghost use Prim.Native.Nat.{_≤_, _<_};
 ghost use lib.ListN.{length};
+ghost use Rattle.float.specs.Ops.{lt, le};
 ghost use Rattle.shape.specs.Plane as S;
 ghost use Rattle.shape.specs.Centres as P;
 ghost use Rattle.shape.specs.Curves as C;
 ghost use Rattle.shape.specs.Clipping as L;
 ghost use Rattle.shape.specs.Steps as T;
+
+// The radius of a state, and the length of the arrow that points into a start state from the left.
+pub const NODE_RADIUS: f64 = 22.0;
+
+pub const START_ARROW_LENGTH: f64 = 28.0;
+
+// Below this length two points count as the same.
+pub const EPS: f64 = 1e-9;
 
 // A point or a direction.
 pub struct V {
@@ -51,7 +61,7 @@ impl V {
         ensures { λ r. ⌜ r ≡ S.unitOr self fallback ⌝ }
     {
         let len = self.len();
-        if len > 1e-9 { self.div(len) } else { fallback }
+        if len > EPS { self.div(len) } else { fallback }
     }
 
     // 90 degrees to the left on screen, where y points down.
@@ -67,6 +77,18 @@ impl V {
         self.sub(o).len()
     }
 
+    // The square of the distance; 0 where it is NaN, since the root of NaN is 0.
+    pub fn dist_squared(self, o: V) -> f64
+        ensures { λ r. ⌜ r ≡ S.distSquared self o ⌝ }
+    {
+        let d = self.sub(o);
+        let q = d.x * d.x + d.y * d.y;
+        if q != q {
+            return 0.0;
+        }
+        q
+    }
+
     pub fn add(self, o: V) -> V
         ensures { λ r. ⌜ r ≡ S.add self o ⌝ }
     {
@@ -80,7 +102,7 @@ impl V {
     }
 
     pub fn neg(self) -> V
-        ensures { λ r. ⌜ r ≡ S.neg self ⌝ }
+        ensures { λ r. ⌜ r ≡ S.negV self ⌝ }
     {
         V::new(-self.x, -self.y)
     }
@@ -106,11 +128,15 @@ pub struct Rect {
     pub y1: f64,
 }
 
+// Four comparisons are told by a sum, since a branch for each would often be guessed wrong.
 impl Rect {
+    // Whether the boxes overlap: those that only touch do not.
     pub fn overlaps(self, o: Rect) -> bool
         ensures { λ r. ⌜ r ≡ S.overlaps self o ⌝ }
     {
-        self.x0 < o.x1 && (o.x0 < self.x1 && (self.y0 < o.y1 && o.y0 < self.y1))
+        let across = below(self.x0, o.x1) + below(o.x0, self.x1);
+        let along = below(self.y0, o.y1) + below(o.y0, self.y1);
+        across + along == 4
     }
 
     // The smallest box that contains both points.
@@ -141,21 +167,68 @@ impl Rect {
     pub fn touches(self, o: Rect) -> bool
         ensures { λ r. ⌜ r ≡ S.touches self o ⌝ }
     {
-        self.x0 <= o.x1 && (o.x0 <= self.x1 && (self.y0 <= o.y1 && o.y0 <= self.y1))
+        let across = at_most(self.x0, o.x1) + at_most(o.x0, self.x1);
+        let along = at_most(self.y0, o.y1) + at_most(o.y0, self.y1);
+        across + along == 4
     }
 
-    // From `p` to the box, 0 inside.
-    pub fn dist(self, p: V) -> f64
-        ensures { λ r. ⌜ r ≡ S.boxDist self p ⌝ }
+    // The square of the distance from `p` to the box, 0 inside.
+    pub fn dist_squared(self, p: V) -> f64
+        ensures { λ r. ⌜ r ≡ S.boxDistSquared self p ⌝ }
     {
         let dx = outside(self.x0, self.x1, p.x);
         let dy = outside(self.y0, self.y1, p.y);
-        float::hypot(dx, dy)
+        dx * dx + dy * dy
+    }
+
+    // The box of no points.
+    pub fn empty() -> Rect
+        ensures { λ r. ⌜ r ≡ S.noBounds ⌝ }
+    {
+        let most = float::infinity();
+        Rect {
+            x0: most,
+            y0: most,
+            x1: -most,
+            y1: -most,
+        }
+    }
+
+    // With one point more.
+    pub fn extended(self, p: V) -> Rect
+        ensures { λ r. ⌜ r ≡ S.extended self p ⌝ }
+    {
+        Rect {
+            x0: float::min(self.x0, p.x),
+            y0: float::min(self.y0, p.y),
+            x1: float::max(self.x1, p.x),
+            y1: float::max(self.y1, p.y),
+        }
     }
 }
 
+// 1 where a is below b.
+fn below(a: f64, b: f64) -> usize
+    ensures { λ r. ⌜ (r ≡ cond (lt a b) 1 0) × (r ≤ 1) ⌝ }
+{
+    if a < b {
+        return 1;
+    }
+    0
+}
+
+// 1 where a is at most b.
+fn at_most(a: f64, b: f64) -> usize
+    ensures { λ r. ⌜ (r ≡ cond (le a b) 1 0) × (r ≤ 1) ⌝ }
+{
+    if a <= b {
+        return 1;
+    }
+    0
+}
+
 // How far `v` lies outside lo .. hi.
-pub fn outside(lo: f64, hi: f64, v: f64) -> f64
+fn outside(lo: f64, hi: f64, v: f64) -> f64
     ensures { λ r. ⌜ r ≡ S.outside lo hi v ⌝ }
 {
     float::max(float::max(lo - v, v - hi), 0.0)
@@ -247,7 +320,7 @@ fn settled(enter: f64, leave: f64) -> Clip
 }
 
 fn step(towards: f64, room: f64, c: Clip) -> Clip
-    ensures { λ r. ⌜ r ≡ T.step towards room c ⌝ }
+    ensures { λ r. ⌜ r ≡ T.clipStep towards room c ⌝ }
 {
     if towards == 0.0 {
         if room < 0.0 {
@@ -267,7 +340,7 @@ fn step(towards: f64, room: f64, c: Clip) -> Clip
 }
 
 fn edge(towards: f64, room: f64, c: Clip) -> Clip
-    ensures { λ r. ⌜ r ≡ T.edge towards room c ⌝ }
+    ensures { λ r. ⌜ r ≡ T.edgeStep towards room c ⌝ }
 {
     if c.ok {
         return step(towards, room, c);

@@ -1,4 +1,4 @@
--- A turn of the search for the start state, and its ends. Assumes nothing.
+-- A step of the search for the start state, and its ends. Assumes nothing.
 use mathlib.Core.Path.{_≡_, sym}
 use mathlib.Core.Bool.{true, false}
 use mathlib.Core.List.{List}
@@ -17,6 +17,6 @@ module _ (l : List ℕ) (i : ℕ) where
   unfolding startFrom
   start-miss h e = sym (rw (drop-cons l i 0 h, e, add-one))
 
-  pub start-none : length l ≤ i → 0 ≡ startFrom i (drop i l)
+  pub start-past : length l ≤ i → 0 ≡ startFrom i (drop i l)
   unfolding startFrom
-  start-none h = sym (rw (drop-of-length-le l h))
+  start-past h = sym (rw (drop-of-length-le l h))

@@ -8,37 +8,33 @@ use lib.Dec.{ltb, eqb}
 use lib.ListN.{length, getD, drop, length-take, length-drop}
 use Rattle.laws.specs.Loops.{anyUp}
 use Rattle.laws.specs.Refusals.{Clear}
+use Rattle.laws.specs.Any.{anyOf, none-at, none-all, none-up}
+use Rattle.laws.specs.Bools.{or-false-left, or-false-right, or-none}
 use borrow.Author.Tests.{ltb-false, le-ltb, eqb-true, not-false}
 use Rattle.text.specs.Utf8.{wellFormed}
-use Rattle.sheet.specs.Sheet.{count, kindOf, byteOne, piece, Arrow, Graph, meaning}
-use Rattle.sheet.specs.Refusals.{any, wrongLength, someSet, wrongRecord, wrongBytes, longLine, largeArrow, overLimits, illLine, illArrow, illFormed, refusals, mainScreen, checkOf}
-use Rattle.sheet.specs.Any.{or-left, or-right, or-none, none-at, none-all, none-up}
+use Rattle.sheet.specs.Sheet.{count, kindOf, byteOne, piece, Graph, meaning}
+use Rattle.sheet.specs.Refusals.{wrongLength, someSet, wrongRecord, wrongBytes, longLine, largeArrow, overLimits, illLine, illArrow, illFormed, refusals, mainScreen, checkOf}
 use Rattle.sheet.specs.Order.{accepted-exactly}
 use Rattle.sheet.specs.declared.Checked.the-variants.{Accepted}
 use Rattle.sheet.specs.declared.Limits.{Limits}
+use Rattle.sheet.specs.Meaning.{noArrow, arrowAt}
 
 right-length : (s : List ℕ) → wrongLength s ≡ false → length s ≡ 16 * (1 + count s)
 right-length s e =
     eqb-true (length s) (16 * (1 + count s))
     (not-false (eqb (length s) (16 * (1 + count s)))
-    (or-right (ltb 65536 (length s)) (not (eqb (length s) (16 * (1 + count s))))
-    (or-right (ltb (length s) 16) (ltb 65536 (length s) || not (eqb (length s) (16 * (1 + count s)))) e)))
+    (or-false-right (ltb 65536 (length s)) (not (eqb (length s) (16 * (1 + count s))))
+    (or-false-right (ltb (length s) 16) (ltb 65536 (length s) || not (eqb (length s) (16 * (1 + count s)))) e)))
 
 -- A sheet of right length has at most 4,095 records.
 pub few : (s : List ℕ) → wrongLength s ≡ false → count s < 4096
 few s e =
-    let over = or-right (ltb (length s) 16) (ltb 65536 (length s) || not (eqb (length s) (16 * (1 + count s)))) e in
-    let a : length s ≤ 65536 = ltb-false 65536 (length s) (or-left (ltb 65536 (length s)) (not (eqb (length s) (16 * (1 + count s)))) over) in
+    let over = or-false-right (ltb (length s) 16) (ltb 65536 (length s) || not (eqb (length s) (16 * (1 + count s)))) e in
+    let a : length s ≤ 65536 = ltb-false 65536 (length s) (or-false-left (ltb 65536 (length s)) (not (eqb (length s) (16 * (1 + count s)))) over) in
     let b : length s ≡ 16 * (1 + count s) = right-length s e in
     omega arith
 
--- arrow k of a graph, and its line j; empty ones past the end
-abbrev pub noArrow : Arrow
-noArrow = record { source = 0; target = 0; lines = [] }
-
-abbrev pub arrowAt : Graph → ℕ → Arrow
-arrowAt g k = getD (g .arrows) k noArrow
-
+-- line j of arrow k; an empty one past the end
 abbrev pub lineAt : Graph → ℕ → ℕ → List ℕ
 lineAt g k j = getD (arrowAt g k .lines) j []
 
@@ -53,30 +49,30 @@ pub record Within (m : Limits) (g : Graph) : Type 0 where
 module _ (m : Limits) (g : Graph) (o : overLimits m g ≡ false) (i : illFormed g ≡ false) where
   few-states : ltb (m .states) (length (g .states)) ≡ false
   unfolding overLimits
-  few-states = or-left (ltb (m .states) (length (g .states))) _ o
+  few-states = or-false-left (ltb (m .states) (length (g .states))) _ o
 
   few-arrows : ltb (m .arrows) (length (g .arrows)) ≡ false
   unfolding overLimits
-  few-arrows = or-left (ltb (m .arrows) (length (g .arrows))) _ (or-right (ltb (m .states) (length (g .states))) _ o)
+  few-arrows = or-false-left (ltb (m .arrows) (length (g .arrows))) _ (or-false-right (ltb (m .states) (length (g .states))) _ o)
 
-  none-large : any (largeArrow m) (g .arrows) ≡ false
+  none-large : anyOf (largeArrow m) (g .arrows) ≡ false
   unfolding overLimits
-  none-large = or-right (ltb (m .arrows) (length (g .arrows))) _ (or-right (ltb (m .states) (length (g .states))) _ o)
+  none-large = or-false-right (ltb (m .arrows) (length (g .arrows))) _ (or-false-right (ltb (m .states) (length (g .states))) _ o)
 
-  none-ill : any illArrow (g .arrows) ≡ false
+  none-ill : anyOf illArrow (g .arrows) ≡ false
   unfolding illFormed
   none-ill = i
 
   module _ (k : ℕ) (h : k < length (g .arrows)) where
     few-lines : ltb (m .lines) (length (arrowAt g k .lines)) ≡ false
     unfolding largeArrow
-    few-lines = or-left (ltb (m .lines) (length (arrowAt g k .lines))) (any (longLine m) (arrowAt g k .lines)) (none-at (largeArrow m) (g .arrows) k noArrow none-large h)
+    few-lines = or-false-left (ltb (m .lines) (length (arrowAt g k .lines))) (anyOf (longLine m) (arrowAt g k .lines)) (none-at (largeArrow m) (g .arrows) k noArrow none-large h)
 
-    none-long : any (longLine m) (arrowAt g k .lines) ≡ false
+    none-long : anyOf (longLine m) (arrowAt g k .lines) ≡ false
     unfolding largeArrow
-    none-long = or-right (ltb (m .lines) (length (arrowAt g k .lines))) (any (longLine m) (arrowAt g k .lines)) (none-at (largeArrow m) (g .arrows) k noArrow none-large h)
+    none-long = or-false-right (ltb (m .lines) (length (arrowAt g k .lines))) (anyOf (longLine m) (arrowAt g k .lines)) (none-at (largeArrow m) (g .arrows) k noArrow none-large h)
 
-    none-bad : any illLine (arrowAt g k .lines) ≡ false
+    none-bad : anyOf illLine (arrowAt g k .lines) ≡ false
     unfolding illArrow
     none-bad = none-at illArrow (g .arrows) k noArrow none-ill h
 
@@ -94,10 +90,10 @@ module _ (m : Limits) (g : Graph) (w : Within m g) where
   pub not-over : overLimits m g ≡ false
   unfolding overLimits largeArrow
   not-over =
-      or-none (ltb (m .states) (length (g .states))) (ltb (m .arrows) (length (g .arrows)) || any (largeArrow m) (g .arrows)) (le-ltb (m .states) (length (g .states)) (w .states))
-      (or-none (ltb (m .arrows) (length (g .arrows))) (any (largeArrow m) (g .arrows)) (le-ltb (m .arrows) (length (g .arrows)) (w .arrows))
+      or-none (ltb (m .states) (length (g .states))) (ltb (m .arrows) (length (g .arrows)) || anyOf (largeArrow m) (g .arrows)) (le-ltb (m .states) (length (g .states)) (w .states))
+      (or-none (ltb (m .arrows) (length (g .arrows))) (anyOf (largeArrow m) (g .arrows)) (le-ltb (m .arrows) (length (g .arrows)) (w .arrows))
       (none-all (largeArrow m) (g .arrows) noArrow
-      (λ k h. or-none (ltb (m .lines) (length (arrowAt g k .lines))) (any (longLine m) (arrowAt g k .lines)) (le-ltb (m .lines) (length (arrowAt g k .lines)) (w .lines k h))
+      (λ k h. or-none (ltb (m .lines) (length (arrowAt g k .lines))) (anyOf (longLine m) (arrowAt g k .lines)) (le-ltb (m .lines) (length (arrowAt g k .lines)) (w .lines k h))
       (none-all (longLine m) (arrowAt g k .lines) [] (λ j l. le-ltb (m .bytes) (length (lineAt g k j)) (w .bytes k j h l))))))
 
   pub not-ill : illFormed g ≡ false
@@ -105,20 +101,20 @@ module _ (m : Limits) (g : Graph) (w : Within m g) where
   not-ill = none-all illArrow (g .arrows) noArrow (λ k h. none-all illLine (arrowAt g k .lines) [] (λ j l. ap not (w .formed k j h l)))
 
 -- An accepted sheet is within the limits, and its lines are well-formed.
-pub within : (m : Limits) (s : List ℕ) → checkOf m s ≡ Accepted → Within m (meaning s)
-within m s q = let c : Clear (refusals m s) = accepted-exactly m s .0 q in graph-within m (meaning s) (c .none 5) (c .none 6)
+pub within-limits : (m : Limits) (s : List ℕ) → checkOf m s ≡ Accepted → Within m (meaning s)
+within-limits m s q = let c : Clear (refusals m s) = accepted-exactly m s .0 q in graph-within m (meaning s) (c .none 5) (c .none 6)
 
 -- At the main screen: at most 64 states, 256 arrows, 8 lines an arrow and 96 bytes a line.
-pub record Shown (g : Graph) : Type 0 where
+pub record OnMainScreen (g : Graph) : Type 0 where
   pub states : length (g .states) ≤ 64
   pub arrows : length (g .arrows) ≤ 256
   pub lines : (k : ℕ) → k < length (g .arrows) → length (arrowAt g k .lines) ≤ 8
   pub bytes : (k j : ℕ) → k < length (g .arrows) → j < length (arrowAt g k .lines) → length (lineAt g k j) ≤ 96
   pub formed : (k j : ℕ) → k < length (g .arrows) → j < length (arrowAt g k .lines) → wellFormed (lineAt g k j) ≡ true
 
-pub shown : (s : List ℕ) → checkOf mainScreen s ≡ Accepted → Shown (meaning s)
-shown s q =
-    let w = within mainScreen s q in
+pub on-main-screen : (s : List ℕ) → checkOf mainScreen s ≡ Accepted → OnMainScreen (meaning s)
+on-main-screen s q =
+    let w = within-limits mainScreen s q in
     record { states = w .states; arrows = w .arrows; lines = w .lines; bytes = w .bytes; formed = w .formed }
 
 -- A text record of a sheet that passes 1 and 4 stands whole in it: its piece has as many bytes as its byte 1 says, 1 to 12.
@@ -134,9 +130,9 @@ text-right s k q e = rw q at e
 pub piece-whole : (s : List ℕ) (k : ℕ) → wrongLength s ≡ false → wrongBytes s ≡ false → 1 ≤ k → k ≤ count s → kindOf s k ≡ 4 → Piece s k
 unfolding wrongBytes
 piece-whole s k l e a b q =
-    let r = text-right s k q (none-up (wrongRecord s) 1 (count s + 1) k (or-right (someSet s 8 16) (anyUp (wrongRecord s) 1 (count s + 1)) e) a (omega arith)) in
+    let r = text-right s k q (none-up (wrongRecord s) 1 (count s + 1) k (or-false-right (someSet s 8 16) (anyUp (wrongRecord s) 1 (count s + 1)) e) a (omega arith)) in
     let rest = ltb 12 (byteOne s k) || someSet s (16 * k + 4 + byteOne s k) (16 * k + 16) in
-    let lo : 1 ≤ byteOne s k = ltb-false (byteOne s k) 1 (or-left (ltb (byteOne s k) 1) rest r) in
-    let hi : byteOne s k ≤ 12 = ltb-false 12 (byteOne s k) (or-left (ltb 12 (byteOne s k)) (someSet s (16 * k + 4 + byteOne s k) (16 * k + 16)) (or-right (ltb (byteOne s k) 1) rest r)) in
+    let lo : 1 ≤ byteOne s k = ltb-false (byteOne s k) 1 (or-false-left (ltb (byteOne s k) 1) rest r) in
+    let hi : byteOne s k ≤ 12 = ltb-false 12 (byteOne s k) (or-false-left (ltb 12 (byteOne s k)) (someSet s (16 * k + 4 + byteOne s k) (16 * k + 16)) (or-false-right (ltb (byteOne s k) 1) rest r)) in
     let n : length s ≡ 16 * (1 + count s) = right-length s l in
     record { some = lo; few = hi; whole = rw (length-take (byteOne s k) (drop (16 * k + 4) s), length-drop (16 * k + 4) s) (omega arith) }

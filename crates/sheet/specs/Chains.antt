@@ -8,9 +8,9 @@ use native.Mathlib.Omega.{arith}
 use borrow.Author.Tests.{ne-eqb}
 use lib.ListN.{set}
 use Rattle.laws.specs.Put.{put}
+use Rattle.laws.specs.Any.{anyOf}
 use native.Mathlib.Numerals.{add-one}
 use Rattle.sheet.specs.Sheet.{next, chainBy}
-use Rattle.sheet.specs.Refusals.{any}
 
 module _ (s : List ℕ) where
   pub chain-end : (n i : ℕ) → i ≡ 0 → chainBy s n i ≡ []
@@ -22,28 +22,28 @@ module _ (s : List ℕ) where
   unfolding chainBy
   chain-cut n i e = rw e
 
-  pub chain-turn : (n i : ℕ) → (n ≡ 0 → ⊥) → (i ≡ 0 → ⊥) → chainBy s n i ≡ i ∷ chainBy s (n - 1) (next s i)
+  pub chain-step : (n i : ℕ) → (n ≡ 0 → ⊥) → (i ≡ 0 → ⊥) → chainBy s n i ≡ i ∷ chainBy s (n - 1) (next s i)
   unfolding chainBy
-  chain-turn zero i h e = absurd (h refl)
-  chain-turn (suc n) i h e = let d : suc n - 1 ≡ n = omega arith in rw (ne-eqb i 0 e, d)
+  chain-step zero i h e = absurd (h refl)
+  chain-step (suc n) i h e = let d : suc n - 1 ≡ n = omega arith in rw (ne-eqb i 0 e, d)
 
   -- ---- some thing of a chain: f makes it of a record
   module _ {A : Type 0} (f : ℕ → A) (p : A → Bool) where
-    pub any-end : (n i : ℕ) → i ≡ 0 → false ≡ any p (map f (chainBy s n i))
-    unfolding any
+    pub any-end : (n i : ℕ) → i ≡ 0 → false ≡ anyOf p (map f (chainBy s n i))
+    unfolding anyOf
     any-end n i e = rw (chain-end n i e)
 
-    pub any-cut : (n i : ℕ) → n ≡ 0 → false ≡ any p (map f (chainBy s n i))
-    unfolding any
+    pub any-cut : (n i : ℕ) → n ≡ 0 → false ≡ anyOf p (map f (chainBy s n i))
+    unfolding anyOf
     any-cut n i e = rw (chain-cut n i e)
 
-    pub any-hit : (n i : ℕ) → (n ≡ 0 → ⊥) → (i ≡ 0 → ⊥) → p (f i) ≡ true → true ≡ any p (map f (chainBy s n i))
-    unfolding any
-    any-hit n i h e b = rw (chain-turn n i h e, b)
+    pub any-hit : (n i : ℕ) → (n ≡ 0 → ⊥) → (i ≡ 0 → ⊥) → p (f i) ≡ true → true ≡ anyOf p (map f (chainBy s n i))
+    unfolding anyOf
+    any-hit n i h e b = rw (chain-step n i h e, b)
 
-    pub any-miss : (n i : ℕ) → (n ≡ 0 → ⊥) → (i ≡ 0 → ⊥) → p (f i) ≡ false → any p (map f (chainBy s (n - 1) (next s i))) ≡ any p (map f (chainBy s n i))
-    unfolding any
-    any-miss n i h e b = rw (chain-turn n i h e, b)
+    pub any-miss : (n i : ℕ) → (n ≡ 0 → ⊥) → (i ≡ 0 → ⊥) → p (f i) ≡ false → anyOf p (map f (chainBy s (n - 1) (next s i))) ≡ anyOf p (map f (chainBy s n i))
+    unfolding anyOf
+    any-miss n i h e b = rw (chain-step n i h e, b)
 
   -- ---- a number for each record of a chain, stored in a list from place k on
   module _ {A : Type 0} (f : ℕ → A) where
@@ -55,6 +55,6 @@ module _ (s : List ℕ) where
     unfolding put
     put-cut n i k l e = rw (chain-cut n i e)
 
-    pub put-turn : (n i k : ℕ) (l : List A) → (n ≡ 0 → ⊥) → (i ≡ 0 → ⊥) → put (set l k (f i)) (k + 1) (map f (chainBy s (n - 1) (next s i))) ≡ put l k (map f (chainBy s n i))
+    pub put-step : (n i k : ℕ) (l : List A) → (n ≡ 0 → ⊥) → (i ≡ 0 → ⊥) → put (set l k (f i)) (k + 1) (map f (chainBy s (n - 1) (next s i))) ≡ put l k (map f (chainBy s n i))
     unfolding put
-    put-turn n i k l h e = rw (chain-turn n i h e, add-one)
+    put-step n i k l h e = rw (chain-step n i h e, add-one)

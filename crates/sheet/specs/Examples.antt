@@ -9,8 +9,10 @@ use lib.ListN.{length, getD, replicate}
 use borrow.Author.Tests.{eqb-false}
 use Rattle.laws.specs.Loops.{anyFor, anyUp, over}
 use Rattle.laws.specs.Refusals.{decide}
+use Rattle.laws.specs.Any.{anyOf}
+use Rattle.text.specs.Ascii.{ascii}
 use Rattle.sheet.specs.Sheet.{kindOf, byteOne, next, fromOf, toOf, firstLine, firstText, piece, chainBy, metLine, metArrow, met, lineOf, linesFrom, Graph, arrowOf, statesOf, arrowsOf, meaning}
-use Rattle.sheet.specs.Refusals.{any, repeats, isSet, wrongRecord, wrongBytes, indices, wrongChains, largeArrow, overLimits, illArrow, illFormed, mainScreen, checkOf}
+use Rattle.sheet.specs.Refusals.{repeats, isSet, wrongRecord, wrongBytes, indices, wrongChains, largeArrow, overLimits, illArrow, illFormed, mainScreen, checkOf}
 use Rattle.sheet.specs.Renumber.{Renumbered}
 use Rattle.sheet.specs.declared.Checked.{Checked}
 use Rattle.sheet.specs.declared.Checked.the-variants.{Accepted, Refused}
@@ -26,51 +28,51 @@ zeros n = replicate n 0
 abbrev pub header : ℕ → ℕ → ℕ → List ℕ
 header n state arrow = u16 1 ++ u16 n ++ u16 state ++ u16 arrow ++ zeros 8
 
-abbrev pub state : ℕ → ℕ → List ℕ
-state flags next = 1 ∷ flags ∷ u16 next ++ zeros 12
+abbrev pub stateBytes : ℕ → ℕ → List ℕ
+stateBytes flags next = 1 ∷ flags ∷ u16 next ++ zeros 12
 
-abbrev pub arrow : ℕ → ℕ → ℕ → ℕ → List ℕ
-arrow next a b line = 2 ∷ 0 ∷ u16 next ++ u16 a ++ u16 b ++ u16 line ++ zeros 6
+abbrev pub arrowBytes : ℕ → ℕ → ℕ → ℕ → List ℕ
+arrowBytes next a b line = 2 ∷ 0 ∷ u16 next ++ u16 a ++ u16 b ++ u16 line ++ zeros 6
 
-abbrev pub line : ℕ → ℕ → List ℕ
-line next text = 3 ∷ 0 ∷ u16 next ++ u16 text ++ zeros 10
+abbrev pub lineBytes : ℕ → ℕ → List ℕ
+lineBytes next text = 3 ∷ 0 ∷ u16 next ++ u16 text ++ zeros 10
 
-abbrev pub text : ℕ → List ℕ → List ℕ
-text next bytes = 4 ∷ length bytes ∷ u16 next ++ bytes ++ zeros (12 - length bytes)
+abbrev pub textBytes : ℕ → List ℕ → List ℕ
+textBytes next bytes = 4 ∷ length bytes ∷ u16 next ++ bytes ++ zeros (12 - length bytes)
 
 -- n states in a row, the first as record k, the last with the index 0
-abbrev pub states : ℕ → ℕ → List ℕ
-states k zero = []
-states k (suc zero) = state 0 0
-states k (suc (suc n)) = state 0 (suc k) ++ states (suc k) (suc n)
+abbrev pub manyStates : ℕ → ℕ → List ℕ
+manyStates k zero = []
+manyStates k (suc zero) = stateBytes 0 0
+manyStates k (suc (suc n)) = stateBytes 0 (suc k) ++ manyStates (suc k) (suc n)
 
 -- n empty lines in a row, likewise
-abbrev pub lines : ℕ → ℕ → List ℕ
-lines k zero = []
-lines k (suc zero) = line 0 0
-lines k (suc (suc n)) = line (suc k) 0 ++ lines (suc k) (suc n)
+abbrev pub manyLines : ℕ → ℕ → List ℕ
+manyLines k zero = []
+manyLines k (suc zero) = lineBytes 0 0
+manyLines k (suc (suc n)) = lineBytes (suc k) 0 ++ manyLines (suc k) (suc n)
 
 -- n pieces of 12 letters and then one of m, likewise
-abbrev pub texts : ℕ → ℕ → ℕ → List ℕ
-texts k zero m = text 0 (replicate m 97)
-texts k (suc n) m = text (suc k) (replicate 12 97) ++ texts (suc k) n m
+abbrev pub manyTexts : ℕ → ℕ → ℕ → List ℕ
+manyTexts k zero m = textBytes 0 (replicate m 97)
+manyTexts k (suc n) m = textBytes (suc k) (replicate 12 97) ++ manyTexts (suc k) n m
 
 -- a start state, a second state, an arrow 0 to 1 with the line `a`
 abbrev pub small : List ℕ
-small = header 5 1 3 ++ state 1 2 ++ state 0 0 ++ arrow 0 0 1 4 ++ line 0 5 ++ text 0 (97 ∷ [])
+small = header 5 1 3 ++ stateBytes 1 2 ++ stateBytes 0 0 ++ arrowBytes 0 0 1 4 ++ lineBytes 0 5 ++ textBytes 0 (ascii "a")
 
 -- the same with its records in another order
 abbrev pub shuffled : List ℕ
-shuffled = header 5 4 2 ++ text 0 (97 ∷ []) ++ arrow 0 0 1 3 ++ line 0 1 ++ state 1 5 ++ state 0 0
+shuffled = header 5 4 2 ++ textBytes 0 (ascii "a") ++ arrowBytes 0 0 1 3 ++ lineBytes 0 1 ++ stateBytes 1 5 ++ stateBytes 0 0
 
 -- one line of the given pieces
 abbrev pub lined : List ℕ → List ℕ → List ℕ
-lined p q = header 4 0 1 ++ arrow 0 0 0 2 ++ line 0 3 ++ text 4 p ++ text 0 q
+lined p q = header 4 0 1 ++ arrowBytes 0 0 0 2 ++ lineBytes 0 3 ++ textBytes 4 p ++ textBytes 0 q
 
 -- ---- answers
-abbrev pub numberOf : Checked → ℕ
-numberOf Accepted = 0
-numberOf (Refused n) = n
+abbrev pub checkedNumber : Checked → ℕ
+checkedNumber Accepted = 0
+checkedNumber (Refused n) = n
 
 pub record Example : Type 0 where
   pub sheet : List ℕ
@@ -80,48 +82,48 @@ infixr 3 _gives_
 abbrev pub _gives_ : List ℕ → ℕ → Example
 s gives n = record { sheet = s; answer = n }
 
-abbrev pub all : List Example → Bool
-all [] = true
-all (e ∷ es) = eqb (numberOf (checkOf mainScreen (e .sheet))) (e .answer) && all es
+abbrev pub allGive : List Example → Bool
+allGive [] = true
+allGive (e ∷ es) = eqb (checkedNumber (checkOf mainScreen (e .sheet))) (e .answer) && allGive es
 
-abbrev pub examples : List Example
-examples =
+abbrev pub sheetExamples : List Example
+sheetExamples =
     (header 0 0 0 gives 0)  -- count 0, 16 bytes
     ∷ (header 0 0 0 ++ zeros 1 gives 1)  -- 17 bytes
     ∷ ([] gives 1)
     ∷ (header 1 1 0 gives 1)  -- a record is missing
     ∷ (2 ∷ zeros 15 gives 2)
-    ∷ (header 1 1 0 ++ state 0 1 gives 3)  -- a record naming itself
-    ∷ (header 1 1 0 ++ state 0 2 gives 3)  -- an index above the count
-    ∷ (header 1 0 1 ++ state 0 0 gives 3)  -- a state in the chain of arrows
-    ∷ (header 2 1 0 ++ state 0 0 ++ state 0 0 gives 3)  -- a record never met
-    ∷ (header 3 0 1 ++ arrow 2 0 0 3 ++ arrow 0 0 0 3 ++ line 0 0 gives 3)  -- a line of two arrows
-    ∷ (header 2 1 0 ++ state 0 2 ++ state 0 1 gives 3)  -- a cycle
+    ∷ (header 1 1 0 ++ stateBytes 0 1 gives 3)  -- a record naming itself
+    ∷ (header 1 1 0 ++ stateBytes 0 2 gives 3)  -- an index above the count
+    ∷ (header 1 0 1 ++ stateBytes 0 0 gives 3)  -- a state in the chain of arrows
+    ∷ (header 2 1 0 ++ stateBytes 0 0 ++ stateBytes 0 0 gives 3)  -- a record never met
+    ∷ (header 3 0 1 ++ arrowBytes 2 0 0 3 ++ arrowBytes 0 0 0 3 ++ lineBytes 0 0 gives 3)  -- a line of two arrows
+    ∷ (header 2 1 0 ++ stateBytes 0 2 ++ stateBytes 0 1 gives 3)  -- a cycle
     ∷ (header 1 0 0 ++ (5 ∷ zeros 15) gives 4)  -- a kind beyond 4, before 3
-    ∷ (header 1 1 0 ++ state 4 0 gives 4)  -- a flag bit above 1
+    ∷ (header 1 1 0 ++ stateBytes 4 0 gives 4)  -- a flag bit above 1
     ∷ (header 1 1 0 ++ (1 ∷ zeros 14 ++ (1 ∷ [])) gives 4)  -- a byte that must be zero
     ∷ (u16 1 ++ zeros 13 ++ (1 ∷ []) gives 4)  -- and one of the header
-    ∷ (lined [] (97 ∷ []) gives 4)  -- a text count of 0
+    ∷ (lined [] (ascii "a") gives 4)  -- a text count of 0
     ∷ (small gives 0)
     ∷ (shuffled gives 0)
-    ∷ (header 1 0 1 ++ arrow 0 65535 65535 0 gives 0)  -- ends are no indices
-    ∷ (header 64 1 0 ++ states 1 64 gives 0)
-    ∷ (header 65 1 0 ++ states 1 65 gives 5)
-    ∷ (header 9 0 1 ++ arrow 0 0 0 2 ++ lines 2 8 gives 0)
-    ∷ (header 10 0 1 ++ arrow 0 0 0 2 ++ lines 2 9 gives 5)
-    ∷ (header 10 0 1 ++ arrow 0 0 0 2 ++ line 0 3 ++ texts 3 7 12 gives 0)  -- 96 bytes
-    ∷ (header 11 0 1 ++ arrow 0 0 0 2 ++ line 0 3 ++ texts 3 8 1 gives 5)  -- 97 bytes
+    ∷ (header 1 0 1 ++ arrowBytes 0 65535 65535 0 gives 0)  -- ends are no indices
+    ∷ (header 64 1 0 ++ manyStates 1 64 gives 0)
+    ∷ (header 65 1 0 ++ manyStates 1 65 gives 5)
+    ∷ (header 9 0 1 ++ arrowBytes 0 0 0 2 ++ manyLines 2 8 gives 0)
+    ∷ (header 10 0 1 ++ arrowBytes 0 0 0 2 ++ manyLines 2 9 gives 5)
+    ∷ (header 10 0 1 ++ arrowBytes 0 0 0 2 ++ lineBytes 0 3 ++ manyTexts 3 7 12 gives 0)  -- 96 bytes
+    ∷ (header 11 0 1 ++ arrowBytes 0 0 0 2 ++ lineBytes 0 3 ++ manyTexts 3 8 1 gives 5)  -- 97 bytes
     ∷ (lined (0xc3 ∷ []) (0xa9 ∷ []) gives 0)  -- a character in two pieces
-    ∷ (lined (0xc3 ∷ []) (97 ∷ []) gives 6)
+    ∷ (lined (0xc3 ∷ []) (ascii "a") gives 6)
     ∷ []
 
-pub worked : T (all examples)
-unfolding checkOf decide wrongBytes wrongRecord isSet anyUp anyFor wrongChains indices met metArrow metLine flatMap chainBy any repeats overLimits largeArrow statesOf arrowsOf arrowOf linesFrom lineOf illFormed illArrow over
-worked = tt
+pub worked-examples : T (allGive sheetExamples)
+unfolding checkOf decide wrongBytes wrongRecord isSet anyUp anyFor wrongChains indices met metArrow metLine flatMap chainBy anyOf repeats overLimits largeArrow statesOf arrowsOf arrowOf linesFrom lineOf illFormed illArrow over
+worked-examples = tt
 
 -- ---- meanings
 abbrev pub smallGraph : Graph
-smallGraph = record { states = record { flags = 1 } ∷ record { flags = 0 } ∷ []; arrows = record { source = 0; target = 1; lines = (97 ∷ []) ∷ [] } ∷ [] }
+smallGraph = record { states = record { flags = 1 } ∷ record { flags = 0 } ∷ []; arrows = record { source = 0; target = 1; lines = ascii "a" ∷ [] } ∷ [] }
 
 pub small-means : meaning small ≡ smallGraph
 unfolding statesOf arrowsOf arrowOf linesFrom lineOf chainBy flatMap

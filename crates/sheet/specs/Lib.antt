@@ -2,7 +2,6 @@ pub mod Sheet
 pub mod Meaning
 pub mod Refusals
 pub mod Chains
-pub mod Any
 pub mod Order
 pub mod Starts
 pub mod Accepted

@@ -1,9 +1,9 @@
--- Start states, and which arrows a sheet's records keep: facts of its meaning that several calls use.
+-- Start states, which arrows a sheet's records keep, and its arrows by number: facts of its meaning that several calls use.
 use mathlib.Core.Bool.{Bool, cond, _&&_}
 use mathlib.Core.List.{List, [], _∷_}
 use Prim.Native.Nat.{ℕ, suc, _%_}
 use lib.Dec.{ltb, eqb}
-use lib.ListN.{length}
+use lib.ListN.{length, getD}
 use Rattle.sheet.specs.Sheet.{Arrow, Graph, flagsOf}
 
 -- ---- 'bit 0 start', of a state's flag byte
@@ -30,3 +30,10 @@ endsBelow n source target = ltb source n && ltb target n
 
 abbrev pub isKept : Graph → Arrow → Bool
 isKept g a = endsBelow (length (g .states)) (a .source) (a .target)
+
+-- ---- an arrow by its number; past the last an empty one
+abbrev pub noArrow : Arrow
+noArrow = record { source = 0; target = 0; lines = [] }
+
+abbrev pub arrowAt : Graph → ℕ → Arrow
+arrowAt g k = getD (g .arrows) k noArrow

@@ -10,9 +10,10 @@ use lib.ListN.{length, getD}
 use borrow.Author.Tests.{le-ltb, lt-ltb, eqb-true, eqb-false, eq-eqb, ne-eqb, not-false}
 use Rattle.laws.specs.Cases.{by-bool, by-lt}
 use Rattle.laws.specs.Loops.{anyUp}
+use Rattle.laws.specs.Any.{anyOf, any-here, any-none, any-head, any-rest, any-cases, any-join, any-narrower, any-flat, any-map, none-at, none-all, none-up, up-none}
+use Rattle.laws.specs.Bools.{clash, or-false-left, or-false-right, or-none}
 use Rattle.sheet.specs.Sheet.{count, kindOf, next, chainBy, chain, firstText, firstLine, firstState, firstArrow, Met, meet, metAlone, metLine, metArrow, met}
-use Rattle.sheet.specs.Refusals.{any, isAmong, repeats, isAbove, isOther, isMissed, indices, wrongChains}
-use Rattle.sheet.specs.Any.{not-both, or-left, or-right, or-none, any-here, any-none, any-head, any-rest, any-cases, any-join, any-narrower, any-flat, any-map, none-at, none-all, none-up, up-none}
+use Rattle.sheet.specs.Refusals.{isAmong, repeats, isAbove, isOther, isMissed, indices, wrongChains}
 
 -- how often n stands in a list
 unfoldable pub occurrences : ℕ → List ℕ → ℕ
@@ -49,7 +50,7 @@ absent n [] e = refl
 absent n (x ∷ l) e = rw (any-head (eqb n) x l e) (absent n l (any-rest (eqb n) x l e))
 
 absent-back : (n : ℕ) (l : List ℕ) → occurrences n l ≡ 0 → isAmong n l ≡ false
-unfolding any
+unfolding anyOf
 absent-back n [] e = refl
 absent-back n (x ∷ l) e =
     by-eq n x
@@ -59,15 +60,15 @@ absent-back n (x ∷ l) e =
 present : (n : ℕ) (l : List ℕ) → isAmong n l ≡ true → 1 ≤ occurrences n l
 present n l e =
     by-lt 0 (occurrences n l) (λ h. h)
-    (λ h. let z : occurrences n l ≡ 0 = omega arith in not-both (isAmong n l) e (absent-back n l z))
+    (λ h. let z : occurrences n l ≡ 0 = omega arith in clash e (absent-back n l z))
 
 once-there : (n : ℕ) (l : List ℕ) → repeats l ≡ false → isAmong n l ≡ true → occurrences n l ≡ 1
-unfolding repeats any
-once-there n [] r e = not-both false e refl
+unfolding repeats anyOf
+once-there n [] r e = clash {b = false} e refl
 once-there n (x ∷ l) r e =
     by-eq n x
-    (λ q. occurs-more n x l q ∙ ap suc (absent n l (rw q (or-left (isAmong x l) (repeats l) r))))
-    (λ q. occurs-same n x l q ∙ once-there n l (or-right (isAmong x l) (repeats l) r) (rw (ne-eqb n x q) at e))
+    (λ q. occurs-more n x l q ∙ ap suc (absent n l (rw q (or-false-left (isAmong x l) (repeats l) r))))
+    (λ q. occurs-same n x l q ∙ once-there n l (or-false-right (isAmong x l) (repeats l) r) (rw (ne-eqb n x q) at e))
 
 no-repeats : (l : List ℕ) → ((n : ℕ) → occurrences n l ≤ 1) → repeats l ≡ false
 unfolding repeats
@@ -95,8 +96,8 @@ no-repeats (x ∷ l) h = or-none (isAmong x l) (repeats l) own (no-repeats l res
 abbrev isZero : Met → Bool
 isZero x = eqb 0 (x .index)
 
-pub chain-nonzero : (s : List ℕ) (n i : ℕ) → any (eqb 0) (chainBy s n i) ≡ false
-unfolding chainBy any
+pub chain-nonzero : (s : List ℕ) (n i : ℕ) → anyOf (eqb 0) (chainBy s n i) ≡ false
+unfolding chainBy anyOf
 chain-nonzero s zero i = refl
 chain-nonzero s (suc n) i =
     by-eq i 0
@@ -104,30 +105,30 @@ chain-nonzero s (suc n) i =
     (λ q. rw (ne-eqb i 0 q) (any-none (eqb 0) i (chainBy s n (next s i)) (ne-eqb 0 i (λ e. q (sym e))) (chain-nonzero s n (next s i))))
 
 -- what meeting records brings has no zero, where no record is zero
-flat-nonzero : (f : ℕ → List Met) (l : List ℕ) → ((i : ℕ) → any isZero (f i) ≡ true → eqb 0 i ≡ true) → any (eqb 0) l ≡ false → any isZero (flatMap f l) ≡ false
-flat-nonzero f l h e = any-flat isZero f l ∙ any-narrower (λ i. any isZero (f i)) (eqb 0) l h e
+flat-nonzero : (f : ℕ → List Met) (l : List ℕ) → ((i : ℕ) → anyOf isZero (f i) ≡ true → eqb 0 i ≡ true) → anyOf (eqb 0) l ≡ false → anyOf isZero (flatMap f l) ≡ false
+flat-nonzero f l h e = any-flat isZero f l ∙ any-narrower (λ i. anyOf isZero (f i)) (eqb 0) l h e
 
-alone-zero : (k i : ℕ) → any isZero (metAlone k i) ≡ true → eqb 0 i ≡ true
-unfolding any
-alone-zero k i e = any-cases isZero (meet k i) [] e (λ t. t) (λ t. not-both false t refl)
+alone-zero : (k i : ℕ) → anyOf isZero (metAlone k i) ≡ true → eqb 0 i ≡ true
+unfolding anyOf
+alone-zero k i e = any-cases isZero (meet k i) [] e (λ t. t) (λ t. clash {b = false} t refl)
 
-line-zero : (s : List ℕ) (i : ℕ) → any isZero (metLine s i) ≡ true → eqb 0 i ≡ true
+line-zero : (s : List ℕ) (i : ℕ) → anyOf isZero (metLine s i) ≡ true → eqb 0 i ≡ true
 unfolding metLine
 line-zero s i e =
     any-cases isZero (meet 3 i) (flatMap (metAlone 4) (chain s (firstText s i))) e (λ t. t)
-    (λ t. not-both (any isZero (flatMap (metAlone 4) (chain s (firstText s i)))) t (flat-nonzero (metAlone 4) (chain s (firstText s i)) (alone-zero 4) (chain-nonzero s (count s + 1) (firstText s i))))
+    (λ t. clash t (flat-nonzero (metAlone 4) (chain s (firstText s i)) (alone-zero 4) (chain-nonzero s (count s + 1) (firstText s i))))
 
-arrow-zero : (s : List ℕ) (i : ℕ) → any isZero (metArrow s i) ≡ true → eqb 0 i ≡ true
+arrow-zero : (s : List ℕ) (i : ℕ) → anyOf isZero (metArrow s i) ≡ true → eqb 0 i ≡ true
 unfolding metArrow
 arrow-zero s i e =
     any-cases isZero (meet 2 i) (flatMap (metLine s) (chain s (firstLine s i))) e (λ t. t)
-    (λ t. not-both (any isZero (flatMap (metLine s) (chain s (firstLine s i)))) t (flat-nonzero (metLine s) (chain s (firstLine s i)) (line-zero s) (chain-nonzero s (count s + 1) (firstLine s i))))
+    (λ t. clash t (flat-nonzero (metLine s) (chain s (firstLine s i)) (line-zero s) (chain-nonzero s (count s + 1) (firstLine s i))))
 
-met-nonzero : (s : List ℕ) → any isZero (met s) ≡ false
+met-nonzero : (s : List ℕ) → anyOf isZero (met s) ≡ false
 unfolding met
 met-nonzero s =
     any-join isZero (flatMap (metAlone 1) (chain s (firstState s))) (flatMap (metArrow s) (chain s (firstArrow s)))
-    ∙ or-none (any isZero (flatMap (metAlone 1) (chain s (firstState s)))) (any isZero (flatMap (metArrow s) (chain s (firstArrow s))))
+    ∙ or-none (anyOf isZero (flatMap (metAlone 1) (chain s (firstState s)))) (anyOf isZero (flatMap (metArrow s) (chain s (firstArrow s))))
     (flat-nonzero (metAlone 1) (chain s (firstState s)) (alone-zero 1) (chain-nonzero s (count s + 1) (firstState s)))
     (flat-nonzero (metArrow s) (chain s (firstArrow s)) (arrow-zero s) (chain-nonzero s (count s + 1) (firstArrow s)))
 
@@ -137,20 +138,20 @@ zero-absent s = any-map (eqb 0) (λ (x : Met). x .index) (met s) ∙ met-nonzero
 
 -- ---- the four parts of the test
 module _ (s : List ℕ) where
-  above-absent : (k : ℕ) (xs : List Met) → any (isAbove s) xs ≡ false → count s < k → isAmong k (map (λ (x : Met). x .index) xs) ≡ false
+  above-absent : (k : ℕ) (xs : List Met) → anyOf (isAbove s) xs ≡ false → count s < k → isAmong k (map (λ (x : Met). x .index) xs) ≡ false
   above-absent k xs e h =
       any-map (eqb k) (λ (x : Met). x .index) xs
       ∙ any-narrower (λ x. eqb k (x .index)) (isAbove s) xs
       (λ x t. let q : k ≡ x .index = eqb-true k (x .index) t in lt-ltb (count s) (x .index) (omega arith))
       e
 
-  none-above : (xs : List Met) → ((k : ℕ) → count s < k → isAmong k (map (λ (x : Met). x .index) xs) ≡ false) → any (isAbove s) xs ≡ false
-  unfolding any
+  none-above : (xs : List Met) → ((k : ℕ) → count s < k → isAmong k (map (λ (x : Met). x .index) xs) ≡ false) → anyOf (isAbove s) xs ≡ false
+  unfolding anyOf
   none-above [] h = refl
   none-above (x ∷ xs) h =
       any-none (isAbove s) x xs
       (by-lt (count s) (x .index)
-      (λ l. not-both (isAmong (x .index) (x .index ∷ map (λ (y : Met). y .index) xs)) (any-here (eqb (x .index)) (x .index) (map (λ (y : Met). y .index) xs) (eq-eqb (x .index) (x .index) refl)) (h (x .index) l))
+      (λ l. clash (any-here (eqb (x .index)) (x .index) (map (λ (y : Met). y .index) xs) (eq-eqb (x .index) (x .index) refl)) (h (x .index) l))
       (λ l. le-ltb (count s) (x .index) l))
       (none-above xs (λ k l. any-rest (eqb k) (x .index) (map (λ (y : Met). y .index) xs) (h k l)))
 
@@ -158,23 +159,23 @@ module _ (s : List ℕ) where
   tail-one = repeats (indices s) || anyUp (isMissed (indices s)) 1 (count s + 1)
 
   module _ (e : wrongChains s ≡ false) where
-    pub right-inside : any (isAbove s) (met s) ≡ false
+    pub right-inside : anyOf (isAbove s) (met s) ≡ false
     unfolding wrongChains
-    right-inside = or-left (any (isAbove s) (met s)) (any (isOther s) (met s) || tail-one) e
+    right-inside = or-false-left (anyOf (isAbove s) (met s)) (anyOf (isOther s) (met s) || tail-one) e
 
-    pub right-kinds : any (isOther s) (met s) ≡ false
+    pub right-kinds : anyOf (isOther s) (met s) ≡ false
     unfolding wrongChains
-    right-kinds = or-left (any (isOther s) (met s)) tail-one (or-right (any (isAbove s) (met s)) (any (isOther s) (met s) || tail-one) e)
+    right-kinds = or-false-left (anyOf (isOther s) (met s)) tail-one (or-false-right (anyOf (isAbove s) (met s)) (anyOf (isOther s) (met s) || tail-one) e)
 
     right-tail : tail-one ≡ false
     unfolding wrongChains
-    right-tail = or-right (any (isOther s) (met s)) tail-one (or-right (any (isAbove s) (met s)) (any (isOther s) (met s) || tail-one) e)
+    right-tail = or-false-right (anyOf (isOther s) (met s)) tail-one (or-false-right (anyOf (isAbove s) (met s)) (anyOf (isOther s) (met s) || tail-one) e)
 
     pub right-once : repeats (indices s) ≡ false
-    right-once = or-left (repeats (indices s)) (anyUp (isMissed (indices s)) 1 (count s + 1)) right-tail
+    right-once = or-false-left (repeats (indices s)) (anyUp (isMissed (indices s)) 1 (count s + 1)) right-tail
 
     pub right-all : anyUp (isMissed (indices s)) 1 (count s + 1) ≡ false
-    right-all = or-right (repeats (indices s)) (anyUp (isMissed (indices s)) 1 (count s + 1)) right-tail
+    right-all = or-false-right (repeats (indices s)) (anyUp (isMissed (indices s)) 1 (count s + 1)) right-tail
 
     out-absent : (k : ℕ) → count s < k → isAmong k (indices s) ≡ false
     unfolding indices
@@ -198,7 +199,7 @@ module _ (s : List ℕ) where
         (λ g. let z : occurrences k (indices s) ≡ 1 = o .each k g l in omega arith)
         (λ g. let e : k ≡ 0 = omega arith in let z : occurrences k (indices s) ≡ 0 = rw e (o .no-zero) in omega arith))
 
-    inside-back : any (isAbove s) (met s) ≡ false
+    inside-back : anyOf (isAbove s) (met s) ≡ false
     unfolding indices
     inside-back = none-above (met s) (λ k l. absent-back k (indices s) (o .no-above k l))
 
@@ -212,7 +213,7 @@ module _ (s : List ℕ) where
     pub once-back : wrongChains s ≡ false
     unfolding wrongChains
     once-back =
-        or-none (any (isAbove s) (met s)) (any (isOther s) (met s) || tail-one) inside-back
-        (or-none (any (isOther s) (met s)) tail-one
+        or-none (anyOf (isAbove s) (met s)) (anyOf (isOther s) (met s) || tail-one) inside-back
+        (or-none (anyOf (isOther s) (met s)) tail-one
         (none-all (isOther s) (met s) (meet 0 0) (λ j h. ap not (eq-eqb (kindOf s (metAt s j .index)) (metAt s j .kind) (o .kinds j h))))
         (or-none (repeats (indices s)) (anyUp (isMissed (indices s)) 1 (count s + 1)) (no-repeats (indices s) at-most) missed-back))

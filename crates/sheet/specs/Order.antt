@@ -3,7 +3,7 @@ use mathlib.Core.Path.{_≡_, refl, sym, ap, _∙_}
 use mathlib.Core.List.{List, [], _∷_, _++_}
 use Prim.Native.Nat.{ℕ}
 use native.Mathlib.Omega.{arith}
-use Rattle.laws.specs.Filter.{filter}
+use Rattle.laws.specs.Filter.{filterBy}
 use Rattle.laws.specs.Refusals.{Refusal, decide, decide-join, decide-map, numbersIn, orderBut, Clear, First, given-exactly, answered-exactly}
 use Rattle.sheet.specs.Refusals.{refusals, checkOf}
 use Rattle.sheet.specs.declared.Checked.{Checked}
@@ -12,7 +12,7 @@ use Rattle.sheet.specs.declared.Limits.{Limits}
 
 -- "Order: 11, 1, 2, 4, 3, 5, 6, 8, 9, 10, 7": a sheet alone has those of them that are neither of a layout kind, of centres, nor of an output
 pub sheet-order : (m : Limits) (s : List ℕ) → numbersIn (refusals m s) ≡ orderBut (11 ∷ 8 ∷ 9 ∷ 10 ∷ 7 ∷ [])
-unfolding filter
+unfolding filterBy
 sheet-order m s = refl
 
 same : (m n : ℕ) → Refused m ≡ Refused n → m ≡ n

@@ -4,6 +4,7 @@ use mathlib.Core.List.{List, [], _∷_, map}
 use Prim.Native.Nat.{ℕ, _+_, _*_}
 use lib.Dec.{ltb, eqb}
 use lib.ListN.{length}
+use Rattle.laws.specs.Any.{anyOf}
 use Rattle.laws.specs.Loops.{anyUp}
 use Rattle.laws.specs.Refusals.{Refusal, refusal, decide}
 use Rattle.text.specs.Utf8.{wellFormed}
@@ -12,14 +13,9 @@ use Rattle.sheet.specs.declared.Checked.{Checked}
 use Rattle.sheet.specs.declared.Checked.the-variants.{Accepted, Refused}
 use Rattle.sheet.specs.declared.Limits.{Limits}
 
--- whether p holds of some element
-unfoldable pub any : {A : Type 0} → (A → Bool) → List A → Bool
-any p [] = false
-any p (x ∷ l) = let rest = any p l in p x || rest
-
 -- whether n is an element
 abbrev pub isAmong : ℕ → List ℕ → Bool
-isAmong n l = any (eqb n) l
+isAmong n l = anyOf (eqb n) l
 
 -- whether some element stands in the list again
 unfoldable pub repeats : List ℕ → Bool
@@ -78,8 +74,8 @@ indices s = map (λ m. m .index) (met s)
 
 unfoldable pub wrongChains : List ℕ → Bool
 wrongChains s =
-    any (isAbove s) (met s)
-    || (any (isOther s) (met s)
+    anyOf (isAbove s) (met s)
+    || (anyOf (isOther s) (met s)
     || (repeats (indices s)
     || anyUp (isMissed (indices s)) 1 (count s + 1)))
 
@@ -93,23 +89,23 @@ abbrev pub longLine : Limits → List ℕ → Bool
 longLine m l = ltb (m .bytes) (length l)
 
 unfoldable pub largeArrow : Limits → Arrow → Bool
-largeArrow m a = ltb (m .lines) (length (a .lines)) || any (longLine m) (a .lines)
+largeArrow m a = ltb (m .lines) (length (a .lines)) || anyOf (longLine m) (a .lines)
 
 unfoldable pub overLimits : Limits → Graph → Bool
 overLimits m g =
     ltb (m .states) (length (g .states))
     || (ltb (m .arrows) (length (g .arrows))
-    || any (largeArrow m) (g .arrows))
+    || anyOf (largeArrow m) (g .arrows))
 
 -- ---- 6: 'a line not well-formed UTF-8'
 abbrev pub illLine : List ℕ → Bool
 illLine l = not (wellFormed l)
 
 unfoldable pub illArrow : Arrow → Bool
-illArrow a = any illLine (a .lines)
+illArrow a = anyOf illLine (a .lines)
 
 unfoldable pub illFormed : Graph → Bool
-illFormed g = any illArrow (g .arrows)
+illFormed g = anyOf illArrow (g .arrows)
 
 -- ---- the order
 

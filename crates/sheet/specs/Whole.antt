@@ -157,8 +157,8 @@ module _ (s : List ℕ) (e : wrongChains s ≡ false) where
       let b : length (flatMap (metArrow s) (arrowChain s)) ≤ length (met s) = arrows-in s in
       omega arith
 
-  pub whole : Whole s
-  whole = record {
+  pub whole-sheet : Whole s
+  whole-sheet = record {
     states = λ n. to-end (firstState s) n
         (let a : length (stateChain s) ≤ length (flatMap (metAlone 1) (stateChain s)) = flat-all (metAlone 1) (stateChain s) (alone-some 1) in
         let b : length (flatMap (metAlone 1) (stateChain s)) ≤ length (met s) = states-in s in omega arith);

@@ -11,8 +11,8 @@ use Rattle.number.specs.Number.{tooLarge, numText}
 use Rattle.sheet.specs.Sheet.{meaning}
 use Rattle.layout.specs.Layout.{Layout}
 use Rattle.plan.specs.Planned.{planRefusals}
-use Rattle.diagram.specs.Calls.{number, values, mainScreen, short, onto, writeNum, writeNumAfter}
-use Rattle.diagram.specs.Calls.{layoutFor, layoutRefusals, layout, xsAfter, ysAfter}
+use Rattle.calls.specs.Calls.{number, values, mainScreen, short, onto, writeNum, writeNumAfter}
+use Rattle.calls.specs.Calls.{layoutFor, layoutRefusals, layout, xsAfter, ysAfter}
 
 -- a sheet that is accepted, with this layout
 module _ (s : List ℕ) (kind : ℕ) (l : Layout)

@@ -5,7 +5,7 @@ use mathlib.Core.List.{List, [], _∷_, _++_, append-assoc, append-nil}
 use Prim.Native.Nat.{ℕ}
 use lib.Ieee.{Float}
 use Rattle.float.specs.Ops.{neg}
-use Rattle.float.specs.Constants.{f9, f3-5}
+use Rattle.float.specs.Constants.{arrowLength, arrowHalfWidth}
 use Rattle.number.specs.Number.{numText}
 use Rattle.shape.specs.declared.«V».{«V»}
 use Rattle.shape.specs.declared.Curve.the-variants.{Line, Quad, Cubic}
@@ -14,12 +14,6 @@ use Rattle.svg.specs.declared.Head.{Head}
 use Rattle.svg.specs.Paths.{headOf, headPath, curvePath, pointText, pointsText, moreText, pathText, curveText, headText, pointWritable, pointsWritable, pathWritable}
 
 -- ---- a test and then another
-pub and-taken : {a b r : Bool} → a ≡ true → r ≡ b → r ≡ (a && b)
-and-taken e f = rw e f
-
-pub and-left : {a : Bool} (b : Bool) → a ≡ false → false ≡ (a && b)
-and-left b e = rw e
-
 two : (a b : Bool) → (a && b) ≡ ((a && true) && ((b && true) && true))
 two true true = refl
 two true false = refl
@@ -61,8 +55,8 @@ unfolding pathWritable pointsWritable
 head-writable h = corners (pointWritable (h .tip)) (pointWritable (h .left)) (pointWritable (h .right))
 
 -- ---- the arrowhead
-pub head-is : (tip ahead long base across side left right : «V») (angle : Float) → ahead ≡ polar angle → long ≡ mul ahead f9 → base ≡ sub tip long
-    → across ≡ vec (neg (ahead .y)) (ahead .x) → side ≡ mul across f3-5 → left ≡ add base side → right ≡ sub base side
+pub head-is : (tip ahead long base across side left right : «V») (angle : Float) → ahead ≡ polar angle → long ≡ mul ahead arrowLength → base ≡ sub tip long
+    → across ≡ vec (neg (ahead .y)) (ahead .x) → side ≡ mul across arrowHalfWidth → left ≡ add base side → right ≡ sub base side
     → _≡_ {A = Head} (record { tip = tip; left = left; right = right }) (headOf tip angle)
 unfolding headOf
 head-is tip ahead long base across side left right angle e1 e2 e3 e4 e5 e6 e7 = rw (e7, e6, e5, e4, e3, e2, e1)
@@ -75,9 +69,9 @@ point-is p = append-assoc ((32 ∷ []) ++ numText (p .x)) (32 ∷ []) (numText (
 pub from-is : (a b : «V») (letter : ℕ) → (77 ∷ []) ++ pointText a ++ (32 ∷ letter ∷ []) ++ pointText b ≡ 77 ∷ pointText a ++ (32 ∷ letter ∷ pointText b)
 from-is a b letter = append-assoc ((77 ∷ []) ++ pointText a) (32 ∷ letter ∷ []) (pointText b)
 
-pub line-is : (a b : «V») → 77 ∷ pointText a ++ (32 ∷ 76 ∷ pointText b) ≡ curveText (Line a b)
+pub line-text-is : (a b : «V») → 77 ∷ pointText a ++ (32 ∷ 76 ∷ pointText b) ≡ curveText (Line a b)
 unfolding curveText pathText moreText pointsText
-line-is a b =
+line-text-is a b =
     let p = pointText a in
     let q = pointText b in
     sym

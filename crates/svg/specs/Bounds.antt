@@ -1,4 +1,4 @@
--- The bounds that Grammar puts on the turns of a sequence and of a path are never met: each is what its production says, with no bound. Assumes nothing.
+-- The bounds that Grammar puts on the steps of a sequence and of a path are never met: each is what its production says, with no bound. Assumes nothing.
 use mathlib.Core.Path.{_≡_, refl, ap}
 use mathlib.Core.Bool.{Bool, true, false, cond, _||_}
 use mathlib.Core.List.{List, [], _∷_, _++_}
@@ -11,7 +11,7 @@ use lib.ListN.{length}
 use borrow.Author.Tests.{eqb-false}
 use Rattle.laws.specs.Cases.{by-bool}
 use Rattle.number.specs.Reading.{isDigit, leading, following}
-use Rattle.svg.specs.Grammar.{isSpace, skip, isChar, Numeral, Segment, Reader, CommandReader, orElse, comma, pastCommaWsp, hasCommaWsp, commaWsp, _then_, _apart_, sequenceBy, sequence, sign, someDigits, pointDigits, Plain, plainNumber, Power, exponentOf, raised, signedNumber, number, coordinate, flag, coordinatePair, coordinatePairDouble, coordinatePairTriplet, ellipticalArcArgument, lettered, closepath, firstOf, moveto, lineto, horizontalLineto, verticalLineto, curveto, smoothCurveto, quadraticBezierCurveto, smoothQuadraticBezierCurveto, ellipticalArc, drawtoCommand, drawtoCommands, svgPath}
+use Rattle.svg.specs.Grammar.{isSpace, skip, isChar, Numeral, Segment, SvgReader, CommandReader, orElse, comma, pastCommaWsp, hasCommaWsp, commaWsp, _then_, _apart_, sequenceBy, sequence, sign, someDigits, pointDigits, PlainNumber, plainNumber, Power, exponentOf, raised, signedNumber, svgNumber, coordinate, flag, coordinatePair, coordinatePairDouble, coordinatePairTriplet, ellipticalArcArgument, lettered, closepath, firstOf, moveto, lineto, horizontalLineto, verticalLineto, curveto, smoothCurveto, quadraticBezierCurveto, smoothQuadraticBezierCurveto, ellipticalArc, drawtoCommand, drawtoCommands, svgPath}
 
 -- ---- what was read, taken apart
 module _ {A B : Type 0} where
@@ -83,7 +83,7 @@ unfolding pointDigits
 point-take [] r h = nothing-read r h
 point-take (b ∷ l) r h = uncond (isChar "." b) (someDigits l) none r h (λ t e. omega (arith, digits-take l r e)) (λ t e. nothing-read r e)
 
-plain-take : (l : List ℕ) (n : Plain) → plainNumber l ≡ some n → length (n .rest) < length l
+plain-take : (l : List ℕ) (n : PlainNumber) → plainNumber l ≡ some n → length (n .rest) < length l
 unfolding plainNumber
 plain-take l n h =
     unelse _ _ n h
@@ -98,7 +98,7 @@ power-left (b ∷ l) p h =
     (λ t e. let d = unbind _ _ p e in let f = unsome (d .gives) in rw (← f) (omega (arith, digits-take (sign l .1) (d .first) (d .is), sign-length l)))
     (λ t e. nothing-read p e)
 
-raised-left : (minus : Bool) (n : Plain) (o : Option Power) → exponentOf (n .rest) ≡ o → length (raised minus n o .1) ≤ length (n .rest)
+raised-left : (minus : Bool) (n : PlainNumber) (o : Option Power) → exponentOf (n .rest) ≡ o → length (raised minus n o .1) ≤ length (n .rest)
 raised-left minus n none h = omega arith
 raised-left minus n (some p) h = power-left (n .rest) p h
 
@@ -109,8 +109,8 @@ signed-take minus l r h =
     let f = unsome (b .gives) in
     rw (← f) (omega (arith, plain-take l (b .first) (b .is), raised-left minus (b .first) (exponentOf (b .first .rest)) refl))
 
-number-take : Takes number
-unfolding number
+number-take : Takes svgNumber
+unfolding svgNumber
 number-take = signed-take false
 
 coordinate-take : Takes coordinate
@@ -125,7 +125,7 @@ flag-take (b ∷ l) r h =
     (λ t e. let f = unsome e in rw (← f) (omega arith))
     (λ t e. uncond (isChar "1" b) _ none r e (λ u g. let f = unsome g in rw (← f) (omega arith)) (λ u g. nothing-read r g))
 
-module _ (p q : Reader) (t : Takes p) (u : Takes q) where
+module _ (p q : SvgReader) (t : Takes p) (u : Takes q) where
   then-take : Takes (p then q)
   unfolding _then_
   then-take l r h =
@@ -159,11 +159,11 @@ triplet-take = then-take coordinatePair coordinatePairDouble pair-take double-ta
 
 arc-take : Takes ellipticalArcArgument
 arc-take =
-    let flags : Reader = flag then flag then coordinatePair in
+    let flags : SvgReader = flag then flag then coordinatePair in
     let f : Takes flags = then-take flag (flag then coordinatePair) flag-take (then-take flag coordinatePair flag-take pair-take) in
-    let turned : Reader = coordinate apart flags in
+    let turned : SvgReader = coordinate apart flags in
     let g : Takes turned = apart-take coordinate flags coordinate-take f in
-    then-take number (number then turned) number-take (then-take number turned number-take g)
+    then-take svgNumber (svgNumber then turned) number-take (then-take svgNumber turned number-take g)
 
 -- ---- sequences
 
@@ -172,10 +172,10 @@ abbrev pub longer : Option (List Numeral × List ℕ) → List Numeral × List �
 longer o a = orElse (bind o (λ b. some (a .0 ++ b .0, b .1))) (some a)
 
 -- sequence ::= p | (p comma_wsp? sequence)
-abbrev pub IsSequence : Reader → Type 0
+abbrev pub IsSequence : SvgReader → Type 0
 IsSequence p = (l : List ℕ) → sequence p l ≡ bind (p l) (λ a. longer (sequence p (pastCommaWsp (a .1))) a)
 
-module _ (p : Reader) (t : Takes p) where
+module _ (p : SvgReader) (t : Takes p) where
   same-by : (f g : ℕ) (l : List ℕ) → length l < f → length l < g → sequenceBy p f l ≡ sequenceBy p g l
   unfolding sequenceBy bind
   same-by zero g l h k = absurd (omega arith)
@@ -210,7 +210,7 @@ module _ (p : Reader) (t : Takes p) where
   sequence-take l r h = by-take (suc (length l)) l r h
 
 -- ---- commands
-after-take : (upper lower : Char) (p : Reader) → Takes p → Takes (lettered upper lower (sequence p))
+after-take : (upper lower : Char) (p : SvgReader) → Takes p → Takes (lettered upper lower (sequence p))
 unfolding lettered
 after-take upper lower p t [] r h = nothing-read r h
 after-take upper lower p t (b ∷ l) r h =

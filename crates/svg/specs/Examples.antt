@@ -10,7 +10,7 @@ use Rattle.laws.specs.Loops.{over}
 use Rattle.text.specs.Digits.{value}
 use Rattle.text.specs.Ascii.{ascii}
 use Rattle.number.specs.Reading.{leading, following}
-use Rattle.svg.specs.Grammar.{Numeral, numeral, Segment, segment, svgPath, drawtoCommands, drawtoCommand, firstOf, lettered, closepath, sequence, sequenceBy, _then_, _apart_, commaWsp, hasCommaWsp, pastCommaWsp, comma, skip, coordinate, number, signedNumber, flag, plainNumber, exponentOf, pointDigits, someDigits, sign, orElse}
+use Rattle.svg.specs.Grammar.{Numeral, numeral, Segment, segment, svgPath, drawtoCommands, drawtoCommand, firstOf, lettered, closepath, sequence, sequenceBy, _then_, _apart_, commaWsp, hasCommaWsp, pastCommaWsp, comma, skip, coordinate, svgNumber, signedNumber, flag, plainNumber, exponentOf, pointDigits, someDigits, sign, orElse}
 
 -- a whole number, one below zero, one with a decimal; a command
 abbrev whole : ℕ → Numeral
@@ -25,8 +25,8 @@ tenths n = numeral false n 1 false 0
 abbrev command : Char → List Numeral → Segment
 command letter numbers = segment (code letter) numbers
 
-abbrev pub paths : List (String × List Segment)
-paths =
+abbrev pub pathExamples : List (String × List Segment)
+pathExamples =
     ("M1,2L3,4", command "M" (whole 1 ∷ whole 2 ∷ []) ∷ command "L" (whole 3 ∷ whole 4 ∷ []) ∷ [])
     ∷ ("M 1 2 3 4", command "M" (whole 1 ∷ whole 2 ∷ whole 3 ∷ whole 4 ∷ []) ∷ [])
     ∷ ("M .5 1", command "M" (tenths 5 ∷ whole 1 ∷ []) ∷ [])
@@ -74,7 +74,7 @@ abbrev letters : String → Option (List ℕ)
 letters t = bind (svgPath (ascii t)) (λ cs. some (map (λ c. c .letter) cs))
 
 pub record Examples : Type 0 where
-  pub are : map (λ e. svgPath (ascii (e .0))) paths ≡ map (λ e. some (e .1)) paths
+  pub are : map (λ e. svgPath (ascii (e .0))) pathExamples ≡ map (λ e. some (e .1)) pathExamples
   -- each kind of white space between two numbers
   pub parted : map (λ b. svgPath (ascii "M1" ++ (b ∷ ascii "2"))) spaces ≡ map (λ b. some (command "M" (whole 1 ∷ whole 2 ∷ []) ∷ [])) spaces
   -- every letter, upper and lower case
@@ -82,6 +82,6 @@ pub record Examples : Type 0 where
   pub lower : letters "m0 0l1 1h1v1c1 1 1 1 1 1s1 1 1 1q1 1 1 1t1 1a1 1 0 0 0 1 1z" ≡ some (ascii "mlhvcsqtaz")
   pub are-not : map (λ t. svgPath (ascii t)) noPaths ≡ map (λ t. none) noPaths
 
-pub examples : Examples
-unfolding svgPath drawtoCommands drawtoCommand firstOf lettered closepath sequence sequenceBy _then_ _apart_ commaWsp hasCommaWsp pastCommaWsp comma skip coordinate number signedNumber flag plainNumber exponentOf pointDigits someDigits sign leading following value over orElse bind
-examples = record { are = refl; parted = refl; upper = refl; lower = refl; are-not = refl }
+pub svg-examples : Examples
+unfolding svgPath drawtoCommands drawtoCommand firstOf lettered closepath sequence sequenceBy _then_ _apart_ commaWsp hasCommaWsp pastCommaWsp comma skip coordinate svgNumber signedNumber flag plainNumber exponentOf pointDigits someDigits sign leading following value over orElse bind
+svg-examples = record { are = refl; parted = refl; upper = refl; lower = refl; are-not = refl }

@@ -43,8 +43,8 @@ abbrev pub segment : ℕ → List Numeral → Segment
 segment letter numbers = record { letter = letter; numbers = numbers }
 
 -- what reads numbers gives those it read and the text that is left, or nothing
-abbrev pub Reader : Type 0
-Reader = List ℕ → Option (List Numeral × List ℕ)
+abbrev pub SvgReader : Type 0
+SvgReader = List ℕ → Option (List Numeral × List ℕ)
 
 -- what reads a command gives it and the text that is left
 abbrev pub CommandReader : Type 0
@@ -90,14 +90,14 @@ commaWsp l = cond (hasCommaWsp l) (some (pastCommaWsp l)) none
 
 -- p comma_wsp? q
 infixr 5 _then_ _apart_
-unfoldable pub _then_ : Reader → Reader → Reader
+unfoldable pub _then_ : SvgReader → SvgReader → SvgReader
 _then_ p q l =
     bind (p l)
     (λ a. bind (q (pastCommaWsp (a .1)))
     (λ b. some (a .0 ++ b .0, b .1)))
 
 -- p comma_wsp q
-unfoldable pub _apart_ : Reader → Reader → Reader
+unfoldable pub _apart_ : SvgReader → SvgReader → SvgReader
 _apart_ p q l =
     bind (p l)
     (λ a. bind (commaWsp (a .1))
@@ -105,14 +105,14 @@ _apart_ p q l =
     (λ b. some (a .0 ++ b .0, b .1))))
 
 -- sequence ::= p | (p comma_wsp? sequence)
--- each p takes a byte at least, so f turns are enough where f is above the number of bytes: Bounds has this without f
-unfoldable pub sequenceBy : Reader → ℕ → Reader
+-- each p takes a byte at least, so f steps are enough where f is above the number of bytes: Bounds has this without f
+unfoldable pub sequenceBy : SvgReader → ℕ → SvgReader
 sequenceBy p zero l = none
 sequenceBy p (suc f) l =
     bind (p l)
     (λ a. let more = bind (sequenceBy p f (pastCommaWsp (a .1))) (λ b. some (a .0 ++ b .0, b .1)) in orElse more (some a))
 
-unfoldable pub sequence : Reader → Reader
+unfoldable pub sequence : SvgReader → SvgReader
 sequence p l = sequenceBy p (suc (length l)) l
 
 -- ---- numbers
@@ -133,16 +133,16 @@ pointDigits [] = none
 pointDigits (b ∷ l) = cond (isChar "." b) (someDigits l) none
 
 -- digits, how many of them are decimals, and the text that is left
-pub record Plain : Type 0 where
+pub record PlainNumber : Type 0 where
   pub digits : ℕ
   pub decimals : ℕ
   pub rest : List ℕ
 
-abbrev pub plainAs : ℕ → ℕ → List ℕ → Plain
+abbrev pub plainAs : ℕ → ℕ → List ℕ → PlainNumber
 plainAs digits decimals rest = record { digits = digits; decimals = decimals; rest = rest }
 
 -- number ::= ([0-9])+ | ([0-9])* "." ([0-9])+
-unfoldable pub plainNumber : List ℕ → Option Plain
+unfoldable pub plainNumber : List ℕ → Option PlainNumber
 plainNumber l =
     orElse
     (bind (pointDigits (following l)) (λ d. some (plainAs (value (leading l ++ d .0)) (length (d .0)) (d .1))))
@@ -164,22 +164,22 @@ exponentOf (b ∷ l) =
     cond (isChar "e" b || isChar "E" b) read none
 
 -- number exponent?
-abbrev pub raised : Bool → Plain → Option Power → List Numeral × List ℕ
+abbrev pub raised : Bool → PlainNumber → Option Power → List Numeral × List ℕ
 raised minus n none = (numeral minus (n .digits) (n .decimals) false 0 ∷ [], n .rest)
 raised minus n (some e) = (numeral minus (n .digits) (n .decimals) (e .lowered) (e .exponent) ∷ [], e .rest)
 
-unfoldable pub signedNumber : Bool → Reader
+unfoldable pub signedNumber : Bool → SvgReader
 signedNumber minus l = bind (plainNumber l) (λ n. some (raised minus n (exponentOf (n .rest))))
 
-unfoldable pub number : Reader
-number l = signedNumber false l
+unfoldable pub svgNumber : SvgReader
+svgNumber l = signedNumber false l
 
 -- coordinate ::= sign? number
-unfoldable pub coordinate : Reader
+unfoldable pub coordinate : SvgReader
 coordinate l = signedNumber (sign l .0) (sign l .1)
 
 -- flag ::= "0" | "1"
-unfoldable pub flag : Reader
+unfoldable pub flag : SvgReader
 flag [] = none
 flag (b ∷ l) =
     cond (isChar "0" b) (some (numeral false 0 0 false 0 ∷ [], l))
@@ -188,25 +188,25 @@ flag (b ∷ l) =
 -- ---- coordinates
 
 -- coordinate_pair ::= coordinate comma_wsp? coordinate
-abbrev pub coordinatePair : Reader
+abbrev pub coordinatePair : SvgReader
 coordinatePair = coordinate then coordinate
 
 -- coordinate_pair_double ::= coordinate_pair comma_wsp? coordinate_pair
-abbrev pub coordinatePairDouble : Reader
+abbrev pub coordinatePairDouble : SvgReader
 coordinatePairDouble = coordinatePair then coordinatePair
 
 -- coordinate_pair_triplet ::= coordinate_pair comma_wsp? coordinate_pair comma_wsp? coordinate_pair
-abbrev pub coordinatePairTriplet : Reader
+abbrev pub coordinatePairTriplet : SvgReader
 coordinatePairTriplet = coordinatePair then coordinatePair then coordinatePair
 
 -- elliptical_arc_argument ::= number comma_wsp? number comma_wsp? number comma_wsp flag comma_wsp? flag comma_wsp? coordinate_pair
-abbrev pub ellipticalArcArgument : Reader
-ellipticalArcArgument = number then number then coordinate apart flag then flag then coordinatePair
+abbrev pub ellipticalArcArgument : SvgReader
+ellipticalArcArgument = svgNumber then svgNumber then coordinate apart flag then flag then coordinatePair
 
 -- ---- commands
 
 -- (upper | lower) wsp* p
-unfoldable pub lettered : Char → Char → Reader → CommandReader
+unfoldable pub lettered : Char → Char → SvgReader → CommandReader
 lettered upper lower p [] = none
 lettered upper lower p (b ∷ l) =
     let read : Option (Segment × List ℕ) = bind (p (skip l)) (λ a. some (segment b (a .0), a .1)) in
@@ -274,7 +274,7 @@ drawtoCommand l =
     ∷ curveto ∷ smoothCurveto ∷ quadraticBezierCurveto ∷ smoothQuadraticBezierCurveto ∷ ellipticalArc ∷ [])
     l
 
--- (wsp* drawto_command)* wsp*, up to the end of the text; each command takes a byte at least, so f turns are enough likewise
+-- (wsp* drawto_command)* wsp*, up to the end of the text; each command takes a byte at least, so f steps are enough likewise
 unfoldable pub drawtoCommands : ℕ → List ℕ → Option (List Segment)
 drawtoCommands zero l = none
 drawtoCommands (suc f) l =

@@ -12,7 +12,7 @@ use lib.Ieee.{Float}
 use borrow.Author.Tests.{eqb-true, ne-eqb}
 use Rattle.laws.specs.Cases.{by-bool}
 use Rattle.laws.specs.Loops.{over, over-join}
-use Rattle.text.specs.Digits.{digits, placed, value, value-digits}
+use Rattle.text.specs.Digits.{digits, digitMore, value, value-digits}
 use Rattle.number.specs.Number.{Hundredths, hundredths, minusText, fraction, decimal, numText}
 use Rattle.number.specs.Reading.{isDigit, NoDigit, AllDigits, digit-is, digits-all, some-digit, digits-split}
 use Rattle.svg.specs.Grammar.{Numeral, numeral, plainAs, orElse, sign, someDigits, pointDigits, plainNumber, exponentOf, signedNumber, coordinate}
@@ -36,8 +36,8 @@ pub record Worth (n : Numeral) (h : Hundredths) : Type 0 where
   pub minus : n .minus ≡ h .minus
   pub size : n .digits * 10 ^ tensUp n * 100 ≡ h .size * 10 ^ tensDown n
 
-pub worth : (h : Hundredths) → Worth (numeralOf h) h
-worth h =
+pub numeral-worth : (h : Hundredths) → Worth (numeralOf h) h
+numeral-worth h =
     by-bool (eqb (h .size % 100) 0)
     (λ (e : eqb (h .size % 100) 0 ≡ true). rw e (record { minus = refl; size = omega (arith, eqb-true (h .size % 100) 0 e) }))
     (λ (e : eqb (h .size % 100) 0 ≡ false). by-bool (eqb (h .size % 10) 0)
@@ -75,11 +75,11 @@ module _ (n : ℕ) (rest : List ℕ) where
       let s = digits-split (digits n) rest (digits-all n) (no-digit rest h) in
       rw (s .1, no-point rest h, digits-read (digits n) rest (digits-all n) (some-digit n) (no-digit rest h), value-digits n)
 
-  some-read : (a : ℕ) (ds : List ℕ) → AllDigits (a ∷ ds) → NoDigit rest → plainNumber (digits n ++ (46 ∷ a ∷ (ds ++ rest))) ≡ some (plainAs (over placed n (a ∷ ds)) (length (a ∷ ds)) rest)
+  some-read : (a : ℕ) (ds : List ℕ) → AllDigits (a ∷ ds) → NoDigit rest → plainNumber (digits n ++ (46 ∷ a ∷ (ds ++ rest))) ≡ some (plainAs (over digitMore n (a ∷ ds)) (length (a ∷ ds)) rest)
   unfolding plainNumber pointDigits bind orElse value
   some-read a ds p h =
       let s = digits-split (digits n) (46 ∷ a ∷ (ds ++ rest)) (digits-all n) refl in
-      let v : over placed 0 (digits n ++ (a ∷ ds)) ≡ over placed n (a ∷ ds) = over-join placed 0 (digits n) (a ∷ ds) ∙ ap (λ (i : ℕ). over placed i (a ∷ ds)) (value-digits n) in
+      let v : over digitMore 0 (digits n ++ (a ∷ ds)) ≡ over digitMore n (a ∷ ds) = over-join digitMore 0 (digits n) (a ∷ ds) ∙ ap (λ (i : ℕ). over digitMore i (a ∷ ds)) (value-digits n) in
       rw (s .1, s .0, digits-read (a ∷ ds) rest p (omega arith) h, v)
 
 -- ---- a number with its sign read

@@ -5,7 +5,7 @@ use Prim.Native.Nat.{ℕ}
 use Prim.Native.Char.{code}
 use lib.Ieee.{Float}
 use Rattle.float.specs.Ops.{neg}
-use Rattle.float.specs.Constants.{f9, f3-5}
+use Rattle.float.specs.Constants.{arrowLength, arrowHalfWidth}
 use Rattle.number.specs.Number.{numText, writable}
 use Rattle.shape.specs.declared.«V».{«V»}
 use Rattle.shape.specs.declared.Curve.{Curve}
@@ -45,17 +45,17 @@ curvePath (Cubic a c d b) = moveTo a ∷ cubicTo c d b ∷ []
 unfoldable pub headOf : «V» → Float → Head
 headOf tip angle =
     let ahead = polar angle in
-    let base = sub tip (mul ahead f9) in
-    let side = mul (vec (neg (ahead .y)) (ahead .x)) f3-5 in
+    let base = sub tip (mul ahead arrowLength) in
+    let side = mul (vec (neg (ahead .y)) (ahead .x)) arrowHalfWidth in
     record { tip = tip; left = add base side; right = sub base side }
 
 abbrev pub headPath : Head → List (Command «V»)
 headPath h = moveTo (h .tip) ∷ lineTo (h .left) ∷ lineTo (h .right) ∷ closePath ∷ []
 
--- ---- their text; 32 is a blank
+-- ---- their text
 
 unfoldable pub pointText : «V» → List ℕ
-pointText p = 32 ∷ numText (p .x) ++ (32 ∷ numText (p .y))
+pointText p = code " " ∷ numText (p .x) ++ (code " " ∷ numText (p .y))
 
 unfoldable pub pointsText : List «V» → List ℕ
 pointsText [] = []
@@ -67,7 +67,7 @@ commandText c = c .letter ∷ pointsText (c .points)
 -- a blank before each command but the first
 unfoldable pub moreText : List (Command «V») → List ℕ
 moreText [] = []
-moreText (c ∷ cs) = 32 ∷ commandText c ++ moreText cs
+moreText (c ∷ cs) = code " " ∷ commandText c ++ moreText cs
 
 unfoldable pub pathText : List (Command «V») → List ℕ
 pathText [] = []

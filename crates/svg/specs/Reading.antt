@@ -17,8 +17,8 @@ use Rattle.shape.specs.declared.«V».{«V»}
 use Rattle.shape.specs.declared.Curve.{Curve}
 use Rattle.shape.specs.declared.Curve.the-variants.{Line, Quad, Cubic}
 use Rattle.svg.specs.Paths.{Command, moveTo, lineTo, quadTo, cubicTo, closePath, curvePath, headPath, headOf, pointText, pointsText, commandText, moreText, pathText, curveText, headText}
-use Rattle.svg.specs.Grammar.{isSpace, skip, Numeral, Segment, segment, Reader, orElse, comma, pastCommaWsp, _then_, sequenceBy, sequence, sign, someDigits, pointDigits, plainNumber, signedNumber, coordinate, coordinatePair, coordinatePairDouble, coordinatePairTriplet, lettered, closepath, moveto, firstOf, drawtoCommand, drawtoCommands, svgPath}
-use Rattle.svg.specs.Numbers.{numeralOf, Stops, num-read, worth}
+use Rattle.svg.specs.Grammar.{isSpace, skip, Numeral, Segment, segment, SvgReader, orElse, comma, pastCommaWsp, _then_, sequenceBy, sequence, sign, someDigits, pointDigits, plainNumber, signedNumber, coordinate, coordinatePair, coordinatePairDouble, coordinatePairTriplet, lettered, closepath, moveto, firstOf, drawtoCommand, drawtoCommands, svgPath}
+use Rattle.svg.specs.Numbers.{numeralOf, Stops, num-read, numeral-worth}
 use Rattle.svg.specs.Reads.{coordinates, SameNumbers, SameCommands, ReadsAs, Paths}
 
 -- ---- what a point and a command are read as
@@ -49,7 +49,7 @@ unfolding pastCommaWsp skip
 gap-none l h = ap (λ (m : List ℕ). skip (comma m)) (skip-none l h) ∙ ap skip (comma-none l h) ∙ skip-none l h
 
 -- ---- p, comma_wsp?, q; and a sequence of one
-module _ (p q : Reader) where
+module _ (p q : SvgReader) where
   then-read : (l m rest : List ℕ) (ns ks : List Numeral) → p l ≡ some (ns, m) → q (pastCommaWsp m) ≡ some (ks, rest) → (p then q) l ≡ some (ns ++ ks, rest)
   unfolding _then_ bind
   then-read l m rest ns ks e f = rw (e, f)
@@ -58,7 +58,7 @@ module _ (p q : Reader) where
   unfolding _then_ bind
   then-none l e = rw e
 
-module _ (p : Reader) where
+module _ (p : SvgReader) where
   sequence-none : (f : ℕ) (l : List ℕ) → p l ≡ none → sequenceBy p f l ≡ none
   unfolding sequenceBy bind
   sequence-none zero l e = refl
@@ -96,7 +96,7 @@ pair-read p rest s =
     (ap coordinate (gap-none (numText (p .y) ++ rest) (num-begins (p .y) rest)) ∙ num-read (p .y) rest s)
 
 -- a pair, and what reads on from the next
-pair-then : (q : Reader) (p r : «V») (l rest : List ℕ) (ks : List Numeral) → q (pairText r l) ≡ some (ks, rest) → (coordinatePair then q) (pairText p (32 ∷ pairText r l)) ≡ some (numeralsOf p ++ ks, rest)
+pair-then : (q : SvgReader) (p r : «V») (l rest : List ℕ) (ks : List Numeral) → q (pairText r l) ≡ some (ks, rest) → (coordinatePair then q) (pairText p (32 ∷ pairText r l)) ≡ some (numeralsOf p ++ ks, rest)
 pair-then q p r l rest ks e =
     then-read coordinatePair q (pairText p (32 ∷ pairText r l)) (32 ∷ pairText r l) rest (numeralsOf p) ks
     (pair-read p (32 ∷ pairText r l) (refl, refl, refl))
@@ -115,7 +115,7 @@ abbrev Over : List ℕ → Type 0
 Over rest = Stops rest × (coordinate (pastCommaWsp rest) ≡ none)
 
 -- the arguments of a letter: one group of pairs
-group-read : (p : Reader) (a : «V») (l rest : List ℕ) (ns : List Numeral) → p (pairText a l) ≡ some (ns, rest) → p (pastCommaWsp rest) ≡ none → sequence p (skip (32 ∷ pairText a l)) ≡ some (ns, rest)
+group-read : (p : SvgReader) (a : «V») (l rest : List ℕ) (ns : List Numeral) → p (pairText a l) ≡ some (ns, rest) → p (pastCommaWsp rest) ≡ none → sequence p (skip (32 ∷ pairText a l)) ≡ some (ns, rest)
 unfolding skip
 group-read p a l rest ns e f = ap (sequence p) (skip-none (pairText a l) (pair-begins a l)) ∙ sequence-one p (pairText a l) rest ns e f
 
@@ -249,19 +249,19 @@ head-read tip angle =
 same-numbers : (ps : List «V») → SameNumbers (flatMap numeralsOf ps) (coordinates ps)
 unfolding flatMap
 same-numbers [] = tt
-same-numbers (p ∷ ps) = (worth (hundredths (p .x)), (worth (hundredths (p .y)), same-numbers ps))
+same-numbers (p ∷ ps) = (numeral-worth (hundredths (p .x)), (numeral-worth (hundredths (p .y)), same-numbers ps))
 
 same-commands : (cs : List (Command «V»)) → SameCommands (map segmentOf cs) cs
 same-commands [] = tt
 same-commands (c ∷ cs) = (record { letter = refl; numbers = same-numbers (c .points) }, same-commands cs)
 
-pub curves : (k : Curve) → ReadsAs (curveText k) (curvePath k)
-curves k = record { segments = map segmentOf (curvePath k); read = curve-read k; same = same-commands (curvePath k) }
+pub curves-read : (k : Curve) → ReadsAs (curveText k) (curvePath k)
+curves-read k = record { segments = map segmentOf (curvePath k); read = curve-read k; same = same-commands (curvePath k) }
 
-pub heads : (tip : «V») (angle : Float) → ReadsAs (headText tip angle) (headPath (headOf tip angle))
-heads tip angle =
+pub heads-read : (tip : «V») (angle : Float) → ReadsAs (headText tip angle) (headPath (headOf tip angle))
+heads-read tip angle =
     let cs = headPath (headOf tip angle) in
     record { segments = map segmentOf cs; read = head-read tip angle; same = same-commands cs }
 
-pub paths : Paths
-paths = record { curves = curves; heads = heads; rounded = writable-rounded }
+pub svg-paths : Paths
+svg-paths = record { curves = curves-read; heads = heads-read; rounded = writable-rounded }

@@ -8,7 +8,7 @@ use Prim.Native.Nat.{ℕ}
 use lib.Ieee.{Float}
 use lib.Ieee.Scale.{finite}
 use Rattle.number.specs.Number.{hundredths, writable}
-use Rattle.number.specs.Rounded.{Rounded}
+use Rattle.number.specs.Rounded.{HundredthsRounded}
 use Rattle.shape.specs.declared.«V».{«V»}
 use Rattle.shape.specs.declared.Curve.{Curve}
 use Rattle.svg.specs.Paths.{Command, curvePath, headPath, headOf, curveText, headText}
@@ -49,4 +49,4 @@ pub record Paths : Type 0 where
   -- and of every arrowhead
   pub heads : (tip : «V») (angle : Float) → ReadsAs (headText tip angle) (headPath (headOf tip angle))
   -- the hundredths of a finite number that may be written are v · 100, rounded to a whole number
-  pub rounded : (v : Float) → writable v ≡ true → finite v ≡ true → Rounded v
+  pub rounded : (v : Float) → writable v ≡ true → finite v ≡ true → HundredthsRounded v

@@ -6,7 +6,13 @@ ghost use mathlib.Core.Path.{_≡_};
 ghost use mathlib.Core.Bool.{_&&_};
 ghost use mathlib.Core.List.{[], _∷_, _++_};
 ghost use Rattle.laws.specs.Writers.{Wrote};
+ghost use Rattle.text.specs.Ascii.{ascii};
 ghost use Rattle.svg.specs.Paths as S;
+
+// The length of an arrowhead from its base to its tip, and half the width of its base.
+const ARROW_LENGTH: f64 = 9.0;
+
+const ARROW_HALF_WIDTH: f64 = 3.5;
 
 // The corners of an arrowhead.
 pub struct Head {
@@ -20,8 +26,8 @@ pub fn arrowhead(tip: V, angle: f64) -> Head
     ensures { λ r. ⌜ r ≡ S.headOf tip angle ⌝ }
 {
     let ahead = V::polar(angle);
-    let base = tip.sub(ahead.mul(9.0));
-    let side = V::new(-ahead.y, ahead.x).mul(3.5);
+    let base = tip.sub(ahead.mul(ARROW_LENGTH));
+    let side = V::new(-ahead.y, ahead.x).mul(ARROW_HALF_WIDTH);
     let left = base.add(side);
     let right = base.sub(side);
     Head { tip, left, right }
@@ -89,7 +95,7 @@ fn put_point(out: &mut [u8], at: usize, p: V) -> usize
 
 // A blank and a command's letter.
 fn put_letter(out: &mut [u8], at: usize, letter: u8) -> usize
-    ensures { λ r. ⌜ Wrote (now (out .entry)) at (now (out .exit)) r (32 ∷ letter ∷ []) ⌝ }
+    ensures { λ r. ⌜ Wrote (now (out .entry)) at (now (out .exit)) r (ascii " " ++ (letter ∷ [])) ⌝ }
 {
     let next = text::put_byte(out, at, b' ');
     text::put_byte(out, next, letter)
@@ -97,7 +103,9 @@ fn put_letter(out: &mut [u8], at: usize, letter: u8) -> usize
 
 // `M` and a point, then another command and its first point.
 fn put_from(out: &mut [u8], at: usize, a: V, letter: u8, b: V) -> usize
-    ensures { λ r. ⌜ Wrote (now (out .entry)) at (now (out .exit)) r (77 ∷ S.pointText a ++ (32 ∷ letter ∷ S.pointText b)) ⌝ }
+    ensures { λ r.
+        let text = ascii "M" ++ S.pointText a ++ (ascii " " ++ (letter ∷ S.pointText b)) in
+        ⌜ Wrote (now (out .entry)) at (now (out .exit)) r text ⌝ }
 {
     let first = text::put_byte(out, at, b'M');
     let next = put_point(out, first, a);

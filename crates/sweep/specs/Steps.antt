@@ -1,4 +1,4 @@
--- What the code adds up, arrow by arrow, and a turn of each of its loops. Assumes nothing.
+-- What the code adds up, arrow by arrow, and a step of each of its loops. Assumes nothing.
 use mathlib.Core.Path.{_≡_, refl, sym, ap, _∙_}
 use mathlib.Core.Bool.{Bool}
 use mathlib.Core.List.{List, [], _∷_, flatMap}
@@ -7,13 +7,18 @@ use native.Mathlib.Nat.{not-suc-le-zero, add-zero}
 use native.Mathlib.Omega.{arith}
 use lib.ListN.{length}
 use lib.Ieee.{Float}
-use Rattle.laws.specs.Filter.{filter, filter-join}
+use Rattle.laws.specs.Filter.{filterBy, filter-join}
 use Rattle.laws.specs.Loops.{over, over-join}
 use Rattle.float.specs.Constants.{f0}
-use Rattle.float.specs.Ops.{_⊕_, _⊘_, count}
-use Rattle.columns.specs.Columns.{Arrow}
+use Rattle.float.specs.Ops.{_⊕_, _⊘_, ofNat}
+use Rattle.columns.specs.Columns.{EndPair}
+use Rattle.laws.specs.Split.{split}
 use Rattle.sweep.specs.declared.Sum.{Sum}
-use Rattle.sweep.specs.Sweeps.{slot, total, otherEnd, neighbours, within, meanOr}
+use Rattle.sweep.specs.Sweeps.{Arranged, arranged, slot, slotTotal, otherEnd, neighbours, inColumn, meanOr}
+
+-- the columns that lie one after another in an order, by their sizes, and the slots
+abbrev pub arrangedBy : List ℕ → List ℕ → List Float → Arranged
+arrangedBy sizes order slots = arranged (split sizes order) slots
 
 abbrev pub sumOf : Float → ℕ → Sum
 sumOf t k = record { total = t; count = k }
@@ -23,19 +28,19 @@ addSlot slots s w = sumOf (s .total ⊕ slot slots w) (s .count + 1)
 
 -- the slots of those of some states that are in a column, or are not
 unfoldable pub addAll : Bool → List ℕ → List Float → Sum → List ℕ → Sum
-addAll inside column slots s ws = over (addSlot slots) s (filter (within inside column) ws)
+addAll inside column slots s ws = over (addSlot slots) s (filterBy (inColumn inside column) ws)
 
-unfoldable pub addEnd : ℕ → ℕ → Bool → List ℕ → List Float → Sum → Arrow → Sum
+unfoldable pub addEnd : ℕ → ℕ → Bool → List ℕ → List Float → Sum → EndPair → Sum
 addEnd n v inside column slots s a = addAll inside column slots s (otherEnd n v a)
 
 -- arrow by arrow, and all
-pub ends-all : (n v : ℕ) (inside : Bool) (column : List ℕ) (slots : List Float) (s : Sum) (arrows : List Arrow) → over (addEnd n v inside column slots) s arrows ≡ addAll inside column slots s (neighbours n arrows v)
-unfolding over neighbours flatMap addAll addEnd filter
+pub ends-all : (n v : ℕ) (inside : Bool) (column : List ℕ) (slots : List Float) (s : Sum) (arrows : List EndPair) → over (addEnd n v inside column slots) s arrows ≡ addAll inside column slots s (neighbours n arrows v)
+unfolding over neighbours flatMap addAll addEnd filterBy
 ends-all n v inside column slots s [] = refl
 ends-all n v inside column slots s (a ∷ l) =
     ends-all n v inside column slots (addEnd n v inside column slots s a) l
-    ∙ sym (over-join (addSlot slots) s (filter (within inside column) (otherEnd n v a)) (filter (within inside column) (flatMap (otherEnd n v) l)))
-    ∙ ap (over (addSlot slots) s) (sym (filter-join (within inside column) (otherEnd n v a) (flatMap (otherEnd n v) l)))
+    ∙ sym (over-join (addSlot slots) s (filterBy (inColumn inside column) (otherEnd n v a)) (filterBy (inColumn inside column) (flatMap (otherEnd n v) l)))
+    ∙ ap (over (addSlot slots) s) (sym (filter-join (inColumn inside column) (otherEnd n v a) (flatMap (otherEnd n v) l)))
 
 -- the sum and the number of the slots
 sum-from : (slots : List Float) (t : Float) (k : ℕ) (ws : List ℕ) → over (addSlot slots) (sumOf t k) ws ≡ sumOf (over (λ (s : Float) (w : ℕ). s ⊕ slot slots w) t ws) (k + length ws)
@@ -44,11 +49,11 @@ sum-from slots t k [] = ap (sumOf t) (sym (add-zero k))
 sum-from slots t k (w ∷ ws) = sum-from slots (t ⊕ slot slots w) (k + 1) ws ∙ ap (sumOf (over (λ (s : Float) (w : ℕ). s ⊕ slot slots w) (t ⊕ slot slots w) ws)) (omega arith)
 
 pub sum-is : (inside : Bool) (column : List ℕ) (slots : List Float) (ws : List ℕ)
-    → addAll inside column slots (sumOf f0 0) ws ≡ sumOf (total slots (filter (within inside column) ws)) (length (filter (within inside column) ws))
-unfolding addAll total
-sum-is inside column slots ws = sum-from slots f0 0 (filter (within inside column) ws) ∙ ap (sumOf (over (λ (s : Float) (w : ℕ). s ⊕ slot slots w) f0 (filter (within inside column) ws))) (omega arith)
+    → addAll inside column slots (sumOf f0 0) ws ≡ sumOf (slotTotal slots (filterBy (inColumn inside column) ws)) (length (filterBy (inColumn inside column) ws))
+unfolding addAll slotTotal
+sum-is inside column slots ws = sum-from slots f0 0 (filterBy (inColumn inside column) ws) ∙ ap (sumOf (over (λ (s : Float) (w : ℕ). s ⊕ slot slots w) f0 (filterBy (inColumn inside column) ws))) (omega arith)
 
-pub mean-some : (slots : List Float) (ws : List ℕ) (other : Float) → 0 < length ws → total slots ws ⊘ count (length ws) ≡ meanOr slots ws other
+pub mean-some : (slots : List Float) (ws : List ℕ) (other : Float) → 0 < length ws → slotTotal slots ws ⊘ ofNat (length ws) ≡ meanOr slots ws other
 mean-some slots [] other h = absurd (not-suc-le-zero h)
 mean-some slots (w ∷ ws) other h = refl
 

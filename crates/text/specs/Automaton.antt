@@ -8,8 +8,8 @@ use Rattle.laws.specs.Loops.{over}
 use Rattle.text.specs.Utf8.{payload}
 
 -- the state next where b is in the range, else 8
-abbrev pub within : ℕ → ℕ → ℕ → ℕ → ℕ
-within b lo hi next = cond (leb lo b) (cond (leb b hi) next 8) 8
+abbrev pub nextWithin : ℕ → ℕ → ℕ → ℕ → ℕ
+nextWithin b lo hi next = cond (leb lo b) (cond (leb b hi) next 8) 8
 
 -- the state after a character's first byte
 unfoldable pub lead : ℕ → ℕ
@@ -29,13 +29,13 @@ lead b =
 unfoldable pub feedOf : ℕ → ℕ → ℕ
 feedOf st b =
     cond (eqb st 0) (lead b)
-    (cond (eqb st 1) (within b 0x80 0xbf 0)
-    (cond (eqb st 2) (within b 0x80 0xbf 1)
-    (cond (eqb st 3) (within b 0x80 0xbf 2)
-    (cond (eqb st 4) (within b 0xa0 0xbf 1)
-    (cond (eqb st 5) (within b 0x80 0x9f 1)
-    (cond (eqb st 6) (within b 0x90 0xbf 2)
-    (cond (eqb st 7) (within b 0x80 0x8f 2)
+    (cond (eqb st 1) (nextWithin b 0x80 0xbf 0)
+    (cond (eqb st 2) (nextWithin b 0x80 0xbf 1)
+    (cond (eqb st 3) (nextWithin b 0x80 0xbf 2)
+    (cond (eqb st 4) (nextWithin b 0xa0 0xbf 1)
+    (cond (eqb st 5) (nextWithin b 0x80 0x9f 1)
+    (cond (eqb st 6) (nextWithin b 0x90 0xbf 2)
+    (cond (eqb st 7) (nextWithin b 0x80 0x8f 2)
     8)))))))
 
 -- the state after the bytes of s

@@ -10,9 +10,9 @@ use lib.ListN.{getD}
 use borrow.Author.Tests.{le-ltb, ne-eqb}
 use Rattle.laws.specs.Cases.{by-bool, by-lt}
 use Rattle.laws.specs.Loops.{over}
-use Rattle.text.specs.Utf8.{Awaited, byTable, isDone, payload, gathered, codesFrom, codePoints}
-use Rattle.text.specs.Automaton.{within, lead, feedOf, gatherOf, readBy}
-use Rattle.text.specs.Table.{awaits, below, below-at, feed-high, feed-over, awaits-over, feed-table, done-is}
+use Rattle.text.specs.Utf8.{Awaited, byTable, isDone, payload, gatheredCode, codesFrom, codePoints}
+use Rattle.text.specs.Automaton.{nextWithin, lead, feedOf, gatherOf, readBy}
+use Rattle.text.specs.Table.{awaits, eachBelow, below-at, feed-high, feed-over, awaits-over, feed-table, done-is}
 
 -- what the value is below in each state: the bits gathered, and all 21 where nothing is known
 abbrev limits : List ℕ
@@ -21,7 +21,7 @@ limits = 2097152 ∷ 32768 ∷ 512 ∷ 8 ∷ 512 ∷ 512 ∷ 8 ∷ 8 ∷ []
 abbrev limit : ℕ → ℕ
 limit st = getD limits st 2097152
 
-all-first : T (below (λ b. ltb (payload b) (limit (lead b))) 256)
+all-first : T (eachBelow (λ b. ltb (payload b) (limit (lead b))) 256)
 unfolding payload lead
 all-first = tt
 
@@ -37,15 +37,11 @@ first-small b =
     (λ (k : 256 ≤ b). subst (λ (st : ℕ). payload b < limit st) (sym (feed-high 0 b k)) (omega (arith, first-high b k)))
 
 -- a later byte: the state is next or 8, and the limit there is n or all
-later : (b lo hi next n m : ℕ) → limit next ≡ n → m < n → n ≤ 2097152 → m < limit (within b lo hi next)
+later : (b lo hi next n m : ℕ) → limit next ≡ n → m < n → n ≤ 2097152 → m < limit (nextWithin b lo hi next)
 later b lo hi next n m e h k =
     by-bool (leb lo b)
     (λ p. by-bool (leb b hi) (λ q. rw (p, q, e) h) (λ q. rw (p, q) (omega arith)))
     (λ p. rw p (omega arith))
-
-gather-first : (v b : ℕ) → gatherOf 0 v b ≡ payload b
-unfolding gatherOf
-gather-first v b = refl
 
 gather-later : (st v b : ℕ) → (st ≡ 0 → ⊥) → gatherOf st v b ≡ 64 * (v % 32768) + b % 64
 unfolding gatherOf
@@ -73,7 +69,7 @@ keeps (suc (suc (suc (suc (suc (suc (suc (suc st)))))))) v b h = keeps-over (suc
 kept : (v b : ℕ) → v < 32768 → 64 * v + b % 64 ≡ 64 * (v % 32768) + b % 64
 kept v b h = omega arith
 
-gather-table : (st v b : ℕ) → st < 8 → v < limit st → gatherOf st v b ≡ gathered (awaits st) v b
+gather-table : (st v b : ℕ) → st < 8 → v < limit st → gatherOf st v b ≡ gatheredCode (awaits st) v b
 unfolding gatherOf
 gather-table zero v b k h = refl
 gather-table (suc zero) v b k h = sym (kept v b h)
@@ -98,7 +94,7 @@ module _ {A : Type 0} (f : A → ℕ → A) where
   read-none st v a (b ∷ s) h = rw (feed-over st b h) (read-none 8 (gatherOf st v b) a s (omega arith))
 
   -- one byte, by the table
-  codes-over : (w : Awaited) (v : ℕ) (a : A) (b : ℕ) (s : List ℕ) → over f a (codesFrom w v (b ∷ s)) ≡ over f (cond (isDone (byTable w b)) (f a (gathered w v b)) a) (codesFrom (byTable w b) (gathered w v b) s)
+  codes-over : (w : Awaited) (v : ℕ) (a : A) (b : ℕ) (s : List ℕ) → over f a (codesFrom w v (b ∷ s)) ≡ over f (cond (isDone (byTable w b)) (f a (gatheredCode w v b)) a) (codesFrom (byTable w b) (gatheredCode w v b) s)
   unfolding codesFrom over
   codes-over w v a b s = by-bool (isDone (byTable w b)) (λ t. rw t) (λ t. rw t)
 

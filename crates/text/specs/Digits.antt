@@ -3,19 +3,21 @@ use mathlib.Core.Path.{_≡_, refl, _∙_}
 use mathlib.Core.Bool.{Bool, true, false, cond}
 use mathlib.Core.List.{List, [], _∷_, _++_}
 use Prim.Native.Nat.{ℕ, zero, suc, _+_, _-_, _*_, _/_, _%_, _≤_, _<_}
+use Prim.Native.Char.{code}
 use native.Mathlib.Nat.{le-refl}
 use native.Mathlib.Omega.{arith}
 use lib.Dec.{ltb}
 use lib.ListN.{length}
 use borrow.Author.Tests.{ltb-false, lt-ltb, le-ltb}
 use Rattle.laws.specs.Loops.{over, over-join}
+use Rattle.text.specs.Ascii.{ascii}
 
 -- n is below 10, or its tenth has digits and its last digit follows; f is at least the number of digits less one
 unfoldable pub digitsBy : ℕ → ℕ → List ℕ
-digitsBy zero n = (48 + n) ∷ []
-digitsBy (suc f) n = let front = digitsBy f (n / 10) in cond (ltb n 10) ((48 + n) ∷ []) (front ++ ((48 + n % 10) ∷ []))
+digitsBy zero n = (code "0" + n) ∷ []
+digitsBy (suc f) n = let front = digitsBy f (n / 10) in cond (ltb n 10) ((code "0" + n) ∷ []) (front ++ ((code "0" + n % 10) ∷ []))
 
--- the decimal digits of n, 48 being the byte `0`
+-- the decimal digits of n
 unfoldable pub digits : ℕ → List ℕ
 digits n = digitsBy n n
 
@@ -43,11 +45,11 @@ digits-more zero h = absurd (omega arith)
 digits-more (suc n) h = rw (le-ltb (suc n) 10 h, same n (suc n / 10) (suc n / 10) (omega arith) (omega arith))
 
 -- one digit more, and what a list of digits says
-abbrev pub placed : ℕ → ℕ → ℕ
-placed a d = 10 * a + (d - 48)
+abbrev pub digitMore : ℕ → ℕ → ℕ
+digitMore a d = 10 * a + (d - code "0")
 
 unfoldable pub value : List ℕ → ℕ
-value l = over placed 0 l
+value l = over digitMore 0 l
 
 value-by : (f n : ℕ) → n ≤ f → value (digitsBy f n) ≡ n
 unfolding value over digitsBy
@@ -58,12 +60,12 @@ value-by (suc f) n h = go (ltb n 10) refl (value-by f (n / 10))
     go true e ih = omega arith
     go false e ih =
         let w : 10 ≤ n = ltb-false n 10 e in
-        over-join placed 0 (digitsBy f (n / 10)) ((48 + n % 10) ∷ []) ∙ omega (arith, ih (omega arith))
+        over-join digitMore 0 (digitsBy f (n / 10)) ((48 + n % 10) ∷ []) ∙ omega (arith, ih (omega arith))
 
 pub value-digits : (n : ℕ) → value (digits n) ≡ n
 unfolding digits
 value-digits n = value-by n n (le-refl n)
 
-worked : (digits 0 ≡ 48 ∷ []) × (digits 1204 ≡ 49 ∷ 50 ∷ 48 ∷ 52 ∷ []) × (length (digits 18446744073709551615) ≡ 20)
+worked : (digits 0 ≡ ascii "0") × (digits 1204 ≡ ascii "1204") × (length (digits 18446744073709551615) ≡ 20)
 unfolding digits digitsBy
 worked = (refl, refl, refl)

@@ -9,7 +9,7 @@ use lib.Dec.{ltb}
 use borrow.Author.Tests.{le-leb, lt-ltb, le-ltb}
 use Rattle.laws.specs.Cases.{by-lt}
 use Rattle.laws.specs.Loops.{over, over-join}
-use Rattle.text.specs.Utf8.{Range, to, Awaited, rows, isIn, lookup, byTable, isDone, wellFormed, payload, gathered, codesFrom, codePoints}
+use Rattle.text.specs.Utf8.{Range, to, Awaited, rows, inRange, lookup, byTable, isDone, wellFormed, payload, gatheredCode, codesFrom, codePoints}
 use Rattle.text.specs.Table.{not-in}
 
 -- the bytes of the code point c: 7, 11, 16 or 21 bits, six in each byte after the first
@@ -26,21 +26,21 @@ pub data Scalar (c : ℕ) : Type 0 where
   high : 0xe000 ≤ c → c < 0x110000 → Scalar c
 
 -- the bytes are one character, whose code point is c: what is awaited before them is w, the value so far v
-pub data Ends : Awaited → ℕ → List ℕ → ℕ → Type 0 where
-  last : {w : Awaited} {v b c : ℕ} → byTable w b ≡ some [] → gathered w v b ≡ c → Ends w v (b ∷ []) c
-  more : {w : Awaited} {v b v′ c : ℕ} {s : List ℕ} (r : Range) (row : List Range) → byTable w b ≡ some (r ∷ row) → gathered w v b ≡ v′ → Ends (some (r ∷ row)) v′ s c → Ends w v (b ∷ s) c
+pub data OneCharacter : Awaited → ℕ → List ℕ → ℕ → Type 0 where
+  last : {w : Awaited} {v b c : ℕ} → byTable w b ≡ some [] → gatheredCode w v b ≡ c → OneCharacter w v (b ∷ []) c
+  more : {w : Awaited} {v b v′ c : ℕ} {s : List ℕ} (r : Range) (row : List Range) → byTable w b ≡ some (r ∷ row) → gatheredCode w v b ≡ v′ → OneCharacter (some (r ∷ row)) v′ s c → OneCharacter w v (b ∷ s) c
 
-pub ends-codes : {w : Awaited} {v c : ℕ} {s : List ℕ} (rest : List ℕ) → Ends w v s c → codesFrom w v (s ++ rest) ≡ c ∷ codesFrom (some []) c rest
+pub ends-codes : {w : Awaited} {v c : ℕ} {s : List ℕ} (rest : List ℕ) → OneCharacter w v s c → codesFrom w v (s ++ rest) ≡ c ∷ codesFrom (some []) c rest
 unfolding codesFrom
 ends-codes rest (last e g) = rw (e, g)
 ends-codes rest (more r row e g n) = rw (e, g) (ends-codes rest n)
 
-pub ends-formed : {w : Awaited} {v c : ℕ} {s : List ℕ} → Ends w v s c → over byTable w s ≡ some []
+pub ends-formed : {w : Awaited} {v c : ℕ} {s : List ℕ} → OneCharacter w v s c → over byTable w s ≡ some []
 unfolding over
 ends-formed (last e g) = rw e
 ends-formed (more r row e g n) = rw e (ends-formed n)
 
-is-in : (b : ℕ) (r : Range) → r .lo ≤ b → b ≤ r .hi → isIn b r ≡ true
+is-in : (b : ℕ) (r : Range) → r .lo ≤ b → b ≤ r .hi → inRange b r ≡ true
 is-in b r h k = rw (le-leb (r .lo) b h, le-leb b (r .hi) k)
 
 in-row : (lo hi b : ℕ) (row : List Range) → lo ≤ b → b ≤ hi → byTable (some (to lo hi ∷ row)) b ≡ some row
@@ -95,39 +95,39 @@ payload-four q h = rw (le-ltb (0xf0 + q) 0x80 (omega arith), le-ltb (0xf0 + q) 0
 six : (u d v : ℕ) → d < 64 → 64 * u + d ≡ v → 64 * u + (0x80 + d) % 64 ≡ v
 six u d v h e = omega arith
 
-end-later : (u d c : ℕ) → d < 64 → 64 * u + d ≡ c → Ends (some (to 0x80 0xbf ∷ [])) u ((0x80 + d) ∷ []) c
+end-later : (u d c : ℕ) → d < 64 → 64 * u + d ≡ c → OneCharacter (some (to 0x80 0xbf ∷ [])) u ((0x80 + d) ∷ []) c
 end-later u d c h e = last (in-row 0x80 0xbf (0x80 + d) [] (omega arith) (omega arith)) (six u d c h e)
 
-more-later : (lo hi : ℕ) (r : Range) (row : List Range) (u d v c : ℕ) (s : List ℕ) → lo ≤ 0x80 + d → 0x80 + d ≤ hi → d < 64 → 64 * u + d ≡ v → Ends (some (r ∷ row)) v s c
-    → Ends (some (to lo hi ∷ r ∷ row)) u ((0x80 + d) ∷ s) c
+more-later : (lo hi : ℕ) (r : Range) (row : List Range) (u d v c : ℕ) (s : List ℕ) → lo ≤ 0x80 + d → 0x80 + d ≤ hi → d < 64 → 64 * u + d ≡ v → OneCharacter (some (r ∷ row)) v s c
+    → OneCharacter (some (to lo hi ∷ r ∷ row)) u ((0x80 + d) ∷ s) c
 more-later lo hi r row u d v c s h k l e n = more r row (in-row lo hi (0x80 + d) (r ∷ row) h k) (six u d v l e) n
 
 module _ (v c : ℕ) where
-  ends-one : c < 0x80 → Ends (some []) v (c ∷ []) c
+  ends-one : c < 0x80 → OneCharacter (some []) v (c ∷ []) c
   ends-one h = last (row-1 c (omega arith) (omega arith)) (payload-one c h)
 
-  ends-two : 0x80 ≤ c → c < 0x800 → Ends (some []) v ((0xc0 + c / 64) ∷ (0x80 + c % 64) ∷ []) c
+  ends-two : 0x80 ≤ c → c < 0x800 → OneCharacter (some []) v ((0xc0 + c / 64) ∷ (0x80 + c % 64) ∷ []) c
   ends-two h k =
       more (to 0x80 0xbf) [] (row-2 (0xc0 + c / 64) (omega arith) (omega arith)) (payload-two (c / 64) (omega arith))
       (end-later (c / 64) (c % 64) c (omega arith) (omega arith))
 
   -- the range of the second byte is the row's
   ends-three : (lo hi : ℕ) → lookup (0xe0 + c / 4096) rows ≡ some (to lo hi ∷ to 0x80 0xbf ∷ []) → lo ≤ 0x80 + c / 64 % 64 → 0x80 + c / 64 % 64 ≤ hi → c < 0x10000
-      → Ends (some []) v ((0xe0 + c / 4096) ∷ (0x80 + c / 64 % 64) ∷ (0x80 + c % 64) ∷ []) c
+      → OneCharacter (some []) v ((0xe0 + c / 4096) ∷ (0x80 + c / 64 % 64) ∷ (0x80 + c % 64) ∷ []) c
   ends-three lo hi e h k l =
       more (to lo hi) (to 0x80 0xbf ∷ []) e (payload-three (c / 4096) (omega arith))
       (more-later lo hi (to 0x80 0xbf) [] (c / 4096) (c / 64 % 64) (c / 64) c ((0x80 + c % 64) ∷ []) h k (omega arith) (omega arith)
       (end-later (c / 64) (c % 64) c (omega arith) (omega arith)))
 
   ends-four : (lo hi : ℕ) → lookup (0xf0 + c / 262144) rows ≡ some (to lo hi ∷ to 0x80 0xbf ∷ to 0x80 0xbf ∷ []) → lo ≤ 0x80 + c / 4096 % 64 → 0x80 + c / 4096 % 64 ≤ hi → c < 0x110000
-      → Ends (some []) v ((0xf0 + c / 262144) ∷ (0x80 + c / 4096 % 64) ∷ (0x80 + c / 64 % 64) ∷ (0x80 + c % 64) ∷ []) c
+      → OneCharacter (some []) v ((0xf0 + c / 262144) ∷ (0x80 + c / 4096 % 64) ∷ (0x80 + c / 64 % 64) ∷ (0x80 + c % 64) ∷ []) c
   ends-four lo hi e h k l =
       more (to lo hi) (to 0x80 0xbf ∷ to 0x80 0xbf ∷ []) e (payload-four (c / 262144) (omega arith))
       (more-later lo hi (to 0x80 0xbf) (to 0x80 0xbf ∷ []) (c / 262144) (c / 4096 % 64) (c / 4096) c ((0x80 + c / 64 % 64) ∷ (0x80 + c % 64) ∷ []) h k (omega arith) (omega arith)
       (more-later 0x80 0xbf (to 0x80 0xbf) [] (c / 4096) (c / 64 % 64) (c / 64) c ((0x80 + c % 64) ∷ []) (omega arith) (omega arith) (omega arith) (omega arith)
       (end-later (c / 64) (c % 64) c (omega arith) (omega arith))))
 
-  threes : 0x800 ≤ c → c < 0x10000 → Scalar c → Ends (some []) v ((0xe0 + c / 4096) ∷ (0x80 + c / 64 % 64) ∷ (0x80 + c % 64) ∷ []) c
+  threes : 0x800 ≤ c → c < 0x10000 → Scalar c → OneCharacter (some []) v ((0xe0 + c / 4096) ∷ (0x80 + c / 64 % 64) ∷ (0x80 + c % 64) ∷ []) c
   threes h k (high l m) = ends-three 0x80 0xbf (row-6 (0xe0 + c / 4096) (omega arith) (omega arith)) (omega arith) (omega arith) k
   threes h k (low l) =
       by-lt c 0x1000
@@ -136,7 +136,7 @@ module _ (v c : ℕ) where
       (λ (n : c < 0xd000). ends-three 0x80 0xbf (row-4 (0xe0 + c / 4096) (omega arith) (omega arith)) (omega arith) (omega arith) k)
       (λ (n : 0xd000 ≤ c). ends-three 0x80 0x9f (row-5 (0xe0 + c / 4096) (omega arith) (omega arith)) (omega arith) (omega arith) k))
 
-  fours : 0x10000 ≤ c → c < 0x110000 → Ends (some []) v ((0xf0 + c / 262144) ∷ (0x80 + c / 4096 % 64) ∷ (0x80 + c / 64 % 64) ∷ (0x80 + c % 64) ∷ []) c
+  fours : 0x10000 ≤ c → c < 0x110000 → OneCharacter (some []) v ((0xf0 + c / 262144) ∷ (0x80 + c / 4096 % 64) ∷ (0x80 + c / 64 % 64) ∷ (0x80 + c % 64) ∷ []) c
   fours h k =
       by-lt c 0x40000
       (λ (m : c < 0x40000). ends-four 0x90 0xbf (row-7 (0xf0 + c / 262144) (omega arith) (omega arith)) (omega arith) (omega arith) k)
@@ -149,7 +149,7 @@ module _ (v c : ℕ) where
   below (high h k) = k
 
   -- the encoded form of a scalar value is one character with that code point
-  pub encode-ends : Scalar c → Ends (some []) v (encode c) c
+  pub encode-ends : Scalar c → OneCharacter (some []) v (encode c) c
   unfolding encode
   encode-ends q =
       by-lt c 0x80

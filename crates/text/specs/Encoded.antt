@@ -11,7 +11,7 @@ use lib.ListN.{length, length-append}
 use borrow.Author.Tests.{leb-true, lt-ltb, le-ltb, lt-leb}
 use Rattle.laws.specs.Cases.{by-bool, by-lt}
 use Rattle.laws.specs.Loops.{over}
-use Rattle.text.specs.Utf8.{Range, to, Awaited, rows, isIn, lookup, byTable, isDone, wellFormed, codesFrom, codePoints}
+use Rattle.text.specs.Utf8.{Range, to, Awaited, rows, inRange, lookup, byTable, isDone, wellFormed, codesFrom, codePoints}
 use Rattle.text.specs.Table.{not-in}
 use Rattle.text.specs.Encode.{encode, Scalar, low, high, codes-encode, formed-encode, row-2, row-3, row-4, row-5, row-6, row-7, row-8, row-9}
 
@@ -28,7 +28,7 @@ no-more (b ∷ s) e = no-more s e
 data Next (r : Range) (row : List Range) : List ℕ → Type 0 where
   next : (b : ℕ) (s : List ℕ) → r .lo ≤ b → b ≤ r .hi → Comes (some row) s → Next r row (b ∷ s)
 
-in-range : {C : Type 0} (b : ℕ) (r : Range) → isIn b r ≡ true → (r .lo ≤ b → b ≤ r .hi → C) → C
+in-range : {C : Type 0} (b : ℕ) (r : Range) → inRange b r ≡ true → (r .lo ≤ b → b ≤ r .hi → C) → C
 in-range b r e f =
     by-bool (leb (r .lo) b)
     (λ t. by-bool (leb b (r .hi)) (λ q. f (leb-true (r .lo) b t) (leb-true b (r .hi) q)) (λ q. absurd (true≢false (sym (rw (t, q) at e)))))
@@ -38,7 +38,7 @@ next-comes : (r : Range) (row : List Range) (s : List ℕ) → Comes (some (r �
 unfolding over
 next-comes r row [] e = absurd (true≢false (sym e))
 next-comes r row (b ∷ s) e =
-    by-bool (isIn b r)
+    by-bool (inRange b r)
     (λ t. in-range b r t (λ h k. next b s h k (rw t at e)))
     (λ t. no-more s (rw t at e))
 
@@ -113,7 +113,7 @@ four b _ lo hi h k i j g n (next d s l m e) = go s (next-comes (to 0x80 0xbf) (t
     go _ (next f s u v w) = last-byte f u v s (next-comes (to 0x80 0xbf) [] s w)
 
 -- b is below the range
-not-yet : (b : ℕ) (r : Range) → b < r .lo → isIn b r ≡ false
+not-yet : (b : ℕ) (r : Range) → b < r .lo → inRange b r ≡ false
 not-yet b r h = rw (lt-leb (r .lo) b h)
 
 -- a byte that begins no character

@@ -11,12 +11,12 @@ use borrow.Author.Tests.{eqb-true, eqb-false, lt-leb, ne-eqb}
 use lib.ListN.{getD, List·getD-eq-default}
 use Rattle.laws.specs.Cases.{by-bool, by-lt}
 use Rattle.laws.specs.Loops.{over, over-join}
-use Rattle.text.specs.Utf8.{Range, to, Awaited, isIn, lookup, byTable, rows, wellFormed, isDone}
-use Rattle.text.specs.Automaton.{within, feedOf, lead, feedAll}
+use Rattle.text.specs.Utf8.{Range, to, Awaited, inRange, lookup, byTable, rows, wellFormed, isDone}
+use Rattle.text.specs.Automaton.{nextWithin, feedOf, lead, feedAll}
 
 -- what each numbered state awaits, from 0; state 8 and what is above it are `none`
-abbrev pub states : List Awaited
-states =
+abbrev pub awaitedBy : List Awaited
+awaitedBy =
     some []
     ∷ some (to 0x80 0xbf ∷ [])
     ∷ some (to 0x80 0xbf ∷ to 0x80 0xbf ∷ [])
@@ -28,7 +28,7 @@ states =
     ∷ []
 
 abbrev pub awaits : ℕ → Awaited
-awaits st = getD states st none
+awaits st = getD awaitedBy st none
 
 -- ---- equal as a test
 and-l : (a b : Bool) → T (a && b) → T a
@@ -74,23 +74,23 @@ same-is (some r) (some q) t = ap some (row-is r q t)
 
 -- ---- the test
 -- f at each number below n
-abbrev pub below : (ℕ → Bool) → ℕ → Bool
-below f zero = true
-below f (suc n) = f n && below f n
+abbrev pub eachBelow : (ℕ → Bool) → ℕ → Bool
+eachBelow f zero = true
+eachBelow f (suc n) = f n && eachBelow f n
 
-pub below-at : (f : ℕ → Bool) (n k : ℕ) → T (below f n) → k < n → T (f k)
+pub below-at : (f : ℕ → Bool) (n k : ℕ) → T (eachBelow f n) → k < n → T (f k)
 below-at f zero k t h = absurd (not-suc-le-zero h)
-below-at f (suc n) k t h = go (eqb k n) refl (λ l. below-at f n k (and-r (f n) (below f n) t) l)
+below-at f (suc n) k t h = go (eqb k n) refl (λ l. below-at f n k (and-r (f n) (eachBelow f n) t) l)
   where
     go : (b : Bool) → eqb k n ≡ b → (k < n → T (f k)) → T (f k)
-    go true e r = subst (λ (x : ℕ). T (f x)) (sym (eqb-true k n e)) (and-l (f n) (below f n) t)
+    go true e r = subst (λ (x : ℕ). T (f x)) (sym (eqb-true k n e)) (and-l (f n) (eachBelow f n) t)
     go false e r = let d : k ≡ n → ⊥ = eqb-false k n e in r (omega arith)
 
 agrees : ℕ → ℕ → Bool
 unfolding feedOf lead
 agrees st b = same (awaits (feedOf st b)) (byTable (awaits st) b)
 
-all-agree : T (below (λ st. below (λ b. agrees st b) 256) 8)
+all-agree : T (eachBelow (λ st. eachBelow (λ b. agrees st b) 256) 8)
 unfolding agrees feedOf lead
 all-agree = tt
 
@@ -100,7 +100,7 @@ and-no true b e = e
 and-no false b e = refl
 
 -- b is above the range
-pub not-in : (b : ℕ) (r : Range) → r .hi < b → isIn b r ≡ false
+pub not-in : (b : ℕ) (r : Range) → r .hi < b → inRange b r ≡ false
 not-in b r h = and-no (leb (r .lo) b) (leb b (r .hi)) (lt-leb b (r .hi) h)
 
 no-lead : (b : ℕ) → 256 ≤ b → lookup b rows ≡ none
@@ -132,7 +132,7 @@ all-high (suc (suc (suc (suc (suc (suc zero)))))) b k h = high 0xbf (omega arith
 all-high (suc (suc (suc (suc (suc (suc (suc zero))))))) b k h = high 0x8f (omega arith) b h 0x80 (to 0x80 0xbf ∷ to 0x80 0xbf ∷ [])
 all-high (suc (suc (suc (suc (suc (suc (suc (suc st)))))))) b k h = absurd (omega arith)
 
-out : (b lo hi next : ℕ) → hi < b → within b lo hi next ≡ 8
+out : (b lo hi next : ℕ) → hi < b → nextWithin b lo hi next ≡ 8
 out b lo hi next h = by-bool (leb lo b) (λ e. rw (e, lt-leb b hi h)) (λ e. rw e)
 
 pub feed-high : (st b : ℕ) → 256 ≤ b → feedOf st b ≡ 8
@@ -181,7 +181,7 @@ feed-over st b h =
     )
 
 pub awaits-over : (st : ℕ) → 8 ≤ st → awaits st ≡ none
-awaits-over st h = List·getD-eq-default states none h
+awaits-over st h = List·getD-eq-default awaitedBy none h
 
 -- The automaton's step is the table's.
 pub feed-table : (st b : ℕ) → awaits (feedOf st b) ≡ byTable (awaits st) b
@@ -189,7 +189,7 @@ unfolding agrees
 feed-table st b =
     by-lt st 8
     (λ (h : st < 8). by-lt b 256
-    (λ (k : b < 256). same-is (awaits (feedOf st b)) (byTable (awaits st) b) (below-at (λ b. agrees st b) 256 b (below-at (λ st. below (λ b. agrees st b) 256) 8 st all-agree h) k))
+    (λ (k : b < 256). same-is (awaits (feedOf st b)) (byTable (awaits st) b) (below-at (λ b. agrees st b) 256 b (below-at (λ st. eachBelow (λ b. agrees st b) 256) 8 st all-agree h) k))
     (λ (k : 256 ≤ b). ap awaits (feed-high st b k) ∙ sym (all-high st b h k)))
     (λ (h : 8 ≤ st). ap awaits (feed-over st b h) ∙ sym (ap (λ (w : Awaited). byTable w b) (awaits-over st h)))
 

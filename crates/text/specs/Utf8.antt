@@ -28,8 +28,8 @@ rows =
     ∷ (to 0xf4 0xf4 ∷ to 0x80 0x8f ∷ to 0x80 0xbf ∷ to 0x80 0xbf ∷ [])
     ∷ []
 
-abbrev pub isIn : ℕ → Range → Bool
-isIn b r = leb (r .lo) b && leb b (r .hi)
+abbrev pub inRange : ℕ → Range → Bool
+inRange b r = leb (r .lo) b && leb b (r .hi)
 
 -- What must still come: the ranges of the bytes that the character lacks. `none` after an ill-formed byte.
 abbrev pub Awaited : Type 0
@@ -39,13 +39,13 @@ Awaited = Option (List Range)
 abbrev pub lookup : ℕ → List (List Range) → Awaited
 lookup b [] = none
 lookup b ([] ∷ rs) = lookup b rs
-lookup b ((r ∷ row) ∷ rs) = let later = lookup b rs in cond (isIn b r) (some row) later
+lookup b ((r ∷ row) ∷ rs) = let later = lookup b rs in cond (inRange b r) (some row) later
 
 -- one byte
 abbrev pub byTable : Awaited → ℕ → Awaited
 byTable none b = none
 byTable (some []) b = lookup b rows
-byTable (some (r ∷ row)) b = cond (isIn b r) (some row) none
+byTable (some (r ∷ row)) b = cond (inRange b r) (some row) none
 
 -- no byte is lacking
 abbrev pub isDone : Awaited → Bool
@@ -62,17 +62,17 @@ unfoldable pub payload : ℕ → ℕ
 payload b = cond (ltb b 0x80) b (cond (ltb b 0xe0) (b % 32) (cond (ltb b 0xf0) (b % 16) (b % 8)))
 
 -- the value so far, v, and one byte more: a later byte brings 6 bits
-abbrev pub gathered : Awaited → ℕ → ℕ → ℕ
-gathered none v b = v
-gathered (some []) v b = payload b
-gathered (some (r ∷ row)) v b = 64 * v + b % 64
+abbrev pub gatheredCode : Awaited → ℕ → ℕ → ℕ
+gatheredCode none v b = v
+gatheredCode (some []) v b = payload b
+gatheredCode (some (r ∷ row)) v b = 64 * v + b % 64
 
 -- a character's code point is the value gathered when no byte is lacking any more
 unfoldable pub codesFrom : Awaited → ℕ → List ℕ → List ℕ
 codesFrom w v [] = []
 codesFrom w v (b ∷ s) =
     let w′ = byTable w b in
-    let v′ = gathered w v b in
+    let v′ = gatheredCode w v b in
     let rest = codesFrom w′ v′ s in
     cond (isDone w′) (v′ ∷ rest) rest
 

@@ -6,12 +6,12 @@ ghost use Prim.Native.Nat.{_+_, _<_};
 ghost use lib.ListN.{take, drop};
 ghost use Rattle.laws.specs.Writers.{Wrote};
 ghost use Rattle.text.specs.Utf8 as U;
-ghost use Rattle.text.specs.Automaton.{within, lead, feedOf, feedAll, gatherOf};
+ghost use Rattle.text.specs.Automaton.{nextWithin, lead, feedOf, feedAll, gatherOf};
 ghost use Rattle.text.specs.Digits.{digits};
 
 // The state next where b is in the range, and 8 where it is not.
 fn in_range(b: u8, lo: u8, hi: u8, next: u8) -> u8
-    ensures { λ r. ⌜ r ≡ within b lo hi next ⌝ }
+    ensures { λ r. ⌜ r ≡ nextWithin b lo hi next ⌝ }
 {
     if lo <= b {
         if b <= hi {

@@ -1,19 +1,19 @@
 -- A trace as forty numbers: the owner, the number of points, the bounds, up to 17 points.
 use mathlib.Core.Bool.{cond}
-use mathlib.Core.List.{List, [], _∷_, _++_}
-use Prim.Native.Nat.{ℕ, zero, suc, _-_, _*_}
-use lib.ListN.{length, getD, drop}
+use mathlib.Core.List.{List, [], _∷_}
+use Prim.Native.Nat.{ℕ}
+use lib.ListN.{getD, drop}
 use lib.Dec.{eqb}
 use lib.Ieee.{Float, nan, toUnsigned}
-use Rattle.laws.specs.Flat.{part, records, table}
-use Rattle.float.specs.Ops.{lt, eq, neg, count}
-use Rattle.float.specs.Constants.{f0, f1, f2, f2e64}
+use Rattle.laws.specs.Flat.{part, decodeFlat, table}
+use Rattle.float.specs.Ops.{lt, eq, neg, ofNat}
+use Rattle.float.specs.Constants.{f1, f2, f2e64}
 use Rattle.shape.specs.declared.«V».{«V»}
 use Rattle.shape.specs.declared.Rect.{Rect}
 use Rattle.shape.specs.declared.Curve.{Curve}
 use Rattle.shape.specs.declared.Curve.the-variants.{Line, Quad, Cubic}
 use Rattle.shape.specs.Plane.{vec, rect}
-use Rattle.trace.specs.Traces.{Owner, nobody, arrow, Trace, ownerOf, sample}
+use Rattle.trace.specs.Traces.{Trace, ownerOf, sample}
 
 -- ---- reading
 
@@ -35,42 +35,26 @@ abbrev pub decodePoint : List Float → «V»
 decodePoint l = vec (getD l 0 nan) (getD l 1 nan)
 
 abbrev pub decodePoints : ℕ → List Float → List «V»
-decodePoints n l = records decodePoint 2 n l
+decodePoints n l = decodeFlat decodePoint 2 n l
 
 -- point k, and the first n points, of a trace
-abbrev pub pointIn : List Float → ℕ → «V»
-pointIn l k = decodePoint (part 2 k (drop 6 l))
+abbrev pub tracePoint : List Float → ℕ → «V»
+tracePoint l k = decodePoint (part 2 k (drop 6 l))
 
 abbrev pub pointsOf : ℕ → List Float → List «V»
-pointsOf n l = table (pointIn l) 0 n
+pointsOf n l = table (tracePoint l) 0 n
 
 unfoldable pub decodeTrace : List Float → Trace
 decodeTrace l = record { owner = ownerOf (wholeOf (getD l 0 nan)); points = pointsOf (pointsIn (getD l 1 nan)) l; bounds = boundsIn l }
 
 -- the first n traces of a slice
 abbrev pub decodeTraces : ℕ → List Float → List Trace
-decodeTraces n l = records decodeTrace 40 n l
+decodeTraces n l = decodeFlat decodeTrace 40 n l
 
 -- ---- writing
 
-abbrev pub header : ℕ → ℕ → Rect → List Float
-header owner n b = count owner ∷ count n ∷ b .x0 ∷ b .y0 ∷ b .x1 ∷ b .y1 ∷ []
-
-abbrev pub ownerNumber : Owner → ℕ
-ownerNumber nobody = 0
-ownerNumber (arrow n) = suc n
-
-abbrev pub flattened : List «V» → List Float
-flattened [] = []
-flattened (p ∷ l) = p .x ∷ p .y ∷ flattened l
-
--- `n` zeros
-abbrev pub zeros : ℕ → List Float
-zeros zero = []
-zeros (suc n) = f0 ∷ zeros n
-
-unfoldable pub encodeTrace : Trace → List Float
-encodeTrace t = header (ownerNumber (t .owner)) (length (t .points)) (t .bounds) ++ (flattened (t .points) ++ zeros (34 - 2 * length (t .points)))
+abbrev pub traceHead : ℕ → ℕ → Rect → List Float
+traceHead owner n b = ofNat owner ∷ ofNat n ∷ b .x0 ∷ b .y0 ∷ b .x1 ∷ b .y1 ∷ []
 
 -- ---- a curve's points by number
 

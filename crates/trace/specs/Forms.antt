@@ -1,5 +1,5 @@
--- What is written is read back: a whole number, a trace. Assumes nothing.
-use mathlib.Core.Path.{_≡_, refl, ap, subst, _∙_}
+-- What is written is read back: a whole number, an owner, how many points there are. Assumes nothing.
+use mathlib.Core.Path.{_≡_, refl, subst}
 use mathlib.Core.Bool.{true, false}
 use Prim.Native.Nat.{ℕ, _+_, _*_, _^_, _≤_, _<_}
 use native.Mathlib.Nat.{mul-lt-mul-of-pos-right}
@@ -14,12 +14,12 @@ use lib.Ieee.Exact.{HasValue}
 use lib.Ieee.Fits.{down-pos}
 use lib.Ieee.Back.{round-whole, unsigned-back}
 use Rattle.laws.specs.Flat.{table}
-use Rattle.float.specs.Ops.{lt, eq, neg, count}
+use Rattle.float.specs.Ops.{lt, eq, neg, ofNat}
 use Rattle.float.specs.Constants.{f1, f2e64}
 use Rattle.shape.specs.declared.Curve.{Curve}
 use Rattle.shape.specs.declared.Curve.the-variants.{Line, Quad, Cubic}
-use Rattle.trace.specs.Traces.{Owner, nobody, arrow, ownerOf, samples, traceOf}
-use Rattle.trace.specs.Form.{wholeOf, pointsIn, ownerNumber, decodeTrace, encodeTrace, samplesIn, sampleAt}
+use Rattle.trace.specs.Traces.{arrow, ownerOf, samples}
+use Rattle.trace.specs.Form.{wholeOf, pointsIn, samplesIn, sampleAt}
 
 -- ---- whole numbers
 
@@ -32,7 +32,7 @@ in-range (fin false m e) n v h =
     let d : 0 < down e = down-pos e in
     (lt-ltb 0 (1 * up (pos 0) * down e + m * up e * down (pos 0)) (omega arith), lt-ltb (m * up e * down (pos 64)) (1 * up (pos 64) * down e) (omega (arith, v .1, mul-lt-mul-of-pos-right h d)))
 
-pub whole-back : (n : ℕ) → n ≤ 65536 → wholeOf (count n) ≡ n
+pub whole-back : (n : ℕ) → n ≤ 65536 → wholeOf (ofNat n) ≡ n
 unfolding wholeOf inFloat ofInt
 whole-back n h =
     let r = in-range (round binary64 false n 1) n (round-whole binary64 false n (omega arith)) (omega arith) in
@@ -44,10 +44,6 @@ whole-back n h =
 pub owner-arrow : (n : ℕ) → ownerOf (n + 1) ≡ arrow n
 owner-arrow n = rw add-one
 
-owner-back : (o : Owner) → ownerOf (ownerNumber o) ≡ o
-owner-back nobody = refl
-owner-back (arrow n) = refl
-
 -- ---- points
 
 pub samples-at : (c : Curve) → table (sampleAt c) 0 (samplesIn c) ≡ samples c
@@ -56,16 +52,8 @@ samples-at (Line p q) = refl
 samples-at (Quad p c q) = refl
 samples-at (Cubic p c d q) = refl
 
-pub points-in : (c : Curve) → pointsIn (count (samplesIn c)) ≡ samplesIn c
+pub points-in : (c : Curve) → pointsIn (ofNat (samplesIn c)) ≡ samplesIn c
 unfolding ofInt round size span climb units odd ofBits Ieee.eq
 points-in (Line p q) = refl
 points-in (Quad p c q) = refl
 points-in (Cubic p c d q) = refl
-
--- ---- a trace is read back as it was, with an owner's number within the limit
-
-pub trace-back : (o : Owner) (c : Curve) → ownerNumber o ≤ 65536 → decodeTrace (encodeTrace (traceOf o c)) ≡ traceOf o c
-unfolding decodeTrace encodeTrace traceOf samples table ofInt round size span climb units odd ofBits Ieee.eq
-trace-back o (Line p q) h = ap (λ (w : Owner). traceOf w (Line p q)) (ap ownerOf (whole-back (ownerNumber o) h) ∙ owner-back o)
-trace-back o (Quad p c q) h = ap (λ (w : Owner). traceOf w (Quad p c q)) (ap ownerOf (whole-back (ownerNumber o) h) ∙ owner-back o)
-trace-back o (Cubic p c d q) h = ap (λ (w : Owner). traceOf w (Cubic p c d q)) (ap ownerOf (whole-back (ownerNumber o) h) ∙ owner-back o)

@@ -5,14 +5,13 @@ use Prim.Native.Nat.{ℕ, zero, suc}
 use lib.Dec.{eqb}
 use Rattle.laws.specs.Loops.{over}
 use Rattle.laws.specs.Flat.{table}
-use Rattle.float.specs.Ops.{_⊘_, lt, neg, count}
-use Rattle.float.specs.Constants.{f16, f25, infinity}
-use Rattle.float.specs.Standins.{min, max}
+use Rattle.float.specs.Ops.{_⊕_, _⊘_, lt, ofNat}
+use Rattle.float.specs.Constants.{f3, nodeRadius, samplesPerCurve}
 use Rattle.shape.specs.declared.«V».{«V»}
 use Rattle.shape.specs.declared.Rect.{Rect}
 use Rattle.shape.specs.declared.Curve.{Curve}
 use Rattle.shape.specs.declared.Curve.the-variants.{Line, Quad, Cubic}
-use Rattle.shape.specs.Plane.{rect, touches, spanning, dist}
+use Rattle.shape.specs.Plane.{touches, spanning, dist, noBounds, extended}
 use Rattle.shape.specs.Curves.{at}
 use Rattle.shape.specs.Clipping.{segmentHitsRect, segmentsCross}
 
@@ -28,22 +27,15 @@ pub record Trace : Type 0 where
 
 -- ---- the trace of a curve
 
--- point k of sixteen parts
+-- the point after k of the curve's segments
 unfoldable pub sample : Curve → ℕ → «V»
-sample c k = at c (count k ⊘ f16)
+sample c k = at c (ofNat k ⊘ samplesPerCurve)
 
 -- a line's ends; of any other curve the points at k / 16, for k = 0 to 16
 unfoldable pub samples : Curve → List «V»
 samples (Line p q) = p ∷ q ∷ []
 samples (Quad p c q) = table (sample (Quad p c q)) 0 17
 samples (Cubic p c d q) = table (sample (Cubic p c d q)) 0 17
-
--- the box of no points, and a box with one point more
-abbrev pub noBounds : Rect
-noBounds = rect infinity infinity (neg infinity) (neg infinity)
-
-unfoldable pub extended : Rect → «V» → Rect
-extended r p = rect (min (r .x0) (p .x)) (min (r .y0) (p .y)) (max (r .x1) (p .x)) (max (r .y1) (p .y))
 
 -- the smallest box that contains the points
 unfoldable pub boundsOf : List «V» → Rect
@@ -99,10 +91,10 @@ unfoldable pub anyPoint : («V» → Bool) → List «V» → Bool
 anyPoint p [] = false
 anyPoint p (a ∷ l) = p a || anyPoint p l
 
--- a point is nearer to the centre o than 25: a state's radius 22, and 3 more
+-- a point is nearer to the centre o than a state's radius and 3
 unfoldable pub pointNear : «V» → «V» → Bool
-pointNear o p = lt (dist p o) f25
+pointNear o p = lt (dist p o) (nodeRadius ⊕ f3)
 
 -- some point is
-unfoldable pub near : Trace → «V» → Bool
-near t o = anyPoint (pointNear o) (t .points)
+unfoldable pub near25 : Trace → «V» → Bool
+near25 t o = anyPoint (pointNear o) (t .points)

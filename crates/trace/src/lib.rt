@@ -1,19 +1,28 @@
 // Curves sampled as lines from point to point, for collision tests. A trace is forty numbers of a lent slice:
 // the owner (0 for nobody, n + 1 for arrow n), the number of points, the bounds, and up to 17 points.
 use shape::Curve;
+use shape::NODE_RADIUS;
 use shape::Rect;
 use shape::V;
 ghost use mathlib.Core.Path.{_≡_};
-ghost use mathlib.Core.Bool.{cond};
 ghost use mathlib.Core.List.{[], _∷_, _++_};
 ghost use Prim.Native.Nat.{_+_, _*_, _≤_, _<_};
 ghost use lib.ListN.{length};
 ghost use Rattle.laws.specs.Flat.{part, table};
 ghost use Rattle.laws.specs.Put.{put};
-ghost use Rattle.float.specs.Ops.{le};
 ghost use Rattle.shape.specs.Plane.{touches};
 ghost use Rattle.trace.specs.Traces as S;
 ghost use Rattle.trace.specs.Form as F;
+
+// Segments of a curve in collision tests, the same as a float, and their points.
+const SAMPLES: usize = 16;
+
+const SEGMENTS: f64 = SAMPLES as f64;
+
+pub const POINTS: usize = SAMPLES + 1;
+
+// The square of the distance below which a loop comes too near to a state's centre.
+const NEAR_SQUARED: f64 = (NODE_RADIUS + 3.0) * (NODE_RADIUS + 3.0);
 
 // ---- reading
 
@@ -60,7 +69,7 @@ fn points_in(n: f64) -> usize
     if n == 2.0 {
         return 2;
     }
-    17
+    POINTS
 }
 
 pub fn bounds_of(t: &[f64]) -> Rect
@@ -77,7 +86,7 @@ pub fn bounds_of(t: &[f64]) -> Rect
 
 fn point_at(t: &[f64], k: usize) -> V
     requires { ⌜ 8 + 2 * k ≤ length (now t) ⌝ }
-    ensures { λ r. ⌜ r ≡ F.pointIn (now (t .entry)) k ⌝ }
+    ensures { λ r. ⌜ r ≡ F.tracePoint (now (t .entry)) k ⌝ }
 {
     let at = 6 + 2 * k;
     V {
@@ -90,7 +99,10 @@ fn point_at(t: &[f64], k: usize) -> V
 
 fn push_point(points: &mut [f64], n: usize, v: V) -> usize
     requires { ⌜ 2 * n + 2 ≤ length (now points) ⌝ }
-    ensures { λ r. ⌜ (r ≡ n + 1) × (F.decodePoints r (now (points .exit)) ≡ F.decodePoints n (now (points .entry)) ++ (v ∷ [])) ⌝ }
+    ensures { λ r. ⌜
+        (r ≡ n + 1)
+        × (F.decodePoints r (now (points .exit)) ≡ F.decodePoints n (now (points .entry)) ++ (v ∷ []))
+        ⌝ }
 {
     let at = 2 * n;
     points[at] = v.x;
@@ -98,44 +110,22 @@ fn push_point(points: &mut [f64], n: usize, v: V) -> usize
     n + 1
 }
 
-fn no_bounds() -> Rect
-    ensures { λ r. ⌜ r ≡ S.noBounds ⌝ }
-{
-    let inf = f64::from_bits(9218868437227405312);
-    Rect {
-        x0: inf,
-        y0: inf,
-        x1: -inf,
-        y1: -inf,
-    }
-}
-
-fn extended(r: Rect, p: V) -> Rect
-    ensures { λ x. ⌜ x ≡ S.extended r p ⌝ }
-{
-    Rect {
-        x0: float::min(r.x0, p.x),
-        y0: float::min(r.y0, p.y),
-        x1: float::max(r.x1, p.x),
-        y1: float::max(r.y1, p.y),
-    }
-}
-
 fn samples_in(c: Curve) -> usize
     ensures { λ r. ⌜ (r ≡ F.samplesIn c) × (r ≤ 17) ⌝ }
 {
     match c {
         Curve::Line(_, _) => 2,
-        Curve::Quad(_, _, _) => 17,
-        Curve::Cubic(_, _, _, _) => 17,
+        Curve::Quad(_, _, _) => POINTS,
+        Curve::Cubic(_, _, _, _) => POINTS,
     }
 }
 
-fn sample(c: Curve, k: usize) -> V
+// The point of the curve after k of its segments.
+pub fn sample(c: Curve, k: usize) -> V
     requires { ⌜ k < 17 ⌝ }
     ensures { λ r. ⌜ r ≡ S.sample c k ⌝ }
 {
-    c.at((k as f64) / 16.0)
+    c.at((k as f64) / SEGMENTS)
 }
 
 // Point k of the trace of a curve.
@@ -158,13 +148,15 @@ fn sample_at(c: Curve, k: usize) -> V
 // The first n points of the trace, and their bounds.
 fn fill_points(points: &mut [f64], c: Curve, n: usize) -> Rect
     requires { ⌜ (n ≤ 17) × (34 ≤ length (now points)) ⌝ }
-    ensures { λ r. ⌜ (F.decodePoints n (now (points .exit)) ≡ table (F.sampleAt c) 0 n) × (r ≡ S.boundsOf (table (F.sampleAt c) 0 n)) ⌝ }
+    ensures { λ r.
+        let samples = table (F.sampleAt c) 0 n in
+        ⌜ (F.decodePoints n (now (points .exit)) ≡ samples) × (r ≡ S.boundsOf samples) ⌝ }
 {
-    let mut b = no_bounds();
+    let mut b = Rect::empty();
     let mut k: usize = 0;
     while k < n {
         let v = sample_at(c, k);
-        b = extended(b, v);
+        b = b.extended(v);
         k = push_point(points, k, v);
     }
     b
@@ -172,7 +164,7 @@ fn fill_points(points: &mut [f64], c: Curve, n: usize) -> Rect
 
 fn put_header(p: &mut [f64], owner: usize, n: usize, b: Rect)
     requires { ⌜ (owner ≤ 65536) × (n ≤ 17) × (6 ≤ length (now p)) ⌝ }
-    ensures { λ _. ⌜ now (p .exit) ≡ put (now (p .entry)) 0 (F.header owner n b) ⌝ }
+    ensures { λ _. ⌜ now (p .exit) ≡ put (now (p .entry)) 0 (F.traceHead owner n b) ⌝ }
 {
     p[0] = owner as f64;
     p[1] = n as f64;
@@ -195,7 +187,11 @@ pub fn write_trace(part: &mut [f64], owner: usize, curve: Curve)
 // One trace more, after n.
 pub fn push_trace(traces: &mut [f64], n: usize, owner: usize, curve: Curve) -> usize
     requires { ⌜ (owner ≤ 65536) × (40 * n + 40 ≤ length (now traces)) ⌝ }
-    ensures { λ r. ⌜ (r ≡ n + 1) × (F.decodeTraces r (now (traces .exit)) ≡ F.decodeTraces n (now (traces .entry)) ++ (S.traceOf (S.ownerOf owner) curve ∷ [])) ⌝ }
+    ensures { λ r. ⌜
+        (r ≡ n + 1)
+        × (F.decodeTraces r (now (traces .exit))
+        ≡ F.decodeTraces n (now (traces .entry)) ++ (S.traceOf (S.ownerOf owner) curve ∷ []))
+        ⌝ }
 {
     let at = 40 * n;
     let end = at + 40;
@@ -223,24 +219,12 @@ fn any_hit(t: &[f64], n: usize, r: Rect) -> bool
     false
 }
 
-// 1 where a is at most b.
-fn at_most(a: f64, b: f64) -> usize
-    ensures { λ r. ⌜ (r ≡ cond (le a b) 1 0) × (r ≤ 1) ⌝ }
-{
-    if a <= b {
-        return 1;
-    }
-    0
-}
-
-// Whether the bounds of the trace touch the box. A sum, since a branch for each side would often be guessed wrong.
+// Whether the bounds of the trace touch the box.
 pub fn reaches(t: &[f64], r: Rect) -> bool
     requires { ⌜ 40 ≤ length (now t) ⌝ }
     ensures { λ x. ⌜ x ≡ touches (F.boundsIn (now (t .entry))) r ⌝ }
 {
-    let across = at_most(t[2], r.x1) + at_most(r.x0, t[4]);
-    let along = at_most(t[3], r.y1) + at_most(r.y0, t[5]);
-    across + along == 4
+    bounds_of(t).touches(r)
 }
 
 // Whether the trace meets the box.
@@ -248,7 +232,7 @@ pub fn hits_rect(t: &[f64], r: Rect) -> bool
     requires { ⌜ 40 ≤ length (now t) ⌝ }
     ensures { λ x. ⌜ x ≡ S.hitsRect (F.decodeTrace (now (t .entry))) r ⌝ }
 {
-    if bounds_of(t).touches(r) {
+    if reaches(t, r) {
         return any_hit(t, points_in(t[1]), r);
     }
     false
@@ -295,7 +279,8 @@ fn segment_crosses(t: &[f64], a: V, b: V) -> bool
 
 fn any_crossing(s: &[f64], n: usize, t: &[f64]) -> bool
     requires { ⌜ (6 + 2 * n ≤ length (now s)) × (0 < n) × (40 ≤ length (now t)) ⌝ }
-    ensures { λ x. ⌜ x ≡ S.anySegment (S.segmentCrosses (F.decodeTrace (now (t .entry)))) (F.pointsOf n (now (s .entry))) ⌝ }
+    ensures { λ x.
+        ⌜ x ≡ S.anySegment (S.segmentCrosses (F.decodeTrace (now (t .entry)))) (F.pointsOf n (now (s .entry))) ⌝ }
 {
     let mut k: usize = 0;
     let mut left = n;
@@ -322,18 +307,11 @@ pub fn crosses(s: &[f64], t: &[f64]) -> bool
     false
 }
 
-// Whether p is nearer to o than 25: its distance is below 25 exactly where the sum of the squares is below 625.
-// A sum that is NaN has the root 0.
+// Whether p is nearer to a state's centre o than its radius and 3, by the squares.
 fn point_near(o: V, p: V) -> bool
     ensures { λ x. ⌜ x ≡ S.pointNear o p ⌝ }
 {
-    let dx = p.x - o.x;
-    let dy = p.y - o.y;
-    let square = dx * dx + dy * dy;
-    if square != square {
-        return true;
-    }
-    square < 625.0
+    p.dist_squared(o) < NEAR_SQUARED
 }
 
 fn any_near(t: &[f64], n: usize, o: V) -> bool
@@ -352,10 +330,10 @@ fn any_near(t: &[f64], n: usize, o: V) -> bool
     false
 }
 
-// Whether a point of the trace is nearer to o than 25.
+// Whether a point of the trace is.
 pub fn near(t: &[f64], o: V) -> bool
     requires { ⌜ 40 ≤ length (now t) ⌝ }
-    ensures { λ x. ⌜ x ≡ S.near (F.decodeTrace (now (t .entry))) o ⌝ }
+    ensures { λ x. ⌜ x ≡ S.near25 (F.decodeTrace (now (t .entry))) o ⌝ }
 {
     any_near(t, points_in(t[1]), o)
 }

@@ -49,50 +49,13 @@ fn next(payload: &mut [u8]) -> Case {
     }
 }
 
-// Whether the program's answer to a case is the oracle's.
+// Whether the program's answer to a case is the oracle's: below 60 the stand-ins, from there on the
+// calls.
 fn agrees(kind: u8, p: &[u8]) -> bool {
-    if kind < 16 {
-        return replay_float::agrees(kind, p);
-    }
-    if kind == 47 {
-        return replay_float::agrees(kind, p);
-    }
-    if kind == 16 {
-        return replay_sheet::agrees(p);
-    }
-    if kind == 17 {
-        return replay_label::agrees(p);
-    }
-    if kind < 21 {
-        return text_agrees(kind, p);
-    }
-    if kind < 38 {
-        return replay_shape::agrees(kind, p);
-    }
-    if kind < 41 {
-        return replay_trace::agrees(kind, p);
-    }
-    if kind < 44 {
-        return replay_bow::agrees(kind, p);
-    }
-    if kind < 47 {
-        return replay_place::agrees(kind, p);
-    }
-    if kind == 51 {
-        return replay_layout::agrees(p);
-    }
     if kind < 60 {
-        return replay_route::agrees(kind, p);
+        return standin_cases::agrees(kind, p);
     }
-    replay_calls::agrees(kind, p)
-}
-
-fn text_agrees(kind: u8, p: &[u8]) -> bool {
-    match kind {
-        18 => replay_text::number_agrees(p),
-        19 => replay_text::path_agrees(p),
-        _ => replay_text::arrowhead_agrees(p),
-    }
+    call_cases::agrees(kind, p)
 }
 
 // A spoiled case is a kind and its payload with another answer; there the program must not agree.
@@ -138,7 +101,7 @@ fn turn(payload: &mut [u8], cases: &mut [u64], differ: &mut [u64], done: u64) ->
         return 3;
     }
     if c.kind == 0 {
-        if replay::bits(&payload[..length], 0) == done {
+        if cases::bits(&payload[..length], 0) == done {
             return 1;
         }
         return 2;
@@ -148,7 +111,7 @@ fn turn(payload: &mut [u8], cases: &mut [u64], differ: &mut [u64], done: u64) ->
 }
 
 fn replay_all(cases: &mut [u64], differ: &mut [u64]) -> u8 {
-    let mut payload = [0u8; 70000];
+    let mut payload = [0u8; 140000];
     let mut done: u32 = 0;
     while done < MOST {
         let end = turn(&mut payload, cases, differ, done as u64);
@@ -204,12 +167,25 @@ fn name(kind: u8) {
     if kind == 255 {
         return say(b"spoiled             ");
     }
+    if kind < 17 {
+        return entry(
+            b"none                root                hypot               midpoint            rem_euclid          \
+              sin                 cos                 atan2               min                 max                 \
+              round               abs                 clamp               signum              copysign            \
+              total_cmp           rem_tau             ",
+            20 * wide(kind),
+        );
+    }
+    if kind < 60 {
+        return say(b"no such kind        ");
+    }
     if kind > 66 {
         return say(b"no such kind        ");
     }
     entry(
-        b"none                root                hypot               midpoint            rem_euclid          sin                 cos                 atan2               min                 max                 round               abs                 clamp               signum              copysign            total_cmp           check               label block         written number      path                arrowhead           polar               dot                 len                 angle               unit_or             left                dist                overlaps            spanning            grown               touches             dist to a box       at                  tangent             start and end       segment_hits_rect   segments_cross      trace               trace hits_rect     traces cross        bend                between             first_free          place_label         label_spots         box_cost            rem_tau             no such kind        no such kind        route               layout              clutter             no such kind        no such kind        no such kind        no such kind        no such kind        no such kind        no such kind        call of route       call of layout      call of clutter     call of list        call of check       call of label_size  call of write_num   ",
-        20 * wide(kind),
+        b"route               layout              clutter             list                check               \
+          label_size          write_num           ",
+        20 * wide(kind - 60),
     )
 }
 

@@ -1,6 +1,6 @@
 // The worked drawings of document 01 that are not starred, each with what the program gives.
-use diagram::Counted;
-use diagram::LaidOut;
+use calls::Counted;
+use calls::LaidOut;
 use libc::STDOUT_FILENO;
 use number::Written;
 use sheet::Checked;
@@ -17,7 +17,7 @@ fn refused(n: u8) {
 
 // What `check` says of a sheet.
 fn checked(sheet: &[u8]) {
-    let c = diagram::check(sheet);
+    let c = calls::check(sheet);
     match c {
         Checked::Accepted => say(b"accepted\n"),
         Checked::Refused(n) => refused(n),
@@ -27,7 +27,7 @@ fn checked(sheet: &[u8]) {
 // What `write_num` writes of a number.
 fn written(v: f64) {
     let mut out = [0u8; 32];
-    let w = diagram::write_num(v, &mut out);
+    let w = calls::write_num(v, &mut out);
     match w {
         Written::Length(n) => shown(&out, n),
         Written::Refused(n) => refused(n),
@@ -45,7 +45,7 @@ fn shown(out: &[u8], n: usize) {
 fn centred(sheet: &[u8], x: f64) {
     let xs = [x];
     let ys = [0.0];
-    let c = diagram::clutter(sheet, &xs, &ys);
+    let c = calls::clutter(sheet, &xs, &ys);
     match c {
         Counted::Count(_) => say(b"accepted\n"),
         Counted::Refused(n) => refused(n),
@@ -56,7 +56,7 @@ fn centred(sheet: &[u8], x: f64) {
 fn apart(sheet: &[u8]) {
     let mut xs = [0.0f64; 2];
     let mut ys = [0.0f64; 2];
-    let l = diagram::layout(sheet, 0, &mut xs, &mut ys);
+    let l = calls::layout(sheet, 0, &mut xs, &mut ys);
     match l {
         LaidOut::Size(_, _, _) => written(xs[1] - xs[0]),
         LaidOut::Refused(n) => refused(n),
@@ -66,7 +66,7 @@ fn apart(sheet: &[u8]) {
 // What `list` writes of a sheet, laid out as Auto.
 fn listed(sheet: &[u8]) {
     let mut out = [0u8; 1024];
-    let w = diagram::list(sheet, 0, &mut out);
+    let w = calls::list(sheet, 0, &mut out);
     match w {
         Written::Length(n) => shown(&out, n),
         Written::Refused(n) => refused(n),
@@ -105,18 +105,38 @@ fn centres() {
 fn layouts() {
     say(b"2 states, 5 arrows, apart: ");
     apart(
-        b"\x01\0\x07\0\x01\0\x03\0\0\0\0\0\0\0\0\0\x01\x01\x02\0\0\0\0\0\0\0\0\0\0\0\0\0\x01\0\0\0\0\0\0\0\0\0\0\0\0\0\0\0\x02\0\x04\0\0\0\x01\0\0\0\0\0\0\0\0\0\x02\0\x05\0\x01\0\0\0\0\0\0\0\0\0\0\0\x02\0\x06\0\0\0\x01\0\0\0\0\0\0\0\0\0\x02\0\x07\0\x01\0\0\0\0\0\0\0\0\0\0\0\x02\0\0\0\0\0\x01\0\0\0\0\0\0\0\0\0",
+        b"\x01\0\x07\0\x01\0\x03\0\0\0\0\0\0\0\0\0\
+          \x01\x01\x02\0\0\0\0\0\0\0\0\0\0\0\0\0\
+          \x01\0\0\0\0\0\0\0\0\0\0\0\0\0\0\0\
+          \x02\0\x04\0\0\0\x01\0\0\0\0\0\0\0\0\0\
+          \x02\0\x05\0\x01\0\0\0\0\0\0\0\0\0\0\0\
+          \x02\0\x06\0\0\0\x01\0\0\0\0\0\0\0\0\0\
+          \x02\0\x07\0\x01\0\0\0\0\0\0\0\0\0\0\0\
+          \x02\0\0\0\0\0\x01\0\0\0\0\0\0\0\0\0",
     );
     say(b"2 states, 6 arrows, apart: ");
     apart(
-        b"\x01\0\x08\0\x01\0\x03\0\0\0\0\0\0\0\0\0\x01\x01\x02\0\0\0\0\0\0\0\0\0\0\0\0\0\x01\0\0\0\0\0\0\0\0\0\0\0\0\0\0\0\x02\0\x04\0\0\0\x01\0\0\0\0\0\0\0\0\0\x02\0\x05\0\x01\0\0\0\0\0\0\0\0\0\0\0\x02\0\x06\0\0\0\x01\0\0\0\0\0\0\0\0\0\x02\0\x07\0\x01\0\0\0\0\0\0\0\0\0\0\0\x02\0\x08\0\0\0\x01\0\0\0\0\0\0\0\0\0\x02\0\0\0\x01\0\0\0\0\0\0\0\0\0\0\0",
+        b"\x01\0\x08\0\x01\0\x03\0\0\0\0\0\0\0\0\0\
+          \x01\x01\x02\0\0\0\0\0\0\0\0\0\0\0\0\0\
+          \x01\0\0\0\0\0\0\0\0\0\0\0\0\0\0\0\
+          \x02\0\x04\0\0\0\x01\0\0\0\0\0\0\0\0\0\
+          \x02\0\x05\0\x01\0\0\0\0\0\0\0\0\0\0\0\
+          \x02\0\x06\0\0\0\x01\0\0\0\0\0\0\0\0\0\
+          \x02\0\x07\0\x01\0\0\0\0\0\0\0\0\0\0\0\
+          \x02\0\x08\0\0\0\x01\0\0\0\0\0\0\0\0\0\
+          \x02\0\0\0\x01\0\0\0\0\0\0\0\0\0\0\0",
     );
 }
 
 fn listing() {
     say(b"a start state, a second state, an arrow 0 to 1 with the line `a`:\n");
     listed(
-        b"\x01\0\x05\0\x01\0\x03\0\0\0\0\0\0\0\0\0\x01\x01\x02\0\0\0\0\0\0\0\0\0\0\0\0\0\x01\0\0\0\0\0\0\0\0\0\0\0\0\0\0\0\x02\0\0\0\0\0\x01\0\x04\0\0\0\0\0\0\0\x03\0\0\0\x05\0\0\0\0\0\0\0\0\0\0\0\x04\x01\0\0a\0\0\0\0\0\0\0\0\0\0\0",
+        b"\x01\0\x05\0\x01\0\x03\0\0\0\0\0\0\0\0\0\
+          \x01\x01\x02\0\0\0\0\0\0\0\0\0\0\0\0\0\
+          \x01\0\0\0\0\0\0\0\0\0\0\0\0\0\0\0\
+          \x02\0\0\0\0\0\x01\0\x04\0\0\0\0\0\0\0\
+          \x03\0\0\0\x05\0\0\0\0\0\0\0\0\0\0\0\
+          \x04\x01\0\0a\0\0\0\0\0\0\0\0\0\0\0",
     );
 }
 

@@ -9,47 +9,48 @@ use lib.ListN.{length, take, replicate}
 use lib.Ieee.{Float}
 use Rattle.laws.specs.Loops.{over, anyFor, anyUp}
 use Rattle.laws.specs.Refusals.{decide, Clear, clear-none, without, clear-from, clear-decides}
+use Rattle.laws.specs.Any.{anyOf}
+use Rattle.laws.specs.Bools.{or-none}
 use Rattle.float.specs.Constants.{whole}
 use Rattle.sheet.specs.Sheet as Sheet
 use Rattle.sheet.specs.Sheet.{Graph, meaning, flagsOf}
 use Rattle.sheet.specs.Refusals as Refusals
 use Rattle.sheet.specs.Refusals.{refusals}
 use Rattle.sheet.specs.Order.{accepted-exactly}
-use Rattle.sheet.specs.Any.{or-none}
 use Rattle.sheet.specs.Examples.{small, small-means}
 use Rattle.shape.specs.Centres.{centres}
 use Rattle.beyond.specs.Beyond.{beyond}
 use Rattle.routing.specs.Sheets.{frameOf, recordsOf}
-use Rattle.lines.specs.Lines.{pathsText, pathsWritable, listText, listWritable}
-use Rattle.lines.specs.Worked.{shown}
+use Rattle.drawing_text.specs.Lines.{pathsText, pathsWritable, listText, listWritable}
+use Rattle.drawing_text.specs.Worked.{workedListing}
 use Rattle.draw.specs.Drawn.{farCentre}
 use Rattle.layout.specs.Layout.{Layout, planOf, layoutOf}
 use Rattle.plan.specs.Measured.{layoutBeyond}
-use Rattle.diagram.specs.Calls.{number, values, mainScreen, short, onto, drawnOf, numbersOf, routeRefusals, route, textAfter, layoutFor, layoutRefusals, layout, xsAfter, ysAfter, listing, listRefusals, list, listAfter}
-use Rattle.demand.specs.Demand.{Answered}
-use Rattle.shown.specs.Shown.{Lent, Listed, LaidOut, routed}
-use Rattle.worked_calls.specs.Numbers.{xs, ys, placed, path, drawn, computed}
+use Rattle.calls.specs.Calls.{number, values, mainScreen, short, onto, drawnOf, numbersOf, routeRefusals, route, textAfter, layoutFor, layoutRefusals, layout, xsAfter, ysAfter, listing, listRefusals, list, listAfter}
+use Rattle.demand3.specs.Demand.{Answered}
+use Rattle.listing_shows.specs.Shown.{Lent, ListAnswered, LayoutAnswered, routeCall}
+use Rattle.worked_calls.specs.Numbers.{smallXs, smallYs, smallLayout, path, smallRecords, computed}
 
 -- with every lent slice that is long enough
-pub record Drawn : Type 0 where
+pub record WorkedCalls : Type 0 where
   -- `layout` as Auto: `size 244 76`, `state 0 66 38`, `state 1 206 38`
   pub lays : (n m : ℕ) → 2 ≤ n → 2 ≤ m → layout small 0 n m ≡ values (2, whole 244, whole 76)
-  pub across : (l : List Float) (m : ℕ) → 2 ≤ length l → 2 ≤ m → xsAfter small 0 l m ≡ onto xs l
-  pub down : (n : ℕ) (l : List Float) → 2 ≤ n → 2 ≤ length l → ysAfter small 0 n l ≡ onto ys l
+  pub across : (l : List Float) (m : ℕ) → 2 ≤ length l → 2 ≤ m → xsAfter small 0 l m ≡ onto smallXs l
+  pub down : (n : ℕ) (l : List Float) → 2 ≤ n → 2 ≤ length l → ysAfter small 0 n l ≡ onto smallYs l
   -- `route` at those centres: one record, and its path
-  pub routes : (n m : ℕ) → 20 ≤ n → 17 ≤ m → route small xs ys n m ≡ values (20, 17)
-  pub paths : (n : ℕ) (t : List ℕ) → 20 ≤ n → 17 ≤ length t → textAfter small xs ys n t ≡ onto path t
+  pub routes : (n m : ℕ) → 20 ≤ n → 17 ≤ m → route small smallXs smallYs n m ≡ values (20, 17)
+  pub paths : (n : ℕ) (t : List ℕ) → 20 ≤ n → 17 ≤ length t → textAfter small smallXs smallYs n t ≡ onto path t
   -- `list` as Auto: the output, whole
   pub lists : (n : ℕ) → 180 ≤ n → list small 0 n ≡ values 180
-  pub text : (out : List ℕ) → 180 ≤ length out → listAfter small 0 out ≡ onto shown out
+  pub text : (out : List ℕ) → 180 ≤ length out → listAfter small 0 out ≡ onto workedListing out
 
 -- ---- what refuses nothing
 
 sheet-clear : Clear (refusals mainScreen small)
-unfolding decide Refusals.checkOf flatMap over anyFor anyUp Refusals.any Refusals.repeats Refusals.isSet Refusals.wrongRecord Refusals.wrongBytes Refusals.indices Refusals.wrongChains Refusals.largeArrow Refusals.overLimits Refusals.illArrow Refusals.illFormed Sheet.chainBy Sheet.metLine Sheet.metArrow Sheet.met Sheet.lineOf Sheet.linesFrom Sheet.arrowOf Sheet.statesOf Sheet.arrowsOf
+unfolding decide Refusals.checkOf flatMap over anyFor anyUp anyOf Refusals.repeats Refusals.isSet Refusals.wrongRecord Refusals.wrongBytes Refusals.indices Refusals.wrongChains Refusals.largeArrow Refusals.overLimits Refusals.illArrow Refusals.illFormed Sheet.chainBy Sheet.metLine Sheet.metArrow Sheet.met Sheet.lineOf Sheet.linesFrom Sheet.arrowOf Sheet.statesOf Sheet.arrowsOf
 sheet-clear = accepted-exactly mainScreen small .0 refl
 
-laid : layoutFor small 0 ≡ placed
+laid : layoutFor small 0 ≡ smallLayout
 laid = ap (λ (g : Graph). layoutOf 0 (planOf g)) small-means ∙ computed .laid
 
 within : layoutBeyond 0 (planOf (meaning small)) ≡ false
@@ -61,17 +62,17 @@ layout-clear n m h i =
     ap (λ (l : Layout). short n (l .xs) || short m (l .ys)) laid ∙ or-none _ _ (le-ltb n 2 h) (le-ltb m 2 i) in
     clear-from _ _ (refusals mainScreen small) (without 11 refl (without 9 within (without 7 o clear-none))) sheet-clear refl
 
-route-clear : (n m : ℕ) → 20 ≤ n → 17 ≤ m → Clear (routeRefusals small xs ys n m)
+route-clear : (n m : ℕ) → 20 ≤ n → 17 ≤ m → Clear (routeRefusals small smallXs smallYs n m)
 route-clear n m h i =
-    let near : farCentre (length (meaning small .states)) xs ys ≡ false = ap (λ (g : Graph). farCentre (length (g .states)) xs ys) small-means ∙ computed .near in
-    let single : beyond (frameOf (meaning small) xs ys) ≡ false = ap (λ (g : Graph). beyond (frameOf g xs ys)) small-means ∙ computed .single in
-    let ok : not (pathsWritable (drawnOf small xs ys)) ≡ false = ap (λ (g : Graph). not (pathsWritable (recordsOf g xs ys))) small-means ∙ ap not (computed .paths-ok) in
-    let o : (short n (numbersOf (drawnOf small xs ys)) || short m (pathsText (drawnOf small xs ys))) ≡ false =
-    ap (λ (g : Graph). short n (numbersOf (recordsOf g xs ys)) || short m (pathsText (recordsOf g xs ys))) small-means
-    ∙ or-none _ _ (le-ltb n (length (numbersOf drawn)) (omega (arith, computed .numbers))) (le-ltb m (length (pathsText drawn)) (omega (arith, ap length (computed .paths)))) in
+    let near : farCentre (length (meaning small .states)) smallXs smallYs ≡ false = ap (λ (g : Graph). farCentre (length (g .states)) smallXs smallYs) small-means ∙ computed .near in
+    let single : beyond (frameOf (meaning small) smallXs smallYs) ≡ false = ap (λ (g : Graph). beyond (frameOf g smallXs smallYs)) small-means ∙ computed .single in
+    let ok : not (pathsWritable (drawnOf small smallXs smallYs)) ≡ false = ap (λ (g : Graph). not (pathsWritable (recordsOf g smallXs smallYs))) small-means ∙ ap not (computed .paths-ok) in
+    let o : (short n (numbersOf (drawnOf small smallXs smallYs)) || short m (pathsText (drawnOf small smallXs smallYs))) ≡ false =
+    ap (λ (g : Graph). short n (numbersOf (recordsOf g smallXs smallYs)) || short m (pathsText (recordsOf g smallXs smallYs))) small-means
+    ∙ or-none _ _ (le-ltb n (length (numbersOf smallRecords)) (omega (arith, computed .numbers))) (le-ltb m (length (pathsText smallRecords)) (omega (arith, ap length (computed .paths)))) in
     clear-from _ _ (refusals mainScreen small) (without 8 near (without 9 single (without 10 ok (without 7 o clear-none)))) sheet-clear refl
 
-listing-is : listing small 0 ≡ shown
+listing-is : listing small 0 ≡ workedListing
 listing-is =
     ap₂ (λ (g : Graph) (l : Layout). listText (l .width) (l .height) (centres (l .xs) (l .ys)) (flagsOf g) (recordsOf g (l .xs) (l .ys))) small-means laid
     ∙ computed .text
@@ -100,55 +101,55 @@ lays n m h i =
     clear-decides number _ (layoutRefusals small 0 n m) (layout-clear n m h i)
     ∙ ap₂ (λ (g : Graph) (l : Layout). values (length (g .states), l .width, l .height)) small-means laid
 
-across : (l : List Float) (m : ℕ) → 2 ≤ length l → 2 ≤ m → xsAfter small 0 l m ≡ onto xs l
+across : (l : List Float) (m : ℕ) → 2 ≤ length l → 2 ≤ m → xsAfter small 0 l m ≡ onto smallXs l
 unfolding xsAfter
 across l m h i = clear-decides (λ (k : ℕ). l) _ (layoutRefusals small 0 (length l) m) (layout-clear (length l) m h i) ∙ ap (λ (p : Layout). onto (p .xs) l) laid
 
-down : (n : ℕ) (l : List Float) → 2 ≤ n → 2 ≤ length l → ysAfter small 0 n l ≡ onto ys l
+down : (n : ℕ) (l : List Float) → 2 ≤ n → 2 ≤ length l → ysAfter small 0 n l ≡ onto smallYs l
 unfolding ysAfter
 down n l h i = clear-decides (λ (k : ℕ). l) _ (layoutRefusals small 0 n (length l)) (layout-clear n (length l) h i) ∙ ap (λ (p : Layout). onto (p .ys) l) laid
 
-routes : (n m : ℕ) → 20 ≤ n → 17 ≤ m → route small xs ys n m ≡ values (20, 17)
+routes : (n m : ℕ) → 20 ≤ n → 17 ≤ m → route small smallXs smallYs n m ≡ values (20, 17)
 unfolding route
 routes n m h i =
-    clear-decides number _ (routeRefusals small xs ys n m) (route-clear n m h i)
-    ∙ ap (λ (g : Graph). values (length (numbersOf (recordsOf g xs ys)), length (pathsText (recordsOf g xs ys)))) small-means
+    clear-decides number _ (routeRefusals small smallXs smallYs n m) (route-clear n m h i)
+    ∙ ap (λ (g : Graph). values (length (numbersOf (recordsOf g smallXs smallYs)), length (pathsText (recordsOf g smallXs smallYs)))) small-means
     ∙ ap₂ (λ (a : ℕ) (t : List ℕ). values (a, length t)) (computed .numbers) (computed .paths)
 
-paths : (n : ℕ) (t : List ℕ) → 20 ≤ n → 17 ≤ length t → textAfter small xs ys n t ≡ onto path t
+paths : (n : ℕ) (t : List ℕ) → 20 ≤ n → 17 ≤ length t → textAfter small smallXs smallYs n t ≡ onto path t
 unfolding textAfter
 paths n t h i =
-    clear-decides (λ (k : ℕ). t) _ (routeRefusals small xs ys n (length t)) (route-clear n (length t) h i)
-    ∙ ap (λ (g : Graph). onto (pathsText (recordsOf g xs ys)) t) small-means
+    clear-decides (λ (k : ℕ). t) _ (routeRefusals small smallXs smallYs n (length t)) (route-clear n (length t) h i)
+    ∙ ap (λ (g : Graph). onto (pathsText (recordsOf g smallXs smallYs)) t) small-means
     ∙ ap (λ (p : List ℕ). onto p t) (computed .paths)
 
 lists : (n : ℕ) → 180 ≤ n → list small 0 n ≡ values 180
 unfolding list
 lists n h = clear-decides number _ (listRefusals small 0 n) (list-clear n h) ∙ ap (λ (t : List ℕ). values (length t)) listing-is
 
-text : (out : List ℕ) → 180 ≤ length out → listAfter small 0 out ≡ onto shown out
+text : (out : List ℕ) → 180 ≤ length out → listAfter small 0 out ≡ onto workedListing out
 unfolding listAfter
 text out h = clear-decides (λ (k : ℕ). out) _ (listRefusals small 0 (length out)) (list-clear (length out) h) ∙ ap (λ (t : List ℕ). onto t out) listing-is
 
-pub worked : Drawn
-worked = record { lays = lays; across = across; down = down; routes = routes; paths = paths; lists = lists; text = text }
+pub worked-calls : WorkedCalls
+worked-calls = record { lays = lays; across = across; down = down; routes = routes; paths = paths; lists = lists; text = text }
 
--- ---- so the claims of `demand` and `shown` are about something
+-- ---- so the claims of `demand3` and `listing_shows` are about something
 
-abbrev pub lent : Lent
-lent = record { sheet = small; kind = 0; xs = replicate 2 (whole 0); ys = replicate 2 (whole 0); records = replicate 20 (whole 0); text = replicate 17 0; out = replicate 180 0 }
+abbrev pub workedLent : Lent
+workedLent = record { sheet = small; kind = 0; xs = replicate 2 (whole 0); ys = replicate 2 (whole 0); records = replicate 20 (whole 0); text = replicate 17 0; out = replicate 180 0 }
 
-pub listed : Listed lent
-listed = record { bytes = 180; answer = worked .lists 180 (omega arith) }
+pub worked-listed : ListAnswered workedLent
+worked-listed = record { bytes = 180; answer = worked-calls .lists 180 (omega arith) }
 
-abbrev pub laid-out : LaidOut lent
-laid-out = record { states = 2; width = whole 244; height = whole 76; answer = worked .lays 2 2 (omega arith) (omega arith) }
+abbrev pub laid-out : LayoutAnswered workedLent
+laid-out = record { states = 2; width = whole 244; height = whole 76; answer = worked-calls .lays 2 2 (omega arith) (omega arith) }
 
-pub answered : Answered (routed lent laid-out)
-answered = record {
+pub worked-answered : Answered (routeCall workedLent laid-out)
+worked-answered = record {
   numbers = 20;
   bytes = 17;
   answer =
-      ap₂ (λ (a b : List Float). route small (take 2 a) (take 2 b) 20 17) (across (lent .xs) 2 (omega arith) (omega arith)) (down 2 (lent .ys) (omega arith) (omega arith))
+      ap₂ (λ (a b : List Float). route small (take 2 a) (take 2 b) 20 17) (across (workedLent .xs) 2 (omega arith) (omega arith)) (down 2 (workedLent .ys) (omega arith) (omega arith))
       ∙ routes 20 17 (omega arith) (omega arith);
 }

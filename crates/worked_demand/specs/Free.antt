@@ -48,5 +48,5 @@ module _ {S T : Type 0} (places : S → T → ℕ) (cost : S → T → ℕ → �
       (λ a e₁. both (eqb (cost s t p) 0) _ e₁
       (λ b e₂. both (dear (cost s t) p) _ e₂
       (λ c e₃.
-      let q : Run.taken places cost after s t ≡ p = first-free (cost s t) (places s t) p (ltb-true p (suc (places s t)) a) (eqb-true (cost s t p) 0 b) c in
+      let q : Run.takenBy places cost after s t ≡ p = first-free (cost s t) (places s t) p (ltb-true p (suc (places s t)) a) (eqb-true (cost s t p) 0 b) c in
       ap (λ (k : ℕ). k ∷ Run.run places cost after (after s t k) ts) q ∙ ap (λ (l : List ℕ). p ∷ l) (free-taken (after s t p) ts ps e₃))))

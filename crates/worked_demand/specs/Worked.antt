@@ -8,46 +8,46 @@ use borrow.Author.Tests.{le-ltb}
 use lib.ListN.{length, getD, length-map, List·getD-map}
 use lib.Ieee.{Float, nan, ofInt, round}
 use Rattle.laws.specs.Refusals.{clear-none, without, clear-from, clear-decides}
-use Rattle.float.specs.Ops.{count}
+use Rattle.laws.specs.Bools.{or-none}
+use Rattle.sheet.specs.Meaning.{noArrow, arrowAt}
+use Rattle.float.specs.Ops.{ofNat}
 use Rattle.sheet.specs.Sheet.{State, Arrow}
 use Rattle.sheet.specs.Refusals.{refusals}
 use Rattle.sheet.specs.Order.{accepted-exactly}
-use Rattle.sheet.specs.Any.{or-none}
 use Rattle.records.specs.Records.{fields}
-use Rattle.spot.specs.declared.Geometry.{Geometry}
-use Rattle.routing.specs.Routing.{edgeOf, taken}
-use Rattle.routing.specs.Demand.{noItem}
-use Rattle.routing.specs.Sheets.{noState, noArrow, arrowAt}
-use Rattle.lines.specs.Lines.{pathsText, pathsWritable}
-use Rattle.diagram.specs.Calls.{number, values, mainScreen, short, drawnOf, numbersOf, routeRefusals, route}
-use Rattle.demand.specs.Demand.{Call, Answered, recordAt, curveAt, graph, frame, sizes, turns, turnArrow, takenAt, drawnAt, numberOf, turnNumber}
-use Rattle.demand.specs.Demand.{Held, Same, Agree, Alike, Between}
-use Rattle.demand.specs.Proof.{demand3}
+use Rattle.label_spots.specs.declared.Geometry.{Geometry}
+use Rattle.routing.specs.Routing.{edgeOf, placesTaken, noItem}
+use Rattle.routing.specs.Sheets.{noState}
+use Rattle.drawing_text.specs.Lines.{pathsText, pathsWritable}
+use Rattle.calls.specs.Calls.{number, values, mainScreen, short, drawnOf, numbersOf, routeRefusals, route}
+use Rattle.demand3.specs.Demand.{Call, Answered, recordAt, curveAt, graph, frame, sizes, turns, turnArrow, takenAt, drawnAt, recordNumberOf, turnNumber}
+use Rattle.demand3.specs.Demand.{Held, Same, Agree, Alike, Between}
+use Rattle.demand3.specs.Proof.{demand3}
 use Rattle.worked_demand.specs.Calls.{oneLetter, twelveLetters, first, second}
-use Rattle.worked_demand.specs.Computed.{taken-free, numberAt, placed, drawn-placed, Drawn, first-drawn, second-drawn, same-states, same-centres}
+use Rattle.worked_demand.specs.Computed.{taken-free, numberAt, recordsPlaced, drawn-placed, ComputedCall, first-drawn, second-drawn, same-states, same-centres}
 
 -- ---- what is shown
 
 -- number i of the record of turn t, in the slice that `route` leaves
-abbrev pub left : Call → ℕ → ℕ → Float
-left c i t = getD (recordAt c (turnNumber c t)) i nan
+abbrev pub numberLeft : Call → ℕ → ℕ → Float
+numberLeft c i t = getD (recordAt c (turnNumber c t)) i nan
 
-pub record Shown : Type 0 where
+pub record WorkedDemand : Type 0 where
   pub answered : Answered first
   pub also : Answered second
   pub same : Same first second
   -- the turns: the loop, arrow 3; the pair, arrows 0 and 1; the straight arrow 2. Their curves have four points, three, three and two
   pub turn : map edgeOf (turns first) ≡ 3 ∷ 0 ∷ 1 ∷ 2 ∷ []
-  pub loop : left first 1 0 ≡ count 4
-  pub arcs : (left first 1 1 ≡ count 3) × (left first 1 2 ≡ count 3)
-  pub straight : left first 1 3 ≡ count 2
+  pub loop : numberLeft first 1 0 ≡ ofNat 4
+  pub arcs : (numberLeft first 1 1 ≡ ofNat 3) × (numberLeft first 1 2 ≡ ofNat 3)
+  pub straight : numberLeft first 1 3 ≡ ofNat 2
   -- label lines agree at the turns 0, 1 and 3, and not at 2
   pub agree : Agree first second 0 × Agree first second 1 × Agree first second 3
   pub disagree : Agree first second 2 → ⊥
   -- so the records of the turns 0 and 1 are alike, a loop's and an arc's
   pub alike : (t : ℕ) → t < 2 → Alike first second t
   -- and so are the curves of all arrows between different states
-  pub curves : (e : ℕ) → e < 3 → curveAt first (numberOf first e) ≡ curveAt second (numberOf second e)
+  pub curves : (e : ℕ) → e < 3 → curveAt first (recordNumberOf first e) ≡ curveAt second (recordNumberOf second e)
   -- those of turn 3 are not, though its own lines agree: the straight arrow's label stands at its first place in one and at its second in the other
   pub places : (takenAt first 3 ≡ 0) × (takenAt second 3 ≡ 1)
   pub unlike : recordAt first (turnNumber first 3) ≡ recordAt second (turnNumber second 3) → ⊥
@@ -61,11 +61,11 @@ arrows = 3 ∷ 0 ∷ 1 ∷ 2 ∷ []
 abbrev linesWith : List ℕ → List (List (List ℕ))
 linesWith l = ((97 ∷ []) ∷ []) ∷ (l ∷ []) ∷ ((99 ∷ []) ∷ []) ∷ ((100 ∷ []) ∷ []) ∷ []
 
-module _ {c : Call} {l ps anchors : List ℕ} (d : Drawn c l ps anchors) where
-  places-are : taken (frame c) (sizes c) ≡ ps
+module _ {c : Call} {l ps anchors : List ℕ} (d : ComputedCall c l ps anchors) where
+  places-are : placesTaken (frame c) (sizes c) ≡ ps
   places-are = taken-free c ps (d .free)
 
-  drawn-are : drawnOf (c .sheet) (c .xs) (c .ys) ≡ placed c ps
+  drawn-are : drawnOf (c .sheet) (c .xs) (c .ys) ≡ recordsPlaced c ps
   drawn-are = drawn-placed c ps places-are
 
   numbers-many : length (numbersOf (drawnOf (c .sheet) (c .xs) (c .ys))) ≡ 80
@@ -117,7 +117,7 @@ module _ {c : Call} {l ps anchors : List ℕ} (d : Drawn c l ps anchors) where
   taken-is t = ap (λ (m : List ℕ). getD m t 0) places-are
 
   -- by demand 3 the record of a turn holds the place taken
-  left-is : Answered c → (i t : ℕ) → t < 4 → left c i t ≡ numberAt c ps i t
+  left-is : Answered c → (i t : ℕ) → t < 4 → numberLeft c i t ≡ numberAt c ps i t
   left-is a i t h =
       let r : Held c a t = demand3 .cheapest c a .held t (omega (arith, turns-many)) in
       ap (λ (m : List Float). getD m i nan) (r .numbers ∙ ap (λ (p : ℕ). fields (drawnAt c t p)) (r .taken ∙ taken-is t))
@@ -172,7 +172,7 @@ between e h = record { inside = omega (arith, arrows-many first-drawn); source =
         (omega (arith, s, first-drawn .states), omega (arith, t, first-drawn .states), λ q. omega (arith, s, t, q))
     go (suc (suc (suc e))) h = absurd (omega arith)
 
-points-are : (t : ℕ) → t < 4 → left first 1 t ≡ getD (map count (4 ∷ 3 ∷ 3 ∷ 2 ∷ [])) t nan
+points-are : (t : ℕ) → t < 4 → numberLeft first 1 t ≡ getD (map ofNat (4 ∷ 3 ∷ 3 ∷ 2 ∷ [])) t nan
 points-are zero h = left-is first-drawn first-answered 1 0 h ∙ ap (λ (m : List Float). getD m 0 nan) (first-drawn .points)
 points-are (suc zero) h = left-is first-drawn first-answered 1 1 h ∙ ap (λ (m : List Float). getD m 1 nan) (first-drawn .points)
 points-are (suc (suc zero)) h = left-is first-drawn first-answered 1 2 h ∙ ap (λ (m : List Float). getD m 2 nan) (first-drawn .points)
@@ -180,18 +180,18 @@ points-are (suc (suc (suc zero))) h = left-is first-drawn first-answered 1 3 h �
 points-are (suc (suc (suc (suc t)))) h = absurd (omega arith)
 
 -- the anchor of turn 3: 0 start, 2 end
-anchor-first : left first 15 3 ≡ count 0
+anchor-first : numberLeft first 15 3 ≡ ofNat 0
 anchor-first = left-is first-drawn first-answered 15 3 (omega arith) ∙ ap (λ (m : List Float). getD m 3 nan) (first-drawn .anchor)
 
-anchor-second : left second 15 3 ≡ count 2
+anchor-second : numberLeft second 15 3 ≡ ofNat 2
 anchor-second = left-is second-drawn second-answered 15 3 (omega arith) ∙ ap (λ (m : List Float). getD m 3 nan) (second-drawn .anchor)
 
-anchors-apart : count 0 ≡ count 2 → ⊥
+anchors-apart : ofNat 0 ≡ ofNat 2 → ⊥
 unfolding ofInt round
 anchors-apart q = let z : _≡_ {A = ℕ} 0 1 = cc in omega arith
 
-pub worked : Shown
-worked = record {
+pub worked-demand : WorkedDemand
+worked-demand = record {
   answered = first-answered;
   also = second-answered;
   same = same;

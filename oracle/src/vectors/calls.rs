@@ -12,7 +12,7 @@ use crate::random::Random;
 use crate::sheet::{Arrow, Sheet, label_block, read};
 
 /// No case is longer than the program's room for one.
-const LONGEST: usize = 70_000;
+const LONGEST: usize = 140_000;
 
 /// A call and what it gives.
 #[derive(Default)]
@@ -50,62 +50,22 @@ impl Call {
     }
 }
 
-#[derive(Default)]
-struct Cases {
+/// A sheet and centres.
+pub struct Drawn {
+    pub sheet: Vec<u8>,
+    pub xs: Vec<f64>,
+    pub ys: Vec<f64>,
+}
+
+/// The calls, put into a stream.
+pub struct Calls<'a> {
+    out: &'a mut Stream,
+    /// Of so many cases with one answer, the first is followed by a spoiled one; 0: none is.
+    spoil: usize,
+    rng: Random,
     answers: BTreeMap<(u8, u8), usize>,
     /// The sorts of starts of the listings that are not refused.
     starts: [usize; SORTS.len()],
-}
-
-impl Cases {
-    /// Adds the case where it is short enough, and now and then, where it is small, one that is spoiled.
-    fn add(&mut self, out: &mut Stream, rng: &mut Random, call: &Call) {
-        let p = call.case(call.answer, &call.written);
-        if p.0.len() > LONGEST - 1 {
-            return;
-        }
-        if call.kind == kind::LIST_CALL && call.answer == 0 {
-            self.starts[sort_of_starts(&read(&call.sheet).unwrap().graph())] += 1;
-        }
-        let count = self.answers.entry((call.kind, call.answer)).or_default();
-        *count += 1;
-        let spoil = *count % 5 == 1 && p.0.len() < 6_000;
-        out.case(call.kind, p);
-        if spoil {
-            out.spoiled(call.kind, call.spoiled(rng));
-        }
-    }
-
-    fn answered(&self, kind: u8) -> usize {
-        self.answers.get(&(kind, 0)).copied().unwrap_or(0)
-    }
-
-    fn count(&self, kind: u8) -> usize {
-        self.answers.iter().filter(|(k, _)| k.0 == kind).map(|(_, n)| n).sum()
-    }
-
-    /// The counts; every refusal is there.
-    fn end(&self) {
-        for refusal in 1..=11 {
-            assert!(self.answers.keys().any(|k| k.1 == refusal), "no refusal {refusal}");
-        }
-        for refusal in [0, 1, 2, 3, 4, 5, 6, 7, 11] {
-            assert!(self.answers.contains_key(&(kind::LIST_CALL, refusal)), "no listing {refusal}");
-        }
-        assert!(self.starts.iter().all(|&n| n > 0), "starts: {:?}", self.starts);
-        println!("listings, by starts: {:?}", SORTS.iter().zip(self.starts).collect::<Vec<_>>());
-        for kind in kind::ROUTE_CALL..=kind::NUMBER_CALL {
-            println!("call {kind}: {}", self.count(kind));
-        }
-        println!("calls, by kind and answer: {:?}", self.answers);
-    }
-}
-
-/// A sheet and centres.
-struct Drawn {
-    sheet: Vec<u8>,
-    xs: Vec<f64>,
-    ys: Vec<f64>,
 }
 
 /// The room for an answer of n: plenty, just enough, one too few, or anything less.
@@ -114,7 +74,211 @@ fn room(rng: &mut Random, n: usize) -> usize {
         0 | 1 => n,
         2 => n.saturating_sub(1),
         3 => rng.below(n + 1),
-        _ => n + 1 + rng.below(50),
+        _ => plenty(rng, n),
+    }
+}
+
+pub fn plenty(rng: &mut Random, n: usize) -> usize {
+    n + 1 + rng.below(50)
+}
+
+/// The numbers of xs and of ys; the xs, the ys.
+fn at_centres(d: &Drawn) -> Payload {
+    Payload::new().word(d.xs.len()).word(d.ys.len()).floats(&d.xs).floats(&d.ys)
+}
+
+impl<'a> Calls<'a> {
+    pub fn new(out: &'a mut Stream, spoil: usize) -> Self {
+        Self { out, spoil, rng: Random::new(909), answers: BTreeMap::new(), starts: [0; SORTS.len()] }
+    }
+
+    /// Adds the case where it is short enough, and where it is small now and then one that is spoiled.
+    fn add(&mut self, call: &Call) {
+        let p = call.case(call.answer, &call.written);
+        if p.0.len() > LONGEST - 1 {
+            return;
+        }
+        if call.kind == kind::LIST && call.answer == 0 {
+            self.starts[sort_of_starts(&read(&call.sheet).unwrap().graph())] += 1;
+        }
+        let count = self.answers.entry((call.kind, call.answer)).or_default();
+        *count += 1;
+        let spoil = self.spoil > 0 && *count % self.spoil == 1 && p.0.len() < 6_000;
+        self.out.case(call.kind, p);
+        if spoil {
+            self.out.spoiled(call.kind, call.spoiled(&mut self.rng));
+        }
+    }
+
+    fn answered(&self, kind: u8) -> usize {
+        self.answers.get(&(kind, 0)).copied().unwrap_or(0)
+    }
+
+    /// The counts; every refusal is there, and 1 to 6 by each call that takes a sheet.
+    pub fn end(&self) {
+        for refusal in 1..=11 {
+            assert!(self.answers.keys().any(|k| k.1 == refusal), "no refusal {refusal}");
+        }
+        for refusal in [0, 1, 2, 3, 4, 5, 6, 7, 11] {
+            assert!(self.answers.contains_key(&(kind::LIST, refusal)), "no listing {refusal}");
+        }
+        assert!(self.starts.iter().all(|&n| n > 0), "starts: {:?}", self.starts);
+        println!("listings, by starts: {:?}", SORTS.iter().zip(self.starts).collect::<Vec<_>>());
+        println!("calls, by kind and answer: {:?}", self.answers);
+    }
+
+    /// Given: the centres; the rooms that are lent for records and text. Written: the number of numbers
+    /// of the records, these numbers, the text.
+    pub fn route(&mut self, d: &Drawn, lent: fn(&mut Random, usize) -> usize) {
+        let (n, m) = calls::route(&d.sheet, &d.xs, &d.ys, (usize::MAX, usize::MAX))
+            .map_or((20, 20), |r| (r.records.len(), r.text.len()));
+        let (n, m) = (lent(&mut self.rng, n), lent(&mut self.rng, m));
+        let (answer, records, text) = match calls::route(&d.sheet, &d.xs, &d.ys, (n, m)) {
+            Ok(r) => (0, r.records, r.text),
+            Err(e) => (e, vec![], vec![]),
+        };
+        let other = if self.rng.once_in(2) {
+            Payload::new().word(1).float(0.0)
+        } else {
+            Payload::new().word(0).bytes(b"\n")
+        };
+        let call = Call {
+            kind: kind::ROUTE,
+            answer,
+            sheet: d.sheet.clone(),
+            given: at_centres(d).word(n).word(m),
+            written: Payload::new().word(records.len()).floats(&records).bytes(&text).0,
+            other: other.0,
+            ..Call::default()
+        };
+        self.add(&call);
+    }
+
+    /// Given: the rooms that are lent for x and for y. Written: the number of states, width, height, the
+    /// xs, the ys.
+    pub fn layout(&mut self, d: &Drawn, by: u8, lent: fn(&mut Random, usize) -> usize) {
+        let n = calls::layout(&d.sheet, by, usize::MAX, usize::MAX).map_or(3, |l| l.x.len());
+        let (n, m) = (lent(&mut self.rng, n), lent(&mut self.rng, n));
+        let (answer, size, xs, ys) = match calls::layout(&d.sheet, by, n, m) {
+            Ok(l) => (0, [l.width, l.height], l.x, l.y),
+            Err(e) => (e, [0.0; 2], vec![], vec![]),
+        };
+        let call = Call {
+            kind: kind::LAYOUT,
+            answer,
+            by,
+            sheet: d.sheet.clone(),
+            given: Payload::new().word(n).word(m),
+            written: Payload::new().word(xs.len()).floats(&size).floats(&xs).floats(&ys).0,
+            other: Payload::new().word(1).floats(&size).floats(&[38.0, 38.0]).0,
+            ..Call::default()
+        };
+        self.add(&call);
+    }
+
+    /// Given: the centres. Written: the count, four bytes.
+    pub fn clutter(&mut self, d: &Drawn) {
+        let answer = calls::clutter(&d.sheet, &d.xs, &d.ys);
+        let call = Call {
+            kind: kind::CLUTTER,
+            answer: answer.err().unwrap_or(0),
+            sheet: d.sheet.clone(),
+            given: at_centres(d),
+            written: Payload::new().long(answer.unwrap_or(0)).0,
+            ..Call::default()
+        };
+        self.add(&call);
+    }
+
+    /// Given: the room that is lent. Written: the text.
+    fn list(&mut self, d: &Drawn, by: u8) {
+        let n = calls::list(&d.sheet, by, usize::MAX).map_or(20, |t| t.len());
+        let n = room(&mut self.rng, n);
+        let answer = calls::list(&d.sheet, by, n);
+        let call = Call {
+            kind: kind::LIST,
+            answer: answer.as_ref().err().copied().unwrap_or(0),
+            by,
+            sheet: d.sheet.clone(),
+            given: Payload::new().word(n),
+            written: answer.unwrap_or_default(),
+            other: b"size 32 32\n".to_vec(),
+            ..Call::default()
+        };
+        self.add(&call);
+    }
+
+    /// Behind the sheet stand bytes that are no part of it. The answer.
+    pub fn check(&mut self, sheet: &[u8]) -> u8 {
+        let call = Call {
+            kind: kind::CHECK,
+            answer: calls::check(sheet).err().unwrap_or(0),
+            sheet: sheet.to_vec(),
+            behind: vec![170; 1 + self.rng.below(40)],
+            ..Call::default()
+        };
+        self.add(&call);
+        call.answer
+    }
+
+    /// The text stands in the sheet's place. Given: the number of lines and, behind what is written, their
+    /// lengths, eight bytes each, and bytes that are no length. Written: width and height.
+    pub fn label(&mut self, text: &[u8], lengths: &[usize]) {
+        let answer = label_block(text, lengths);
+        let (w, h) = answer.unwrap_or((0.0, 0.0));
+        let behind = lengths.iter().flat_map(|n| (*n as u64).to_le_bytes()).chain([170; 16]);
+        let call = Call {
+            kind: kind::LABEL_SIZE,
+            answer: answer.err().unwrap_or(0),
+            sheet: text.to_vec(),
+            given: Payload::new().word(lengths.len()),
+            written: Payload::new().floats(&[w, h]).0,
+            behind: behind.collect(),
+            ..Call::default()
+        };
+        self.add(&call);
+    }
+
+    /// No sheet. Given: the number and the room that is lent. Written: the text.
+    pub fn written(&mut self, v: f64, room: usize) {
+        let answer = calls::write_num(v, room);
+        let call = Call {
+            kind: kind::NUMBER,
+            answer: answer.as_ref().err().copied().unwrap_or(0),
+            given: Payload::new().float(v).word(room),
+            written: answer.unwrap_or_default(),
+            other: b"0".to_vec(),
+            ..Call::default()
+        };
+        self.add(&call);
+    }
+
+    fn call(&mut self, kind: u8, d: &Drawn) {
+        match kind {
+            kind::ROUTE => self.route(d, room),
+            kind::LAYOUT => {
+                let by = layout_kind(&mut self.rng);
+                self.layout(d, by, room);
+            }
+            kind::CLUTTER => self.clutter(d),
+            kind::LIST => {
+                let by = layout_kind(&mut self.rng);
+                self.list(d, by);
+            }
+            kind::CHECK => {
+                self.check(&d.sheet);
+            }
+            kind::LABEL_SIZE => {
+                let (text, lengths) = label_lines(&mut self.rng);
+                self.label(&text, &lengths);
+            }
+            _ => {
+                let v = number(&mut self.rng);
+                let n = calls::write_num(v, usize::MAX).map_or(3, |t| t.len());
+                let n = room(&mut self.rng, n).min(64);
+                self.written(v, n);
+            }
+        }
     }
 }
 
@@ -217,198 +381,45 @@ fn turn(rng: &mut Random, i: usize) -> Drawn {
     }
 }
 
-/// Listings until 300 are not refused, one of a sheet that is too long, 490 calls of all kinds, mixed, and
+/// Listings until 260 are not refused, one of a sheet that is too long, 490 calls of all kinds, mixed, and
 /// what is missing of the refusals 1 to 6 by each call that takes a sheet.
-pub fn cases(out: &mut Stream) {
+pub fn cases(c: &mut Calls) {
     let rng = &mut Random::new(707);
-    let c = &mut Cases::default();
-    while c.answered(kind::LIST_CALL) < 300 {
+    while c.answered(kind::LIST) < 260 {
         let drawing = if rng.once_in(40) { drawing(rng) } else { small(rng) };
         let d = drawn(rng, &drawing);
         let by = layout_kind(rng);
-        list(out, c, rng, &d, by);
+        c.list(&d, by);
     }
     let by = rng.below(3) as u8;
     let d = too_long(rng);
-    list(out, c, rng, &d, by);
-    for kind in kind::ROUTE_CALL..=kind::LIST_CALL {
+    c.list(&d, by);
+    for kind in kind::ROUTE..=kind::LIST {
         let d = largest(rng);
-        call(out, c, rng, kind, &d);
+        c.call(kind, &d);
     }
     for i in 0..490 {
         let d = turn(rng, i);
         // Crowded and far centres are for those calls that are given centres.
         let kind = match i % 30 {
-            3 | 14 => rng.pick(&[kind::ROUTE_CALL, kind::CLUTTER_CALL]),
-            _ => kind::ROUTE_CALL + rng.below(7) as u8,
+            3 | 14 => rng.pick(&[kind::ROUTE, kind::CLUTTER]),
+            _ => kind::ROUTE + rng.below(7) as u8,
         };
-        call(out, c, rng, kind, &d);
+        c.call(kind, &d);
     }
-    for kind in kind::ROUTE_CALL..=kind::CHECK_CALL {
+    for kind in kind::ROUTE..=kind::CHECK {
         for refusal in 1..=6 {
             while !c.answers.contains_key(&(kind, refusal)) {
                 let drawing = small(rng);
                 let d = drawn(rng, &drawing);
                 if calls::check(&d.sheet) == Err(refusal) {
-                    call(out, c, rng, kind, &d);
+                    c.call(kind, &d);
                 }
             }
         }
-    }
-    c.end();
-}
-
-fn call(out: &mut Stream, c: &mut Cases, rng: &mut Random, kind: u8, d: &Drawn) {
-    match kind {
-        kind::ROUTE_CALL => route(out, c, rng, d),
-        kind::LAYOUT_CALL => layout(out, c, rng, d),
-        kind::CLUTTER_CALL => clutter(out, c, rng, d),
-        kind::LIST_CALL => {
-            let by = layout_kind(rng);
-            list(out, c, rng, d, by);
-        }
-        kind::CHECK_CALL => check(out, c, rng, d),
-        kind::LABEL_CALL => label(out, c, rng),
-        _ => written(out, c, rng),
     }
 }
 
 fn layout_kind(rng: &mut Random) -> u8 {
     if rng.once_in(12) { rng.pick(&[3, 4, 255]) } else { rng.below(3) as u8 }
-}
-
-/// The numbers of xs and of ys; the xs, the ys.
-fn at_centres(d: &Drawn) -> Payload {
-    Payload::new().word(d.xs.len()).word(d.ys.len()).floats(&d.xs).floats(&d.ys)
-}
-
-/// Given: the centres; the rooms that are lent for records and text. Written: the number of numbers
-/// of the records, these numbers, the text.
-fn route(out: &mut Stream, c: &mut Cases, rng: &mut Random, d: &Drawn) {
-    let (n, m) = calls::route(&d.sheet, &d.xs, &d.ys, (usize::MAX, usize::MAX))
-        .map_or((20, 20), |r| (r.records.len(), r.text.len()));
-    let (n, m) = (room(rng, n), room(rng, m));
-    let (answer, records, text) = match calls::route(&d.sheet, &d.xs, &d.ys, (n, m)) {
-        Ok(r) => (0, r.records, r.text),
-        Err(e) => (e, vec![], vec![]),
-    };
-    let other = if rng.once_in(2) {
-        Payload::new().word(1).float(0.0)
-    } else {
-        Payload::new().word(0).bytes(b"\n")
-    };
-    let call = Call {
-        kind: kind::ROUTE_CALL,
-        answer,
-        sheet: d.sheet.clone(),
-        given: at_centres(d).word(n).word(m),
-        written: Payload::new().word(records.len()).floats(&records).bytes(&text).0,
-        other: other.0,
-        ..Call::default()
-    };
-    c.add(out, rng, &call);
-}
-
-/// Given: the rooms that are lent for x and for y. Written: the number of states, width, height, the
-/// xs, the ys.
-fn layout(out: &mut Stream, c: &mut Cases, rng: &mut Random, d: &Drawn) {
-    let by = layout_kind(rng);
-    let n = calls::layout(&d.sheet, by, usize::MAX, usize::MAX).map_or(3, |l| l.x.len());
-    let (n, m) = (room(rng, n), room(rng, n));
-    let (answer, size, xs, ys) = match calls::layout(&d.sheet, by, n, m) {
-        Ok(l) => (0, [l.width, l.height], l.x, l.y),
-        Err(e) => (e, [0.0; 2], vec![], vec![]),
-    };
-    let call = Call {
-        kind: kind::LAYOUT_CALL,
-        answer,
-        by,
-        sheet: d.sheet.clone(),
-        given: Payload::new().word(n).word(m),
-        written: Payload::new().word(xs.len()).floats(&size).floats(&xs).floats(&ys).0,
-        other: Payload::new().word(1).floats(&size).floats(&[38.0, 38.0]).0,
-        ..Call::default()
-    };
-    c.add(out, rng, &call);
-}
-
-/// Given: the centres. Written: the count, four bytes.
-fn clutter(out: &mut Stream, c: &mut Cases, rng: &mut Random, d: &Drawn) {
-    let answer = calls::clutter(&d.sheet, &d.xs, &d.ys);
-    let call = Call {
-        kind: kind::CLUTTER_CALL,
-        answer: answer.err().unwrap_or(0),
-        sheet: d.sheet.clone(),
-        given: at_centres(d),
-        written: Payload::new().long(answer.unwrap_or(0)).0,
-        ..Call::default()
-    };
-    c.add(out, rng, &call);
-}
-
-/// Given: the room that is lent. Written: the text.
-fn list(out: &mut Stream, c: &mut Cases, rng: &mut Random, d: &Drawn, by: u8) {
-    let n = calls::list(&d.sheet, by, usize::MAX).map_or(20, |t| t.len());
-    let n = room(rng, n);
-    let answer = calls::list(&d.sheet, by, n);
-    let call = Call {
-        kind: kind::LIST_CALL,
-        answer: answer.as_ref().err().copied().unwrap_or(0),
-        by,
-        sheet: d.sheet.clone(),
-        given: Payload::new().word(n),
-        written: answer.unwrap_or_default(),
-        other: b"size 32 32\n".to_vec(),
-        ..Call::default()
-    };
-    c.add(out, rng, &call);
-}
-
-/// Behind the sheet stand bytes that are no part of it.
-fn check(out: &mut Stream, c: &mut Cases, rng: &mut Random, d: &Drawn) {
-    let call = Call {
-        kind: kind::CHECK_CALL,
-        answer: calls::check(&d.sheet).err().unwrap_or(0),
-        sheet: d.sheet.clone(),
-        behind: vec![170; 1 + rng.below(40)],
-        ..Call::default()
-    };
-    c.add(out, rng, &call);
-}
-
-/// The text stands in the sheet's place. Given: the number of lines and, behind what is written, their
-/// lengths, eight bytes each, and bytes that are no length. Written: width and height.
-fn label(out: &mut Stream, c: &mut Cases, rng: &mut Random) {
-    let (text, lengths) = label_lines(rng);
-    let answer = label_block(&text, &lengths);
-    let (w, h) = answer.unwrap_or((0.0, 0.0));
-    let behind = lengths.iter().flat_map(|n| (*n as u64).to_le_bytes()).chain([170; 16]);
-    let call = Call {
-        kind: kind::LABEL_CALL,
-        answer: answer.err().unwrap_or(0),
-        sheet: text,
-        given: Payload::new().word(lengths.len()),
-        written: Payload::new().floats(&[w, h]).0,
-        behind: behind.collect(),
-        ..Call::default()
-    };
-    c.add(out, rng, &call);
-}
-
-/// No sheet. Given: the number and the room that is lent. Written: the text.
-fn written(out: &mut Stream, c: &mut Cases, rng: &mut Random) {
-    let near = [1e13, -1e13, 9_999_999_999_999.998, -1e300];
-    let v = if rng.once_in(5) { rng.pick(&near) } else { number(rng) };
-    let n = calls::write_num(v, usize::MAX).map_or(3, |t| t.len());
-    let n = room(rng, n).min(64);
-    let answer = calls::write_num(v, n);
-    let call = Call {
-        kind: kind::NUMBER_CALL,
-        answer: answer.as_ref().err().copied().unwrap_or(0),
-        given: Payload::new().float(v).word(n),
-        written: answer.unwrap_or_default(),
-        other: b"0".to_vec(),
-        ..Call::default()
-    };
-    c.add(out, rng, &call);
 }

@@ -1,9 +1,6 @@
 //! Cases of `check` and of the label block.
 
-use std::collections::BTreeMap;
-
-use super::{Payload, Stream, kind};
-use crate::calls::check;
+use super::Calls;
 use crate::generate::{Size, full_pieces, ordered, pieces, sheet, shuffled, starts, text};
 use crate::random::Random;
 use crate::sheet::{self, Arrow, Line, Sheet, put};
@@ -24,44 +21,21 @@ const WELL: [&[u8]; 14] = [
     b"\xf3\xbf\xbf\xbf", b"\xf4\x8f\xbf\xbf",
 ];
 
-struct Sheets<'a> {
-    out: &'a mut Stream,
-    answers: BTreeMap<u8, usize>,
+fn expect(c: &mut Calls, bytes: &[u8], answer: u8) {
+    assert_eq!(c.check(bytes), answer);
 }
 
-impl Sheets<'_> {
-    fn add(&mut self, bytes: &[u8]) -> u8 {
-        let answer = check(bytes).err().unwrap_or(0);
-        *self.answers.entry(answer).or_default() += 1;
-        self.out.case(kind::CHECK, Payload::new().byte(answer).bytes(bytes));
-        if self.answers[&answer] % 50 == 7 {
-            let other = if answer == 3 { 4 } else { 3 };
-            self.out.spoiled(kind::CHECK, Payload::new().byte(other).bytes(bytes));
-        }
-        answer
-    }
-
-    fn expect(&mut self, bytes: &[u8], answer: u8) {
-        assert_eq!(self.add(bytes), answer);
-    }
-}
-
-pub fn cases(out: &mut Stream) {
+pub fn cases(c: &mut Calls) {
     let rng = &mut Random::new(303);
-    let mut s = Sheets {
-        out,
-        answers: BTreeMap::new(),
-    };
-    valid(&mut s, rng);
-    limits(&mut s, rng);
-    lengths(&mut s, rng);
-    utf8(&mut s, rng);
-    for _ in 0..1100 {
-        damaged(&mut s, rng);
+    valid(c, rng);
+    limits(c, rng);
+    lengths(c, rng);
+    utf8(c, rng);
+    for _ in 0..750 {
+        damaged(c, rng);
     }
-    large(&mut s, rng);
-    println!("check, by answer: {:?}", s.answers);
-    label_blocks(out, rng);
+    large(c, rng);
+    label_blocks(c, rng);
 }
 
 fn small(rng: &mut Random) -> Sheet {
@@ -74,12 +48,12 @@ fn small(rng: &mut Random) -> Sheet {
     sheet(rng, size)
 }
 
-fn valid(s: &mut Sheets, rng: &mut Random) {
-    s.expect(&ordered(&Sheet::default()), 0);
+fn valid(c: &mut Calls, rng: &mut Random) {
+    expect(c, &ordered(&Sheet::default()), 0);
     for _ in 0..150 {
         let sheet = small(rng);
         let bytes = shuffled(rng, &sheet);
-        s.expect(&bytes, 0);
+        expect(c, &bytes, 0);
     }
     for _ in 0..12 {
         let size = Size {
@@ -89,7 +63,7 @@ fn valid(s: &mut Sheets, rng: &mut Random) {
             characters: 20,
         };
         let sheet = sheet(rng, size);
-        s.expect(&shuffled(rng, &sheet), 0);
+        expect(c, &shuffled(rng, &sheet), 0);
     }
 }
 
@@ -121,7 +95,7 @@ fn lined(lines: Vec<Line>) -> Sheet {
 }
 
 /// Each limit, and one over; and one over beside another fault.
-fn limits(s: &mut Sheets, rng: &mut Random) {
+fn limits(c: &mut Calls, rng: &mut Random) {
     for (sheet, answer) in [
         (states(64), 0), (states(65), 5), (states(66), 5), (states(200), 5),
         (arrows(256), 0), (arrows(257), 5),
@@ -133,10 +107,8 @@ fn limits(s: &mut Sheets, rng: &mut Random) {
         (lined(vec![full_pieces("↦".repeat(33).as_bytes())]), 5),
         (lined(vec![full_pieces(&[0xff; 97])]), 5), (lined(vec![full_pieces(&[0xff; 96])]), 6),
     ] {
-        for _ in 0..3 {
-            let bytes = shuffled(rng, &sheet);
-            s.expect(&bytes, answer);
-        }
+        let bytes = shuffled(rng, &sheet);
+        expect(c, &bytes, answer);
     }
     for _ in 0..60 {
         let mut sheet = small(rng);
@@ -155,20 +127,20 @@ fn limits(s: &mut Sheets, rng: &mut Random) {
             }
         }
         let bytes = shuffled(rng, &sheet);
-        s.expect(&bytes, 5);
+        expect(c, &bytes, 5);
     }
 }
 
 /// Lengths that do not fit the count, and lengths out of range.
-fn lengths(s: &mut Sheets, rng: &mut Random) {
+fn lengths(c: &mut Calls, rng: &mut Random) {
     for n in 0..16 {
-        s.expect(&vec![1; n], 1);
+        expect(c, &vec![1; n], 1);
     }
     for n in [17, 31, 32, 33, 48] {
         let mut bytes = vec![0; n];
         bytes[0] = 1;
         let answer = if n == 32 { 1 } else { sheet::read(&bytes).err().unwrap_or(0) };
-        s.expect(&bytes, answer);
+        expect(c, &bytes, answer);
     }
     for _ in 0..60 {
         let sheet = small(rng);
@@ -186,21 +158,21 @@ fn lengths(s: &mut Sheets, rng: &mut Random) {
                 bytes[0] = 2;
             }
         }
-        s.add(&bytes);
+        c.check(&bytes);
     }
 }
 
 /// Lines well-formed and not, in one piece and in several.
-fn utf8(s: &mut Sheets, rng: &mut Random) {
+fn utf8(c: &mut Calls, rng: &mut Random) {
     for well in WELL {
         let one: Line = well.iter().map(|&b| vec![b]).collect();
-        s.expect(&ordered(&lined(vec![vec![well.to_vec()]])), 0);
-        s.expect(&shuffled(rng, &lined(vec![one])), 0);
+        expect(c, &ordered(&lined(vec![vec![well.to_vec()]])), 0);
+        expect(c, &shuffled(rng, &lined(vec![one])), 0);
     }
     for ill in ILL {
         let one: Line = ill.iter().map(|&b| vec![b]).collect();
-        s.expect(&ordered(&lined(vec![vec![ill.to_vec()]])), 6);
-        s.expect(&shuffled(rng, &lined(vec![one])), 6);
+        expect(c, &ordered(&lined(vec![vec![ill.to_vec()]])), 6);
+        expect(c, &shuffled(rng, &lined(vec![one])), 6);
     }
     for i in 0..150 {
         let mut bytes = text(rng, 12).into_bytes();
@@ -218,12 +190,12 @@ fn utf8(s: &mut Sheets, rng: &mut Random) {
         }
         let mut sheet = small(rng);
         sheet.arrows.push(Arrow { from: 0, to: 1, lines });
-        s.add(&shuffled(rng, &sheet));
+        c.check(&shuffled(rng, &sheet));
     }
 }
 
 /// One fault, or several, in a sheet that was sound.
-fn damaged(s: &mut Sheets, rng: &mut Random) {
+fn damaged(c: &mut Calls, rng: &mut Random) {
     let mut sheet = small(rng);
     if rng.once_in(6) {
         let ill = rng.pick(&ILL);
@@ -238,7 +210,7 @@ fn damaged(s: &mut Sheets, rng: &mut Random) {
     while rng.once_in(4) {
         damage(rng, &mut bytes);
     }
-    s.add(&bytes);
+    c.check(&bytes);
 }
 
 /// The number of a record of a kind, or 0.
@@ -297,35 +269,21 @@ pub fn damage(rng: &mut Random, bytes: &mut [u8]) {
 }
 
 /// As many records as a sheet holds: 4,095, and one more.
-fn large(s: &mut Sheets, rng: &mut Random) {
+fn large(c: &mut Calls, rng: &mut Random) {
     let full = largest(rng);
     assert_eq!(full.records(), 4095);
     let sound = shuffled(rng, &full);
-    s.expect(&sound, 0);
-    s.expect(&ordered(&full), 0);
-    s.expect(&shuffled(rng, &states(4095)), 5);
+    expect(c, &sound, 0);
     let mut ring = ordered(&states(4095));
     put(&mut ring, 16 * 4095 + 2, 1);
-    s.expect(&ring, 3);
-    let mut itself = sound.clone();
-    let last = of_kind(rng, &itself, 4);
-    put(&mut itself, 16 * last + 2, last);
-    s.expect(&itself, 3);
-    let mut late = sound.clone();
-    late[65_535] ^= 0x80;
-    s.add(&late);
+    expect(c, &ring, 3);
     let mut over = sound.clone();
     over.extend([0; 16]);
     put(&mut over, 2, 4096);
-    s.expect(&over, 1);
+    expect(c, &over, 1);
     let mut ill = full.clone();
     ill.arrows[255].lines[0][0][0] = 0xff;
-    s.expect(&shuffled(rng, &ill), 6);
-    for _ in 0..8 {
-        let mut bytes = sound.clone();
-        damage(rng, &mut bytes);
-        s.add(&bytes);
-    }
+    expect(c, &shuffled(rng, &ill), 6);
 }
 
 /// 64 states, 256 arrows and as many lines and pieces as are left of 4,095 records.
@@ -359,48 +317,30 @@ pub fn largest(rng: &mut Random) -> Sheet {
 }
 
 /// Blocks of lines: a text and the lengths of its lines.
-fn label_blocks(out: &mut Stream, rng: &mut Random) {
-    let mut answers: BTreeMap<u8, usize> = BTreeMap::new();
-    let mut add = |out: &mut Stream, bytes: &[u8], lengths: &[usize]| {
-        let (answer, (w, h)) = match sheet::label_block(bytes, lengths) {
-            Ok(size) => (0, size),
-            Err(n) => (n, (0.0, 0.0)),
-        };
-        *answers.entry(answer).or_default() += 1;
-        let payload = |answer: u8, w: f64| {
-            let head = Payload::new().byte(answer).floats(&[w, h]).word(lengths.len());
-            lengths.iter().fold(head, |p, n| p.bytes(&(*n as u64).to_le_bytes())).bytes(bytes)
-        };
-        out.case(kind::LABEL_SIZE, payload(answer, w));
-        if answers[&answer] % 50 == 7 {
-            let other = if answer == 0 { payload(0, w + 1.0) } else { payload(11 - answer, w) };
-            out.spoiled(kind::LABEL_SIZE, other);
-        }
-    };
-    add(out, b"", &[]);
-    add(out, b"x", &[]);
-    add(out, b"", &[0; 8]);
-    add(out, b"", &[0; 9]);
-    add(out, b"", &[1]);
-    add(out, b"ab", &[usize::MAX, 3]);
-    add(out, b"a", &[usize::MAX, 2]);
+fn label_blocks(c: &mut Calls, rng: &mut Random) {
+    c.label(b"", &[]);
+    c.label(b"x", &[]);
+    c.label(b"", &[0; 8]);
+    c.label(b"", &[0; 9]);
+    c.label(b"", &[1]);
+    c.label(b"ab", &[usize::MAX, 3]);
+    c.label(b"a", &[usize::MAX, 2]);
     for n in [95, 96, 97, 98] {
-        add(out, &vec![b'x'; n], &[n]);
-        add(out, &vec![b'x'; 8 * n], &[n; 8]);
-        add(out, &vec![b'x'; 9 * n], &[n; 9]);
-        add(out, &vec![0xff; n], &[n]);
+        c.label(&vec![b'x'; n], &[n]);
+        c.label(&vec![b'x'; 8 * n], &[n; 8]);
+        c.label(&vec![b'x'; 9 * n], &[n; 9]);
+        c.label(&vec![0xff; n], &[n]);
     }
     for well in WELL {
-        add(out, well, &[well.len()]);
+        c.label(well, &[well.len()]);
     }
     for ill in ILL {
-        add(out, ill, &[ill.len()]);
+        c.label(ill, &[ill.len()]);
     }
     for i in 0..500 {
         let (bytes, lengths) = lines(rng, i);
-        add(out, &bytes, &lengths);
+        c.label(&bytes, &lengths);
     }
-    println!("label blocks, by answer: {answers:?}");
 }
 
 /// A text and the lengths of its lines, some of them damaged.

@@ -3,7 +3,8 @@ use mathlib.Core.Path.{sym, _∙_}
 use native.Mathlib.Omega.{arith}
 use lib.ListN.{length, getD}
 use denote.Ref.{now}
-use Rattle.beyond.specs.Laws.{ends-below, crossing-refused, other-refused}
+use Rattle.directions.specs.Steps.{apart-ends}
+use Rattle.beyond.specs.Laws.{crossing-refused, other-refused}
 use borrow.Author.Needs.{needs}
 use Rattle.beyond.proofs.arrow_beyond.Statement.{statement}
 use Rattle.beyond.proofs.arrow_beyond.Tie as tie
@@ -20,25 +21,25 @@ mul-b c = search needs
 shared-slice-read-b : tie.Need-shared-slice-read-b
 shared-slice-read-b c = search needs
 
-apart-requires : tie.Need-apart-requires
-apart-requires c κs = search needs
+is-between-requires : tie.Need-is-between-requires
+is-between-requires c κs = search needs
 
 ends-beyond-requires : tie.Need-ends-beyond-requires
 ends-beyond-requires c κs =
     let a = c .before .before .before .before .before .before .before .before .before .args in
     let g = c .before .before .before .before .before .before .before .before .before .pre in
-    let w = ends-below (length (now (a .flags))) (getD (now (a .sources)) (a .i) 0) (getD (now (a .targets)) (a .i) 0) (sym (c .before .apart .ensures) ∙ c .if1 .taken) in
+    let w = apart-ends (length (now (a .flags))) (getD (now (a .sources)) (a .i) 0) (getD (now (a .targets)) (a .i) 0) (sym (c .before .is-between .ensures) ∙ c .if1 .taken) in
     (g .0 .0, g .0 .2, g .0 .3, omega (arith, w .0), omega (arith, w .1))
 
 returns : tie.Need-returns
 returns c =
     let a = c .before .before .before .before .before .before .before .before .before .before .args in
-    crossing-refused (now (a .flags)) (now (a .xs)) (now (a .ys)) (now (a .sources)) (now (a .targets)) (c .before .before .before .before .before .before .before .before .before .before .pre .0 .3) (a .i) (sym (c .before .before .apart .ensures) ∙ c .before .if1 .taken) (c .ends-beyond .result) (c .ends-beyond .ensures)
+    crossing-refused (now (a .flags)) (now (a .xs)) (now (a .ys)) (now (a .sources)) (now (a .targets)) (c .before .before .before .before .before .before .before .before .before .before .pre .0 .3) (a .i) (sym (c .before .before .is-between .ensures) ∙ c .before .if1 .taken) (c .ends-beyond .result) (c .ends-beyond .ensures)
 
 returns-2 : tie.Need-returns-2
 returns-2 c =
     let a = c .before .before .before .before .before .before .before .before .before .args in
-    other-refused (now (a .flags)) (now (a .xs)) (now (a .ys)) (now (a .sources)) (now (a .targets)) (c .before .before .before .before .before .before .before .before .before .pre .0 .3) (a .i) (sym (c .before .apart .ensures) ∙ c .if1 .left)
+    other-refused (now (a .flags)) (now (a .xs)) (now (a .ys)) (now (a .sources)) (now (a .targets)) (c .before .before .before .before .before .before .before .before .before .pre .0 .3) (a .i) (sym (c .before .is-between .ensures) ∙ c .if1 .left)
 
 pub arrow-beyond-spec : {M : Type 1} → statement M
 arrow-beyond-spec =
@@ -48,7 +49,7 @@ arrow-beyond-spec =
     shared-slice-read-a
     mul-b
     shared-slice-read-b
-    apart-requires
+    is-between-requires
     ends-beyond-requires
     returns
     returns-2)

@@ -4,7 +4,7 @@ use native.Mathlib.Omega.{arith}
 use lib.Seq.{length-take-le}
 use Rattle.float.specs.Ops.{lt}
 use Rattle.float.specs.Constants.{f1e9}
-use Rattle.bow.specs.Bend.{pairUp}
+use Rattle.bend.specs.Bend.{pairUp}
 use borrow.Author.Needs.{needs}
 use Rattle.beyond.proofs.pair_beyond.Statement.{statement}
 use Rattle.beyond.proofs.pair_beyond.Tie as tie

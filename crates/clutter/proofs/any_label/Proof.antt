@@ -4,15 +4,16 @@ use Prim.Native.Nat.{_+_, _-_}
 use native.Mathlib.Omega.{arith}
 use denote.Ref.{now}
 use Rattle.laws.specs.Flat.{part}
-use Rattle.sheet.specs.Refusals.{any}
+use Rattle.laws.specs.Any.{anyOf}
+use Rattle.laws.specs.Tables.{table-first, table-none}
 use Rattle.records.specs.Records.{decodeGeometry}
 use Rattle.clutter.specs.Clutter.{labelOver, recordsFrom}
-use Rattle.clutter.specs.Turns.{table-first, table-none, some-hit, some-miss, some-none}
+use Rattle.clutter.specs.Steps.{some-hit, some-miss, some-none}
 use Rattle.clutter.proofs.any_label.Statement.{statement}
 use Rattle.clutter.proofs.any_label.Tie as tie
 
 abbrev Inv-loop : tie.InvT-loop
-Inv-loop records from n b k₀ left₀ k left = (any (labelOver b) (recordsFrom records k left) ≡ any (labelOver b) (recordsFrom records from n)) × (k + left ≡ from + n)
+Inv-loop records from n b k₀ left₀ k left = (anyOf (labelOver b) (recordsFrom records k left) ≡ anyOf (labelOver b) (recordsFrom records from n)) × (k + left ≡ from + n)
 
 abbrev μ-loop : tie.MeasureT-loop
 μ-loop records from n b k₀ left₀ k left = left

@@ -6,16 +6,16 @@ use lib.ListN.{length, drop, getD}
 use lib.Ieee.{nan}
 use denote.Ref.{now}
 use Rattle.laws.specs.Zip.{zip-drop, zip-past}
-use Rattle.sheet.specs.Refusals.{any}
+use Rattle.laws.specs.Any.{anyOf}
 use Rattle.shape.specs.Plane.{vec}
 use Rattle.shape.specs.Centres.{centres}
-use Rattle.clutter.specs.Clutter.{near}
-use Rattle.clutter.specs.Turns.{some-hit, some-miss, some-none}
+use Rattle.clutter.specs.Clutter.{near24}
+use Rattle.clutter.specs.Steps.{some-hit, some-miss, some-none}
 use Rattle.clutter.proofs.any_state.Statement.{statement}
 use Rattle.clutter.proofs.any_state.Tie as tie
 
 abbrev Inv-loop : tie.InvT-loop
-Inv-loop xs ys b k₀ k = (any (near b) (drop k (centres xs ys)) ≡ any (near b) (centres xs ys)) × (k ≤ length xs)
+Inv-loop xs ys b k₀ k = (anyOf (near24 b) (drop k (centres xs ys)) ≡ anyOf (near24 b) (centres xs ys)) × (k ≤ length xs)
 
 abbrev μ-loop : tie.MeasureT-loop
 μ-loop xs ys b k₀ k = length xs - k
@@ -23,20 +23,20 @@ abbrev μ-loop : tie.MeasureT-loop
 loop-holds : tie.Need-loop-holds Inv-loop μ-loop
 loop-holds c = (refl, omega arith)
 
-mul-near : tie.Need-mul-near Inv-loop μ-loop
-mul-near c = omega arith
+mul-t5 : tie.Need-mul-t5 Inv-loop μ-loop
+mul-t5 c = omega arith
 
-shared-slice-read-near : tie.Need-shared-slice-read-near Inv-loop μ-loop
-shared-slice-read-near c = omega arith
+shared-slice-read-t9 : tie.Need-shared-slice-read-t9 Inv-loop μ-loop
+shared-slice-read-t9 c = omega arith
 
-mul-near-2 : tie.Need-mul-near-2 Inv-loop μ-loop
-mul-near-2 c = omega arith
+mul-t10 : tie.Need-mul-t10 Inv-loop μ-loop
+mul-t10 c = omega arith
 
-shared-slice-read-near-2 : tie.Need-shared-slice-read-near-2 Inv-loop μ-loop
-shared-slice-read-near-2 c = omega arith
+shared-slice-read-t12 : tie.Need-shared-slice-read-t12 Inv-loop μ-loop
+shared-slice-read-t12 c = omega arith
 
-near-requires : tie.Need-near-requires Inv-loop μ-loop
-near-requires c κs = tt
+near24-requires : tie.Need-near24-requires Inv-loop μ-loop
+near24-requires c κs = tt
 
 returns : tie.Need-returns Inv-loop μ-loop
 returns c =
@@ -44,7 +44,7 @@ returns c =
     let xs = now (a .xs) in
     let ys = now (a .ys) in
     let l = c .before .before .before .before .before .loop in
-    some-hit (near (a .b)) (drop (l .k) (centres xs ys)) (drop (l .k + 1) (centres xs ys)) (vec (getD xs (l .k) nan) (getD ys (l .k) nan)) (zip-drop vec xs ys (l .k) nan nan (c .before .before .before .before .before .before .before .before .pre) (omega arith)) (c .before .near .result) (c .before .near .ensures) (c .if1 .taken)
+    some-hit (near24 (a .b)) (drop (l .k) (centres xs ys)) (drop (l .k + 1) (centres xs ys)) (vec (getD xs (l .k) nan) (getD ys (l .k) nan)) (zip-drop vec xs ys (l .k) nan nan (c .before .before .before .before .before .before .before .before .pre) (omega arith)) (c .before .near24 .result) (c .before .near24 .ensures) (c .if1 .taken)
     ∙ l .inv .0
 
 add-k : tie.Need-add-k Inv-loop μ-loop
@@ -59,7 +59,7 @@ loop-again c =
     let xs = now (a .xs) in
     let ys = now (a .ys) in
     let l = c .before .before .before .before .before .loop in (
-      some-miss (near (a .b)) (drop (l .k) (centres xs ys)) (drop (l .k + 1) (centres xs ys)) (vec (getD xs (l .k) nan) (getD ys (l .k) nan)) (zip-drop vec xs ys (l .k) nan nan (c .before .before .before .before .before .before .before .before .pre) (omega arith)) (c .before .near .result) (c .before .near .ensures) (c .if1 .left)
+      some-miss (near24 (a .b)) (drop (l .k) (centres xs ys)) (drop (l .k + 1) (centres xs ys)) (vec (getD xs (l .k) nan) (getD ys (l .k) nan)) (zip-drop vec xs ys (l .k) nan nan (c .before .before .before .before .before .before .before .before .pre) (omega arith)) (c .before .near24 .result) (c .before .near24 .ensures) (c .if1 .left)
           ∙ l .inv .0,
       omega arith,
     )
@@ -70,7 +70,7 @@ returns-2 c =
     let xs = now (a .xs) in
     let ys = now (a .ys) in
     let l = c .before .loop in
-    some-none (near (a .b)) (drop (l .k) (centres xs ys)) (zip-past vec xs ys (l .k) (c .before .before .before .before .pre) (omega arith)) ∙ l .inv .0
+    some-none (near24 (a .b)) (drop (l .k) (centres xs ys)) (zip-past vec xs ys (l .k) (c .before .before .before .before .pre) (omega arith)) ∙ l .inv .0
 
 pub any-state-spec : {M : Type 1} → statement M
 any-state-spec =
@@ -79,11 +79,11 @@ any-state-spec =
     Inv-loop
     μ-loop
     loop-holds
-    mul-near
-    shared-slice-read-near
-    mul-near-2
-    shared-slice-read-near-2
-    near-requires
+    mul-t5
+    shared-slice-read-t9
+    mul-t10
+    shared-slice-read-t12
+    near24-requires
     returns
     add-k
     loop-less

@@ -4,16 +4,17 @@ use Prim.Native.Nat.{_+_, _-_}
 use native.Mathlib.Omega.{arith}
 use denote.Ref.{now}
 use Rattle.laws.specs.Flat.{part}
-use Rattle.sheet.specs.Refusals.{any}
+use Rattle.laws.specs.Any.{anyOf}
+use Rattle.laws.specs.Tables.{table-first, table-none}
 use Rattle.trace.specs.Form.{decodeTrace, decodeTraces}
-use Rattle.place.specs.Scene.{struck}
+use Rattle.scene.specs.Scene.{struck}
 use Rattle.clutter.specs.Clutter.{tracesFrom}
-use Rattle.clutter.specs.Turns.{table-first, table-none, some-hit, some-miss, some-none}
+use Rattle.clutter.specs.Steps.{some-hit, some-miss, some-none}
 use Rattle.clutter.proofs.any_trace.Statement.{statement}
 use Rattle.clutter.proofs.any_trace.Tie as tie
 
 abbrev Inv-loop : tie.InvT-loop
-Inv-loop traces n own b k₀ left₀ k left = (any (struck own b) (tracesFrom traces k left) ≡ any (struck own b) (decodeTraces n traces)) × (k + left ≡ n)
+Inv-loop traces n own b k₀ left₀ k left = (anyOf (struck own b) (tracesFrom traces k left) ≡ anyOf (struck own b) (decodeTraces n traces)) × (k + left ≡ n)
 
 abbrev μ-loop : tie.MeasureT-loop
 μ-loop traces n own b k₀ left₀ k left = left

@@ -9,7 +9,7 @@ use Rattle.shape.specs.Centres.{centres}
 use Rattle.trace.specs.Form.{decodeTraces}
 use Rattle.records.specs.Records.{decodeGeometry, decodeRecords}
 use Rattle.clutter.specs.Clutter.{collisions, recordsFrom}
-use Rattle.clutter.specs.Turns.{collisions-start, collisions-turn, collisions-end}
+use Rattle.clutter.specs.Steps.{collisions-start, collisions-step, collisions-end}
 use Rattle.clutter.proofs.collisions.Statement.{statement}
 use Rattle.clutter.proofs.collisions.Tie as tie
 
@@ -40,7 +40,7 @@ loop-again : tie.Need-loop-again Inv-loop μ-loop
 loop-again c =
     let a = c .before .before .before .before .before .before .before .args in
     let l = c .before .before .loop in (
-      collisions-turn (centres (now (a .xs)) (now (a .ys))) (decodeTraces (a .n) (now (a .traces))) (λ k. decodeGeometry (part 20 k (now (a .records)))) (l .sum) (a .n) (c .label-add .result) (l .i) (c .before .loop-test .taken) (c .label-add .ensures .0) ∙ l .inv .0,
+      collisions-step (centres (now (a .xs)) (now (a .ys))) (decodeTraces (a .n) (now (a .traces))) (λ k. decodeGeometry (part 20 k (now (a .records)))) (l .sum) (a .n) (c .label-add .result) (l .i) (c .before .loop-test .taken) (c .label-add .ensures .0) ∙ l .inv .0,
       omega arith,
       omega arith,
     )

@@ -6,9 +6,9 @@ use native.Mathlib.Omega.{arith}
 use lib.ListN.{take, drop}
 use denote.Ref.{now}
 use Rattle.laws.specs.Flat.{part}
+use Rattle.laws.specs.Counting.{worth-of}
 use Rattle.trace.specs.Traces.{crosses}
 use Rattle.trace.specs.Form.{decodeTrace}
-use Rattle.clutter.proofs.Laws.{worth-of}
 use borrow.Author.Needs.{needs}
 use Rattle.clutter.proofs.cross_add.Statement.{statement}
 use Rattle.clutter.proofs.cross_add.Tie as tie

@@ -4,16 +4,16 @@ use Prim.Native.Nat.{_+_, _-_, _≤_}
 use native.Mathlib.Omega.{arith}
 use denote.Ref.{now}
 use Rattle.laws.specs.Flat.{part}
-use Rattle.laws.specs.Counting.{number, number-turn, number-none}
+use Rattle.laws.specs.Counting.{howMany, howMany-step, howMany-none}
+use Rattle.laws.specs.Tables.{table-first, table-none}
 use Rattle.trace.specs.Traces.{crosses}
 use Rattle.trace.specs.Form.{decodeTrace}
 use Rattle.clutter.specs.Clutter.{tracesFrom}
-use Rattle.clutter.specs.Turns.{table-first, table-none}
 use Rattle.clutter.proofs.crossed.Statement.{statement}
 use Rattle.clutter.proofs.crossed.Tie as tie
 
 abbrev Inv-loop : tie.InvT-loop
-Inv-loop traces i from n sum₀ k₀ left₀ sum k left = (sum + number (crosses (decodeTrace (part 40 i traces))) (tracesFrom traces k left) ≡ number (crosses (decodeTrace (part 40 i traces))) (tracesFrom traces from n)) × (k + left ≡ from + n) × (sum + left ≤ n)
+Inv-loop traces i from n sum₀ k₀ left₀ sum k left = (sum + howMany (crosses (decodeTrace (part 40 i traces))) (tracesFrom traces k left) ≡ howMany (crosses (decodeTrace (part 40 i traces))) (tracesFrom traces from n)) × (k + left ≡ from + n) × (sum + left ≤ n)
 
 abbrev μ-loop : tie.MeasureT-loop
 μ-loop traces i from n sum₀ k₀ left₀ sum k left = left
@@ -41,7 +41,7 @@ loop-again c =
     let a = c .before .before .before .before .args in
     let ts = now (a .traces) in
     let l = c .before .before .loop in (
-      omega (arith, number-turn (crosses (decodeTrace (part 40 (a .i) ts))) 1 (l .sum) (c .cross-add .result) (decodeTrace (part 40 (l .k) ts)) (tracesFrom ts (l .k) (l .left)) (tracesFrom ts (l .k + 1) (l .left - 1)) (table-first (λ i. decodeTrace (part 40 i ts)) (l .k) (l .left) (c .before .loop-test .taken)) (c .cross-add .ensures .0)),
+      omega (arith, howMany-step (crosses (decodeTrace (part 40 (a .i) ts))) 1 (l .sum) (c .cross-add .result) (decodeTrace (part 40 (l .k) ts)) (tracesFrom ts (l .k) (l .left)) (tracesFrom ts (l .k + 1) (l .left - 1)) (table-first (λ i. decodeTrace (part 40 i ts)) (l .k) (l .left) (c .before .loop-test .taken)) (c .cross-add .ensures .0)),
       omega arith,
       omega arith,
     )
@@ -51,7 +51,7 @@ returns c =
     let a = c .before .before .before .args in
     let ts = now (a .traces) in
     let l = c .before .loop in (
-      omega (arith, number-none (crosses (decodeTrace (part 40 (a .i) ts))) 1 (l .sum) (tracesFrom ts (l .k) (l .left)) (table-none (λ i. decodeTrace (part 40 i ts)) (l .k) (l .left) (c .loop-test .left))),
+      omega (arith, howMany-none (crosses (decodeTrace (part 40 (a .i) ts))) 1 (l .sum) (tracesFrom ts (l .k) (l .left)) (table-none (λ i. decodeTrace (part 40 i ts)) (l .k) (l .left) (c .loop-test .left))),
       omega arith,
     )
 

@@ -6,7 +6,7 @@ use denote.Ref.{now}
 use Rattle.laws.specs.Flat.{part}
 use Rattle.trace.specs.Form.{decodeTrace, decodeTraces}
 use Rattle.clutter.specs.Clutter.{crossings, tracesFrom}
-use Rattle.clutter.specs.Turns.{crossings-turn, crossings-end}
+use Rattle.clutter.specs.Steps.{crossings-step, crossings-end}
 use Rattle.clutter.proofs.crossings.Statement.{statement}
 use Rattle.clutter.proofs.crossings.Tie as tie
 
@@ -43,7 +43,7 @@ loop-less c = omega arith
 loop-again : tie.Need-loop-again Inv-loop μ-loop
 loop-again c =
     let l = c .before .before .loop in (
-      crossings-turn (λ k. decodeTrace (part 40 k (now (c .before .before .before .before .args .traces)))) (l .sum) (c .crossed .result) (l .i) (l .left) (c .before .loop-test .taken) (c .crossed .ensures .0) ∙ l .inv .0,
+      crossings-step (λ k. decodeTrace (part 40 k (now (c .before .before .before .before .args .traces)))) (l .sum) (c .crossed .result) (l .i) (l .left) (c .before .loop-test .taken) (c .crossed .ensures .0) ∙ l .inv .0,
       omega arith,
       omega arith,
     )

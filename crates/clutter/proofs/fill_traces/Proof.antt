@@ -5,16 +5,16 @@ use native.Mathlib.Omega.{arith}
 use lib.ListN.{length}
 use denote.Ref.{now}
 use Rattle.laws.specs.Flat.{table, part}
+use Rattle.laws.specs.Tables.{map-table}
 use Rattle.trace.specs.Form.{decodeTraces}
 use Rattle.records.specs.Records.{decodeGeometry}
-use Rattle.clutter.specs.Clutter.{drawn}
-use Rattle.clutter.specs.Turns.{map-table}
+use Rattle.clutter.specs.Clutter.{recordTrace}
 use Rattle.clutter.proofs.Laws.{small-of, drawn-more}
 use Rattle.clutter.proofs.fill_traces.Statement.{statement}
 use Rattle.clutter.proofs.fill_traces.Tie as tie
 
 abbrev Inv-loop : tie.InvT-loop
-Inv-loop records n traces₀ k₀ traces k = (decodeTraces k traces ≡ table (λ i. drawn (decodeGeometry (part 20 i records))) 0 k) × (k ≤ n) × (length traces ≡ length traces₀)
+Inv-loop records n traces₀ k₀ traces k = (decodeTraces k traces ≡ table (λ i. recordTrace (decodeGeometry (part 20 i records))) 0 k) × (k ≤ n) × (length traces ≡ length traces₀)
 
 abbrev μ-loop : tie.MeasureT-loop
 μ-loop records n traces₀ k₀ traces k = n - k
@@ -50,7 +50,7 @@ returns c =
     let a = c .before .before .before .before .args in
     let l = c .before .loop in
     let e : l .k ≡ a .n = omega arith in
-    ap (λ (k : ℕ). decodeTraces k (l .traces)) (sym e) ∙ l .inv .0 ∙ ap (table (λ i. drawn (decodeGeometry (part 20 i (now (a .records))))) 0) e ∙ sym (map-table (λ i. decodeGeometry (part 20 i (now (a .records)))) drawn 0 (a .n))
+    ap (λ (k : ℕ). decodeTraces k (l .traces)) (sym e) ∙ l .inv .0 ∙ ap (table (λ i. recordTrace (decodeGeometry (part 20 i (now (a .records))))) 0) e ∙ sym (map-table (λ i. decodeGeometry (part 20 i (now (a .records)))) recordTrace 0 (a .n))
 
 pub fill-traces-spec : {M : Type 1} → statement M
 fill-traces-spec =

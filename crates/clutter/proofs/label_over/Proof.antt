@@ -41,7 +41,7 @@ returns c =
     let e : 20 * a .k + 20 - 20 * a .k ≡ 20 = omega arith in
     c .overlaps .ensures
     ∙ ap (λ (o : Rect). overlaps o (a .b)) (c .before .label-of .ensures)
-    ∙ ap (λ (w : ℕ). overlaps (decodeGeometry (take w (drop (20 * a .k) (now (a .records)))) .bounds) (a .b)) e
+    ∙ ap (λ (w : ℕ). overlaps (decodeGeometry (take w (drop (20 * a .k) (now (a .records)))) .«label_box») (a .b)) e
 
 pub label-over-spec : {M : Type 1} → statement M
 label-over-spec =

@@ -1,9 +1,8 @@
 -- `clutter::strikes` meets its contract.
 use mathlib.Core.Path.{sym, _∙_}
 use denote.Ref.{now}
+use Rattle.scene.specs.Struck.{struck-is, struck-not, struck-none}
 use Rattle.trace.specs.Form.{decodeTrace}
-use Rattle.place.specs.Scene.{struck-none}
-use Rattle.clutter.proofs.Laws.{struck-is, struck-not}
 use borrow.Author.Needs.{needs}
 use Rattle.clutter.proofs.strikes.Statement.{statement}
 use Rattle.clutter.proofs.strikes.Tie as tie

@@ -5,7 +5,7 @@ use native.Mathlib.Omega.{arith}
 use lib.ListN.{take, drop}
 use denote.Ref.{now}
 use Rattle.trace.specs.Form.{decodeTrace}
-use Rattle.place.specs.Scene.{struck}
+use Rattle.scene.specs.Scene.{struck}
 use borrow.Author.Needs.{needs}
 use Rattle.clutter.proofs.strikes_at.Statement.{statement}
 use Rattle.clutter.proofs.strikes_at.Tie as tie

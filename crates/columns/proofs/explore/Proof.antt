@@ -6,7 +6,7 @@ use native.Mathlib.Omega.{arith}
 use lib.ListN.{length, take, drop, getD}
 use denote.Ref.{now}
 use Rattle.laws.specs.Loops.{over}
-use Rattle.columns.specs.Columns.{arrowsOf, discover, successors, explore}
+use Rattle.columns.specs.Columns.{endPairs, discover, successors, explore}
 use Rattle.columns.specs.Found.{Fair, visit-fair, front-kept}
 use Rattle.columns.proofs.Laws.{explore-step, explore-stop}
 use borrow.Author.Needs.{needs}
@@ -16,7 +16,7 @@ use Rattle.columns.proofs.explore.Tie as tie
 abbrev Inv-loop : tie.InvT-loop
 Inv-loop sources targets order₀ low high p₀ i₀ order p i =
     (length order ≡ length order₀) × (p ≤ length order₀) × (high ≤ p) × (take high order ≡ take high order₀) × Fair (length order₀) (take p order)
-    × (explore (length order₀) (arrowsOf sources targets) (take p order) (drop i (take high order₀)) ≡ explore (length order₀) (arrowsOf sources targets) (take high order₀) (drop low (take high order₀)))
+    × (explore (length order₀) (endPairs sources targets) (take p order) (drop i (take high order₀)) ≡ explore (length order₀) (endPairs sources targets) (take high order₀) (drop low (take high order₀)))
 
 abbrev μ-loop : tie.MeasureT-loop
 μ-loop sources targets order₀ low high p₀ i₀ order p i = high - i
@@ -48,7 +48,7 @@ loop-again c =
     let n = length (now (a .order)) in
     let f = c .before .before .visit in
     let v : ℕ = getD (l .order) (l .i) 0 in
-    let arrows = arrowsOf (now (a .sources)) (now (a .targets)) in
+    let arrows = endPairs (now (a .sources)) (now (a .targets)) in
     let e : take (f .result) (f .last .1 .1 .0) ≡ over discover (take (l .p) (l .order)) (successors n arrows v) = f .ensures .1 ∙ ap (λ (m : ℕ). over discover (take (l .p) (l .order)) (successors m arrows v)) (l .inv .0) in
     let k = front-kept (a .high) (l .p) (f .result) (l .order) (f .last .1 .1 .0) (successors n arrows v) (l .inv .2) (omega arith) (omega (arith, f .ensures .0, f .kept .1 .1 .0)) e in (
       f .kept .1 .1 .0 ∙ l .inv .0,
@@ -69,7 +69,7 @@ returns c =
     let a = c .before .before .before .before .before .args in
     let l = c .before .loop in
     let n = length (now (a .order)) in
-    (l .inv .1, explore-stop n (arrowsOf (now (a .sources)) (now (a .targets))) (take (l .p) (l .order)) (now (a .order)) (a .high) (l .i) (omega arith) (omega arith) ∙ l .inv .5)
+    (l .inv .1, explore-stop n (endPairs (now (a .sources)) (now (a .targets))) (take (l .p) (l .order)) (now (a .order)) (a .high) (l .i) (omega arith) (omega arith) ∙ l .inv .5)
 
 pub explore-spec : {M : Type 1} → statement M
 explore-spec =

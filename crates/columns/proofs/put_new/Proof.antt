@@ -12,26 +12,26 @@ use borrow.Author.Needs.{needs}
 use Rattle.columns.proofs.put_new.Statement.{statement}
 use Rattle.columns.proofs.put_new.Tie as tie
 
-slice-reshare-prefix-holds : tie.Need-slice-reshare-prefix-holds
-slice-reshare-prefix-holds c = search needs
+slice-reshare-prefix-contains : tie.Need-slice-reshare-prefix-contains
+slice-reshare-prefix-contains c = search needs
 
-slice-aggregate-holds : tie.Need-slice-aggregate-holds
-slice-aggregate-holds c = sym (length-take-le _ _ (omega arith))
+slice-aggregate-contains : tie.Need-slice-aggregate-contains
+slice-aggregate-contains c = sym (length-take-le _ _ (omega arith))
 
-holds-requires : tie.Need-holds-requires
-holds-requires c κs = search needs
+contains-requires : tie.Need-contains-requires
+contains-requires c κs = search needs
 
 same-length : tie.Need-same-length
 same-length c = search needs
 
 returns : tie.Need-returns
-returns c = (omega arith, kept-none (c .before .before .before .before .args .q) (c .before .before .before .before .args .v) (take (c .before .before .before .before .args .p) (now (c .before .before .before .before .args .order))) (now (c .before .before .before .before .args .order)) (sym (c .before .holds .ensures) ∙ c .if1 .taken))
+returns c = (omega arith, kept-none (c .before .before .before .before .args .q) (c .before .before .before .before .args .v) (take (c .before .before .before .before .args .p) (now (c .before .before .before .before .args .order))) (now (c .before .before .before .before .args .order)) (sym (c .before .contains .ensures) ∙ c .if1 .taken))
 
 mul-order : tie.Need-mul-order
 mul-order c = search needs
 
 slice-write-order : tie.Need-slice-write-order
-slice-write-order c = c .before .before .before .before .pre .1 (sym (c .before .holds .ensures) ∙ c .if1 .left)
+slice-write-order c = c .before .before .before .before .pre .1 (sym (c .before .contains .ensures) ∙ c .if1 .left)
 
 add-result : tie.Need-add-result
 add-result c = search needs
@@ -41,7 +41,7 @@ same-length-2 c = search needs
 
 returns-2 : tie.Need-returns-2
 returns-2 c =
-    let e : elem (c .before .before .before .before .args .v) (take (c .before .before .before .before .args .p) (now (c .before .before .before .before .args .order))) ≡ false = sym (c .before .holds .ensures) ∙ c .if1 .left in
+    let e : elem (c .before .before .before .before .args .v) (take (c .before .before .before .before .args .p) (now (c .before .before .before .before .args .order))) ≡ false = sym (c .before .contains .ensures) ∙ c .if1 .left in
     let h : c .before .before .before .before .args .q < length (now (c .before .before .before .before .args .order)) = c .before .before .before .before .pre .1 e in
     (omega arith, kept-one (c .before .before .before .before .args .q) (c .before .before .before .before .args .v) (take (c .before .before .before .before .args .p) (now (c .before .before .before .before .args .order))) (now (c .before .before .before .before .args .order)) h e)
 
@@ -49,9 +49,9 @@ pub put-new-spec : {M : Type 1} → statement M
 put-new-spec =
     tie.close
     (tie.spec
-    slice-reshare-prefix-holds
-    slice-aggregate-holds
-    holds-requires
+    slice-reshare-prefix-contains
+    slice-aggregate-contains
+    contains-requires
     same-length
     returns
     mul-order

@@ -5,9 +5,9 @@ use Prim.Native.Nat.{ℕ, _+_, _-_, _≤_, _<_}
 use native.Mathlib.Omega.{arith}
 use lib.ListN.{length, take}
 use denote.Ref.{now}
-use Rattle.laws.specs.Filter.{filter}
+use Rattle.laws.specs.Filter.{filterBy}
 use Rattle.columns.specs.Columns.{elem, isNew, unreached}
-use Rattle.columns.proofs.Laws.{rest, rest-begin, rest-room, rest-step, rest-end}
+use Rattle.columns.proofs.Laws.{restFrom, rest-begin, rest-room, rest-step, rest-end}
 use borrow.Author.Needs.{needs}
 use Rattle.columns.proofs.put_unreached.Statement.{statement}
 use Rattle.columns.proofs.put_unreached.Tie as tie
@@ -15,8 +15,8 @@ use Rattle.columns.proofs.put_unreached.Tie as tie
 abbrev Inv-loop : tie.InvT-loop
 Inv-loop order₀ p q₀ v₀ v-end order q v =
     (v-end ≡ length order₀) × (v ≤ length order₀) × (length order ≡ length order₀) × (q ≤ length order₀) × (p ≤ q) × (take p order ≡ take p order₀)
-    × (q + length (rest (length order₀) (take p order₀) v) ≡ length order₀)
-    × (take q order ++ rest (length order₀) (take p order₀) v ≡ take p order₀ ++ unreached (length order₀) (take p order₀))
+    × (q + length (restFrom (length order₀) (take p order₀) v) ≡ length order₀)
+    × (take q order ++ restFrom (length order₀) (take p order₀) v ≡ take p order₀ ++ unreached (length order₀) (take p order₀))
 
 abbrev μ-loop : tie.MeasureT-loop
 μ-loop order₀ p q₀ v₀ v-end order q v = length order₀ - v
@@ -45,7 +45,7 @@ loop-again c =
     let o = now (c .before .before .before .before .before .before .before .args .order) in
     let f = c .before .before .put-new in
     let s = rest-step (length o) (take (c .before .before .before .before .before .before .before .args .p) o) (c .before .before .before .before .before .before .before .args .p) (l .q) (f .result) (l .v) (l .order) (f .last .0) (take (c .before .before .before .before .before .before .before .args .p) o ++ unreached (length o) (take (c .before .before .before .before .before .before .before .args .p) o)) (omega arith) (l .inv .4) (omega arith) (omega (arith, f .ensures .0, f .kept .0)) (l .inv .5)
-    (f .ensures .1 ∙ ap (λ (x : List ℕ). take (l .q) (l .order) ++ filter (isNew x) (l .v ∷ [])) (l .inv .5)) (l .inv .6) (l .inv .7) in
+    (f .ensures .1 ∙ ap (λ (x : List ℕ). take (l .q) (l .order) ++ filterBy (isNew x) (l .v ∷ [])) (l .inv .5)) (l .inv .6) (l .inv .7) in
     (search needs, search needs, f .kept .0 ∙ l .inv .2, omega (arith, f .ensures .0, l .inv .2), s .0, s .1, s .2, s .3)
 
 same-length : tie.Need-same-length Inv-loop μ-loop

@@ -4,7 +4,7 @@ use Prim.Native.Nat.{_-_, _<_}
 use native.Mathlib.Omega.{arith}
 use lib.ListN.{length, length-set}
 use denote.Ref.{now}
-use Rattle.columns.proofs.Laws.{Searching, search-begin, search-grown, search-stop, search-turn, search-end}
+use Rattle.columns.proofs.Laws.{Searching, search-begin, search-grown, search-stop, search-step, search-reached}
 use borrow.Author.Needs.{needs}
 use Rattle.columns.proofs.reach.Statement.{statement}
 use Rattle.columns.proofs.reach.Tie as tie
@@ -75,7 +75,7 @@ loop-again c =
     let l = c .before .before .before .before .before .before .loop in
     let f = c .before .before .before .explore in
     let m : l .count < length (l .sizes) = omega (arith, l .inv .0 .1, l .inv .1, l .inv .2, length-set (now (c .before .before .before .before .before .before .before .before .before .before .before .args .order)) 0 (c .before .before .before .before .before .before .before .before .before .before .before .args .start), length-set (now (c .before .before .before .before .before .before .before .before .before .before .before .args .sizes)) 0 1, c .before .before .before .before .before .before .before .before .before .before .before .pre .2) in (
-      search-turn (now (a .sources)) (now (a .targets)) (a .start) (l .order) (f .last .1 .1 .0) (l .sizes) (l .count) (l .low) (l .high) (l .left) (f .result) (l .inv .0) (f .kept .1 .1 .0) (f .ensures .0) (f .ensures .1) (c .if1 .left) (c .before .before .before .before .before .loop-test .taken) m,
+      search-step (now (a .sources)) (now (a .targets)) (a .start) (l .order) (f .last .1 .1 .0) (l .sizes) (l .count) (l .low) (l .high) (l .left) (f .result) (l .inv .0) (f .kept .1 .1 .0) (f .ensures .0) (f .ensures .1) (c .if1 .left) (c .before .before .before .before .before .loop-test .taken) m,
       f .kept .1 .1 .0 ∙ l .inv .1,
       length-set (l .sizes) (l .count) (f .result - l .high) ∙ l .inv .2,
     )
@@ -90,7 +90,7 @@ returns-2 : tie.Need-returns-2 Inv-loop μ-loop
 returns-2 c =
     let a = c .before .before .before .before .before .before .args in
     let l = c .before .loop in
-    search-end (now (a .sources)) (now (a .targets)) (a .start) (l .order) (l .sizes) (l .count) (l .low) (l .high) (l .left) (l .inv .0) (c .loop-test .left)
+    search-reached (now (a .sources)) (now (a .targets)) (a .start) (l .order) (l .sizes) (l .count) (l .low) (l .high) (l .left) (l .inv .0) (c .loop-test .left)
 
 pub reach-spec : {M : Type 1} → statement M
 reach-spec =

@@ -6,8 +6,8 @@ use native.Mathlib.Omega.{arith}
 use lib.ListN.{length, take, drop, getD}
 use denote.Ref.{now}
 use Rattle.laws.specs.Loops.{over}
-use Rattle.laws.specs.Zip.{zip-over-turn, zip-over-end}
-use Rattle.columns.specs.Columns.{arrow, arrowsOf, discover, successors}
+use Rattle.laws.specs.Zip.{zip-over-step, zip-over-end}
+use Rattle.columns.specs.Columns.{endPair, endPairs, discover, successors}
 use Rattle.columns.specs.Found.{Fair, follow, follow-fair, follows}
 use borrow.Author.Needs.{needs}
 use Rattle.columns.proofs.visit.Statement.{statement}
@@ -16,7 +16,7 @@ use Rattle.columns.proofs.visit.Tie as tie
 abbrev Inv-loop : tie.InvT-loop
 Inv-loop sources targets order₀ p v q₀ i₀ i-end order q i =
     (i-end ≡ length sources) × (i ≤ length sources) × (length order ≡ length order₀) × (q ≤ length order₀) × Fair (length order₀) (take q order)
-    × (over (follow (length order₀) v) (take q order) (drop i (arrowsOf sources targets)) ≡ over discover (take p order₀) (successors (length order₀) (arrowsOf sources targets) v))
+    × (over (follow (length order₀) v) (take q order) (drop i (endPairs sources targets)) ≡ over discover (take p order₀) (successors (length order₀) (endPairs sources targets) v))
 
 abbrev μ-loop : tie.MeasureT-loop
 μ-loop sources targets order₀ p v q₀ i₀ i-end order q i = length sources - i
@@ -24,7 +24,7 @@ abbrev μ-loop : tie.MeasureT-loop
 loop-holds : tie.Need-loop-holds Inv-loop μ-loop
 loop-holds c =
     let a = c .before .before .before .args in
-    (search needs, search needs, refl, search needs, c .before .before .before .pre .2, follows (length (now (a .order))) (a .v) (take (a .p) (now (a .order))) (arrowsOf (now (a .sources)) (now (a .targets))))
+    (search needs, search needs, refl, search needs, c .before .before .before .pre .2, follows (length (now (a .order))) (a .v) (take (a .p) (now (a .order))) (endPairs (now (a .sources)) (now (a .targets))))
 
 mul-follow : tie.Need-mul-follow Inv-loop μ-loop
 mul-follow c = search needs
@@ -55,14 +55,14 @@ loop-again c =
     let l = c .before .before .before .before .before .before .before .loop in
     let n = length (now (a .order)) in
     let f = c .before .before .follow in
-    let e : take (f .result) (f .last .0) ≡ follow n (a .v) (take (l .q) (l .order)) (arrow (getD (now (a .sources)) (l .i) 0) (getD (now (a .targets)) (l .i) 0)) = f .ensures .1 ∙ ap (λ (m : ℕ). follow m (a .v) (take (l .q) (l .order)) (arrow (getD (now (a .sources)) (l .i) 0) (getD (now (a .targets)) (l .i) 0))) (l .inv .2) in (
+    let e : take (f .result) (f .last .0) ≡ follow n (a .v) (take (l .q) (l .order)) (endPair (getD (now (a .sources)) (l .i) 0) (getD (now (a .targets)) (l .i) 0)) = f .ensures .1 ∙ ap (λ (m : ℕ). follow m (a .v) (take (l .q) (l .order)) (endPair (getD (now (a .sources)) (l .i) 0) (getD (now (a .targets)) (l .i) 0))) (l .inv .2) in (
       search needs,
       search needs,
       f .kept .0 ∙ l .inv .2,
       omega (arith, f .ensures .0, l .inv .2),
-      subst (Fair n) (sym e) (follow-fair n (a .v) (take (l .q) (l .order)) (arrow (getD (now (a .sources)) (l .i) 0) (getD (now (a .targets)) (l .i) 0)) (l .inv .4)),
-      ap (λ (found : List ℕ). over (follow n (a .v)) found (drop (l .i + 1) (arrowsOf (now (a .sources)) (now (a .targets))))) e
-          ∙ zip-over-turn arrow (follow n (a .v)) (now (a .sources)) (now (a .targets)) (l .i) 0 0 (take (l .q) (l .order)) (c .before .before .before .before .before .before .before .before .before .before .before .pre .0) (omega arith)
+      subst (Fair n) (sym e) (follow-fair n (a .v) (take (l .q) (l .order)) (endPair (getD (now (a .sources)) (l .i) 0) (getD (now (a .targets)) (l .i) 0)) (l .inv .4)),
+      ap (λ (found : List ℕ). over (follow n (a .v)) found (drop (l .i + 1) (endPairs (now (a .sources)) (now (a .targets))))) e
+          ∙ zip-over-step endPair (follow n (a .v)) (now (a .sources)) (now (a .targets)) (l .i) 0 0 (take (l .q) (l .order)) (c .before .before .before .before .before .before .before .before .before .before .before .pre .0) (omega arith)
           ∙ l .inv .5,
     )
 
@@ -74,7 +74,7 @@ returns c =
     let a = c .before .before .before .before .before .args in
     let l = c .before .loop in
     let n = length (now (a .order)) in
-    (l .inv .3, zip-over-end arrow (follow n (a .v)) (now (a .sources)) (now (a .targets)) (l .i) (take (l .q) (l .order)) (c .before .before .before .before .before .pre .0) (omega arith) ∙ l .inv .5)
+    (l .inv .3, zip-over-end endPair (follow n (a .v)) (now (a .sources)) (now (a .targets)) (l .i) (take (l .q) (l .order)) (c .before .before .before .before .before .pre .0) (omega arith) ∙ l .inv .5)
 
 pub visit-spec : {M : Type 1} → statement M
 visit-spec =

@@ -9,10 +9,10 @@ use lib.Ieee.{Float}
 use denote.Ref.{now}
 use Rattle.laws.specs.Put.{put}
 use Rattle.sheet.specs.Sheet.{Graph, meaning}
-use Rattle.sheet.specs.Accepted.{shown}
+use Rattle.sheet.specs.Accepted.{on-main-screen}
 use Rattle.records.specs.Records.{fields}
 use Rattle.routing.specs.Sheets.{recordsOf}
-use Rattle.draw.specs.Drawn.{farCentre, routeRefusals}
+use Rattle.draw.specs.Drawn.{farCentre, bowRefusals}
 use Rattle.draw.specs.declared.Drawing.the-variants.{Records, Refused}
 use Rattle.laws.specs.Refusals.{decide-first, decide-rest}
 use borrow.Author.Needs.{needs}
@@ -33,13 +33,13 @@ returns c =
     let l : List Float = now (c .before .before .before .before .before .before .before .args .buf) in
     let b : Bool = farCentre (length (g .states)) xs ys in
     let e : b ≡ c .before .far-centre .result = ap (λ (n : ℕ). farCentre n xs ys) (sym (c .before .before .state-count .ensures)) ∙ sym (c .before .far-centre .ensures) in (
-      decide-first 8 b (routeRefusals g xs ys) Refused (Records (length (recordsOf g xs ys))) (e ∙ c .if1 .taken),
-      decide-first 8 b (routeRefusals g xs ys) (λ n. l) (put l 0 (flatMap fields (recordsOf g xs ys))) (e ∙ c .if1 .taken),
+      decide-first 8 b (bowRefusals g xs ys) Refused (Records (length (recordsOf g xs ys))) (e ∙ c .if1 .taken),
+      decide-first 8 b (bowRefusals g xs ys) (λ n. l) (put l 0 (flatMap fields (recordsOf g xs ys))) (e ∙ c .if1 .taken),
     )
 
 draw-near-requires : tie.Need-draw-near-requires
 draw-near-requires c κs =
-    let w = shown (now (c .before .before .before .before .before .before .before .before .args .s)) (c .before .before .before .before .before .before .before .before .pre .0) in
+    let w = on-main-screen (now (c .before .before .before .before .before .before .before .before .args .s)) (c .before .before .before .before .before .before .before .before .pre .0) in
     (c .before .before .before .state-count .ensures, omega (arith, w .states, c .before .before .before .state-count .ensures), w .arrows, c .before .before .before .before .before .before .before .before .pre .1)
 
 same-length : tie.Need-same-length
@@ -53,8 +53,8 @@ returns-2 c =
     let l : List Float = now (c .before .before .before .before .before .before .before .before .before .before .before .args .buf) in
     let b : Bool = farCentre (length (g .states)) xs ys in
     let e : b ≡ c .before .before .before .before .before .far-centre .result = ap (λ (n : ℕ). farCentre n xs ys) (sym (c .before .before .before .before .before .before .state-count .ensures)) ∙ sym (c .before .before .before .before .before .far-centre .ensures) in (
-      c .before .before .draw-near .ensures .0 ∙ decide-rest 8 b (routeRefusals g xs ys) Refused (Records (length (recordsOf g xs ys))) (e ∙ c .before .before .before .before .if1 .left),
-      c .before .before .draw-near .ensures .1 ∙ decide-rest 8 b (routeRefusals g xs ys) (λ n. l) (put l 0 (flatMap fields (recordsOf g xs ys))) (e ∙ c .before .before .before .before .if1 .left),
+      c .before .before .draw-near .ensures .0 ∙ decide-rest 8 b (bowRefusals g xs ys) Refused (Records (length (recordsOf g xs ys))) (e ∙ c .before .before .before .before .if1 .left),
+      c .before .before .draw-near .ensures .1 ∙ decide-rest 8 b (bowRefusals g xs ys) (λ n. l) (put l 0 (flatMap fields (recordsOf g xs ys))) (e ∙ c .before .before .before .before .if1 .left),
     )
 
 pub draw-accepted-spec : {M : Type 1} → statement M

@@ -46,7 +46,7 @@ draw-read-requires : tie.Need-draw-read-requires
 draw-read-requires c κs =
     let m : c .before .before .before .before .before .before .arrow-count .result ≡ length (arrowsOf (now (c .before .before .before .before .before .before .before .before .before .before .before .args .s))) = c .before .before .before .before .before .before .arrow-count .ensures in (
       (length-take-le _ _ (omega arith) ∙ c .before .before .before .before .before .before .before .before .before .before .before .pre .0, omega arith, omega arith),
-      ((length-take-le _ _ (omega arith) ∙ m, length-take-le _ _ (omega arith) ∙ m), (length-take-le _ _ (omega arith) ∙ m, length-take-le _ _ (omega arith) ∙ m, c .before .before .before .before .before .before .before .before .before .before .before .pre .2)),
+      (length-take-le _ _ (omega arith) ∙ m, length-take-le _ _ (omega arith) ∙ m, length-take-le _ _ (omega arith) ∙ m, length-take-le _ _ (omega arith) ∙ m, c .before .before .before .before .before .before .before .before .before .before .before .pre .2),
     )
 
 same-length : tie.Need-same-length

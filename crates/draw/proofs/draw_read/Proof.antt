@@ -41,7 +41,7 @@ geometry-requires : tie.Need-geometry-requires
 geometry-requires c κs =
     let q = c .before .before .before .before .before .before .before .before .before .before .before .before .before .before .before .before .before .before .before .before .before .before .before .before .before .before .before .before .before .before .before .before .before .before .before .before .pre in
     let k = c .before .before .before .before .before .before .before .before .before .before .before .before .before .before .before .before .before .before .before .before .before .read .kept in
-    (omega (arith, k .1 .0, q .0 .0, q .0 .1), omega (arith, k .1 .1 .0, q .1 .0 .0, q .1 .1 .2), omega (arith, k .1 .1 .0, k .1 .1 .1 .0, q .1 .0 .0, q .1 .0 .1), omega (arith, k .1 .1 .0, k .1 .1 .1 .1 .0, q .1 .0 .0, q .1 .1 .0), omega (arith, k .1 .1 .0, k .1 .1 .1 .1 .1 .0, q .1 .0 .0, q .1 .1 .1), omega (arith, k .1 .1 .0, q .1 .0 .0, q .1 .1 .2, q .0 .2))
+    (omega (arith, k .1 .0, q .0 .0, q .0 .1), omega (arith, k .1 .1 .0, q .1 .0, q .1 .4), omega (arith, k .1 .1 .0, k .1 .1 .1 .0, q .1 .0, q .1 .1), omega (arith, k .1 .1 .0, k .1 .1 .1 .1 .0, q .1 .0, q .1 .2), omega (arith, k .1 .1 .0, k .1 .1 .1 .1 .1 .0, q .1 .0, q .1 .3), omega (arith, k .1 .1 .0, q .1 .0, q .1 .4, q .0 .2))
 
 same-length-6 : tie.Need-same-length-6
 same-length-6 c = c .before .before .before .before .before .before .before .before .before .before .before .before .before .before .before .before .before .before .before .before .before .before .before .before .read .kept .1 .0

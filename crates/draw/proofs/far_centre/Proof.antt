@@ -1,7 +1,7 @@
 -- `draw::far_centre` meets its contract.
 use mathlib.Core.Path.{sym, _∙_}
 use denote.Ref.{now}
-use Rattle.sheet.specs.Any.{or-first}
+use Rattle.laws.specs.Bools.{or-first}
 use Rattle.draw.specs.Drawn.{someFar, farCentre}
 use borrow.Author.Needs.{needs}
 use Rattle.draw.proofs.far_centre.Statement.{statement}

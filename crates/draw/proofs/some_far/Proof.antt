@@ -5,15 +5,14 @@ use native.Mathlib.Omega.{arith}
 use lib.ListN.{take, drop}
 use lib.Ieee.{nan}
 use denote.Ref.{now}
-use Rattle.sheet.specs.Refusals.{any}
+use Rattle.laws.specs.Any.{anyOf, any-step, any-found, any-end, any-past}
 use Rattle.draw.specs.Drawn.{far, someFar}
-use Rattle.draw.proofs.Laws.{any-turn, any-found, any-end, any-past}
 use borrow.Author.Needs.{needs}
 use Rattle.draw.proofs.some_far.Statement.{statement}
 use Rattle.draw.proofs.some_far.Tie as tie
 
 abbrev Inv-loop : tie.InvT-loop
-Inv-loop l n i₀ left₀ i left = (any far (take left (drop i l)) ≡ someFar n l) × (i + left ≡ n)
+Inv-loop l n i₀ left₀ i left = (anyOf far (take left (drop i l)) ≡ someFar n l) × (i + left ≡ n)
 
 abbrev μ-loop : tie.MeasureT-loop
 μ-loop l n i₀ left₀ i left = left
@@ -46,7 +45,7 @@ loop-less : tie.Need-loop-less Inv-loop μ-loop
 loop-less c = search needs
 
 loop-again : tie.Need-loop-again Inv-loop μ-loop
-loop-again c = (any-turn far nan (now (c .before .before .before .before .before .before .before .args .l)) (c .before .before .before .before .before .loop .i) (c .before .before .before .before .before .loop .left) (omega arith) (omega arith) (sym (c .before .far .ensures) ∙ c .if2 .left) ∙ c .before .before .before .before .before .loop .inv .0, omega arith)
+loop-again c = (any-step far nan (now (c .before .before .before .before .before .before .before .args .l)) (c .before .before .before .before .before .loop .i) (c .before .before .before .before .before .loop .left) (omega arith) (omega arith) (sym (c .before .far .ensures) ∙ c .if2 .left) ∙ c .before .before .before .before .before .loop .inv .0, omega arith)
 
 returns-3 : tie.Need-returns-3 Inv-loop μ-loop
 returns-3 c = any-end far nan (now (c .before .before .before .args .l)) (c .before .loop .i) (c .before .loop .left) (omega arith) ∙ c .before .loop .inv .0

@@ -7,11 +7,12 @@ use lib.Ieee.{Float}
 use denote.Ref.{now}
 use Rattle.laws.specs.Loops.{over}
 use Rattle.laws.specs.Flat.{part, table}
-use Rattle.trace.specs.Traces.{extended}
-use Rattle.spot.specs.declared.Geometry.{Geometry}
+use Rattle.laws.specs.Tables.{flat-step, flat-end}
+use Rattle.shape.specs.Plane.{extended}
+use Rattle.shape.specs.Plane.{extended}
+use Rattle.label_spots.specs.declared.Geometry.{Geometry}
 use Rattle.records.specs.Records.{decodeGeometry, decodeRecords}
 use Rattle.fit.specs.Fit.{drawnPoints}
-use Rattle.fit.proofs.Laws.{flat-turn, flat-end}
 use borrow.Author.Needs.{needs}
 use Rattle.fit.proofs.cover_records.Statement.{statement}
 use Rattle.fit.proofs.cover_records.Tie as tie
@@ -45,7 +46,7 @@ loop-again : tie.Need-loop-again Inv-loop μ-loop
 loop-again c =
     let l : List Float = now (c .before .before .before .before .before .args .records) in
     let t : ℕ → Geometry = λ j. decodeGeometry (part 20 j l) in (
-      flat-turn extended drawnPoints t (c .before .before .before .loop .b) (c .cover-drawn .result) (c .before .before .before .loop .k) (c .before .before .before .loop .left) (c .before .before .loop-test .taken)
+      flat-step extended drawnPoints t (c .before .before .before .loop .b) (c .cover-drawn .result) (c .before .before .before .loop .k) (c .before .before .before .loop .left) (c .before .before .loop-test .taken)
           (c .cover-drawn .ensures ∙ ap (λ (g : Geometry). over extended (c .before .before .before .loop .b) (drawnPoints g)) (c .before .geometry-at .ensures)) ∙ c .before .before .before .loop .inv .0,
       omega arith,
     )

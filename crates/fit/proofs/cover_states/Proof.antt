@@ -5,10 +5,10 @@ use native.Mathlib.Omega.{arith}
 use lib.ListN.{length, drop}
 use denote.Ref.{now}
 use Rattle.laws.specs.Loops.{over}
-use Rattle.trace.specs.Traces.{extended}
+use Rattle.shape.specs.Plane.{extended}
 use Rattle.shape.specs.Centres.{centres}
 use Rattle.fit.specs.Fit.{statesPoints}
-use Rattle.fit.proofs.Laws.{states-turn, states-end}
+use Rattle.fit.proofs.Laws.{states-step, states-end}
 use borrow.Author.Needs.{needs}
 use Rattle.fit.proofs.cover_states.Statement.{statement}
 use Rattle.fit.proofs.cover_states.Tie as tie
@@ -27,17 +27,17 @@ loop-holds c = (search needs, search needs, refl)
 shared-slice-read-cover-state : tie.Need-shared-slice-read-cover-state Inv-loop μ-loop
 shared-slice-read-cover-state c = search needs
 
-mul-cover-state : tie.Need-mul-cover-state Inv-loop μ-loop
-mul-cover-state c = search needs
+mul-t11 : tie.Need-mul-t11 Inv-loop μ-loop
+mul-t11 c = search needs
 
-shared-slice-read-cover-state-2 : tie.Need-shared-slice-read-cover-state-2 Inv-loop μ-loop
-shared-slice-read-cover-state-2 c = search needs
+shared-slice-read-t13 : tie.Need-shared-slice-read-t13 Inv-loop μ-loop
+shared-slice-read-t13 c = search needs
 
-mul-cover-state-2 : tie.Need-mul-cover-state-2 Inv-loop μ-loop
-mul-cover-state-2 c = search needs
+mul-t14 : tie.Need-mul-t14 Inv-loop μ-loop
+mul-t14 c = search needs
 
-shared-slice-read-cover-state-3 : tie.Need-shared-slice-read-cover-state-3 Inv-loop μ-loop
-shared-slice-read-cover-state-3 c = search needs
+shared-slice-read-t16 : tie.Need-shared-slice-read-t16 Inv-loop μ-loop
+shared-slice-read-t16 c = search needs
 
 cover-state-requires : tie.Need-cover-state-requires Inv-loop μ-loop
 cover-state-requires c κs = search needs
@@ -49,7 +49,7 @@ loop-less : tie.Need-loop-less Inv-loop μ-loop
 loop-less c = search needs
 
 loop-again : tie.Need-loop-again Inv-loop μ-loop
-loop-again c = (search needs, search needs, states-turn (now (c .before .before .before .before .before .before .before .before .before .args .flags)) (now (c .before .before .before .before .before .before .before .before .before .args .xs)) (now (c .before .before .before .before .before .before .before .before .before .args .ys)) (c .before .before .before .before .before .loop .i) (c .before .before .before .before .before .loop .b) (c .before .before .before .before .before .before .before .before .before .pre .0) (c .before .before .before .before .before .before .before .before .before .pre .1) (c .cover-state .result) (omega arith) (c .cover-state .ensures) ∙ c .before .before .before .before .before .loop .inv .2)
+loop-again c = (search needs, search needs, states-step (now (c .before .before .before .before .before .before .before .before .before .args .flags)) (now (c .before .before .before .before .before .before .before .before .before .args .xs)) (now (c .before .before .before .before .before .before .before .before .before .args .ys)) (c .before .before .before .before .before .loop .i) (c .before .before .before .before .before .loop .b) (c .before .before .before .before .before .before .before .before .before .pre .0) (c .before .before .before .before .before .before .before .before .before .pre .1) (c .cover-state .result) (omega arith) (c .cover-state .ensures) ∙ c .before .before .before .before .before .loop .inv .2)
 
 returns : tie.Need-returns Inv-loop μ-loop
 returns c = states-end (now (c .before .before .before .before .before .args .flags)) (now (c .before .before .before .before .before .args .xs)) (now (c .before .before .before .before .before .args .ys)) (c .before .loop .i) (c .before .loop .b) (c .before .before .before .before .before .pre .0) (c .before .before .before .before .before .pre .1) (omega arith) ∙ c .before .loop .inv .2
@@ -62,10 +62,10 @@ cover-states-spec =
     μ-loop
     loop-holds
     shared-slice-read-cover-state
-    mul-cover-state
-    shared-slice-read-cover-state-2
-    mul-cover-state-2
-    shared-slice-read-cover-state-3
+    mul-t11
+    shared-slice-read-t13
+    mul-t14
+    shared-slice-read-t16
     cover-state-requires
     add-i
     loop-less

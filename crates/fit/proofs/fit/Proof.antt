@@ -6,16 +6,16 @@ use lib.Ieee.{Float}
 use denote.Ref.{now}
 use Rattle.shape.specs.declared.Rect.{Rect}
 use Rattle.shape.specs.Centres.{centres}
-use Rattle.spot.specs.declared.Geometry.{Geometry}
+use Rattle.label_spots.specs.declared.Geometry.{Geometry}
 use Rattle.records.specs.Records.{decodeRecords}
-use Rattle.fit.specs.Fit.{drawingBounds, shifted, sizeOf}
+use Rattle.fit.specs.Fit.{drawingBounds, shifted, rectSize}
 use Rattle.fit.proofs.Laws.{all-covered}
 use borrow.Author.Needs.{needs}
 use Rattle.fit.proofs.fit.Statement.{statement}
 use Rattle.fit.proofs.fit.Tie as tie
 
-nothing-requires : tie.Need-nothing-requires
-nothing-requires c κs = search needs
+empty-requires : tie.Need-empty-requires
+empty-requires c κs = search needs
 
 cover-states-requires : tie.Need-cover-states-requires
 cover-states-requires c κs = search needs
@@ -43,8 +43,8 @@ returns c =
     let gs : List Geometry = decodeRecords (c .before .before .before .before .before .before .before .before .before .before .before .before .before .before .before .before .before .before .before .args .count) (now (c .before .before .before .before .before .before .before .before .before .before .before .before .before .before .before .before .before .before .before .args .records)) in
     let b : Rect = c .before .before .before .before .before .before .before .before .before .before .cover-records .result in
     let e : b ≡ drawingBounds flags (centres xs ys) gs =
-    all-covered flags (centres xs ys) gs (c .before .before .before .before .before .before .before .before .before .before .before .before .before .before .nothing .result) (c .before .before .before .before .before .before .before .before .before .before .before .cover-states .result) b (c .before .before .before .before .before .before .before .before .before .before .before .before .before .before .nothing .ensures) (c .before .before .before .before .before .before .before .before .before .before .before .cover-states .ensures) (c .before .before .before .before .before .before .before .before .before .before .cover-records .ensures) in (
-      ap sizeOf e,
+    all-covered flags (centres xs ys) gs (c .before .before .before .before .before .before .before .before .before .before .before .before .before .before .empty .result) (c .before .before .before .before .before .before .before .before .before .before .before .cover-states .result) b (c .before .before .before .before .before .before .before .before .before .before .before .before .before .before .empty .ensures) (c .before .before .before .before .before .before .before .before .before .before .before .cover-states .ensures) (c .before .before .before .before .before .before .before .before .before .before .cover-records .ensures) in (
+      ap rectSize e,
       c .before .before .before .before .before .before .before .before .shift .ensures ∙ ap (λ (r : Rect). shifted (r .x0) xs) e,
       c .before .before .before .before .shift2 .ensures ∙ ap (λ (r : Rect). shifted (r .y0) ys) e,
     )
@@ -53,7 +53,7 @@ pub fit-spec : {M : Type 1} → statement M
 fit-spec =
     tie.close
     (tie.spec
-    nothing-requires
+    empty-requires
     cover-states-requires
     cover-records-requires
     shift-requires

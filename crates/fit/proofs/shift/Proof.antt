@@ -5,17 +5,17 @@ use Prim.Native.Nat.{_-_, _≤_}
 use native.Mathlib.Omega.{arith}
 use lib.ListN.{length, getD, take, drop, length-set}
 use lib.Ieee.{Float, nan}
-use Rattle.float.specs.Constants.{f16}
+use Rattle.laws.specs.Filled.{map-step, map-end}
+use Rattle.float.specs.Constants.{margin}
 use Rattle.float.specs.Ops.{_⊕_, _⊖_}
 use Rattle.fit.specs.Fit.{shifted}
-use Rattle.fit.proofs.Laws.{map-turn, map-end}
 use borrow.Author.Needs.{needs}
 use Rattle.fit.proofs.shift.Statement.{statement}
 use Rattle.fit.proofs.shift.Tie as tie
 
 abbrev Inv-loop : tie.InvT-loop
 Inv-loop l₀ low d i₀ i-end l i =
-    (i-end ≡ length l₀) × (i ≤ length l₀) × (length l ≡ length l₀) × (take i l ++ map (λ v. v ⊕ (f16 ⊖ low)) (drop i l) ≡ shifted low l₀)
+    (i-end ≡ length l₀) × (i ≤ length l₀) × (length l ≡ length l₀) × (take i l ++ map (λ v. v ⊕ (margin ⊖ low)) (drop i l) ≡ shifted low l₀)
 
 abbrev μ-loop : tie.MeasureT-loop
 μ-loop l₀ low d i₀ i-end l i = length l₀ - i
@@ -44,15 +44,15 @@ loop-less c = search needs
 
 loop-again : tie.Need-loop-again Inv-loop μ-loop
 loop-again c =
-    let f : Float → Float = λ v. v ⊕ (f16 ⊖ c .before .before .before .args .low) in
+    let f : Float → Float = λ v. v ⊕ (margin ⊖ c .before .before .before .args .low) in
     let v : Float = f (getD (c .before .before .loop .l) (c .before .before .loop .i) nan) in
-    (search needs, search needs, length-set (c .before .before .loop .l) (c .before .before .loop .i) v ∙ c .before .before .loop .inv .2, map-turn f nan (c .before .before .loop .l) (c .before .before .loop .i) v (omega arith) refl ∙ c .before .before .loop .inv .3)
+    (search needs, search needs, length-set (c .before .before .loop .l) (c .before .before .loop .i) v ∙ c .before .before .loop .inv .2, map-step f nan (c .before .before .loop .l) (c .before .before .loop .i) v (omega arith) refl ∙ c .before .before .loop .inv .3)
 
 same-length : tie.Need-same-length Inv-loop μ-loop
 same-length c = c .before .loop .inv .2
 
 returns : tie.Need-returns Inv-loop μ-loop
-returns c = map-end (λ v. v ⊕ (f16 ⊖ c .before .before .args .low)) nan (c .before .loop .l) (c .before .loop .i) (omega arith) ∙ c .before .loop .inv .3
+returns c = map-end (λ v. v ⊕ (margin ⊖ c .before .before .args .low)) nan (c .before .loop .l) (c .before .loop .i) (omega arith) ∙ c .before .loop .inv .3
 
 pub shift-spec : {M : Type 1} → statement M
 shift-spec =

@@ -1,5 +1,5 @@
 -- `float::arc` meets its contract.
-use Rattle.float.specs.Standins.{arc, halved}
+use Rattle.float.specs.Standins.{arctangentOf, halved}
 use borrow.Author.Needs.{needs}
 use Rattle.float.proofs.arc.Statement.{statement}
 use Rattle.float.proofs.arc.Tie as tie
@@ -14,7 +14,7 @@ arc-series-requires : tie.Need-arc-series-requires
 arc-series-requires c κs = search needs
 
 returns : tie.Need-returns
-unfolding arc
+unfolding arctangentOf
 returns c = rw (← (c .before .before .halved .ensures), ← (c .before .halved2 .ensures), c .arc-series .ensures)
 
 pub arc-spec : {M : Type 1} → statement M

@@ -6,15 +6,15 @@ use native.Mathlib.Omega.{arith}
 use lib.ListN.{length, drop, take}
 use denote.Ref.{now}
 use borrow.Author.Needs.{needs}
-use Rattle.laws.specs.Zip.{zip, zip-length}
+use Rattle.laws.specs.Zip.{zipBy, zip-length}
 use Rattle.shape.specs.Plane.{vec}
 use Rattle.free.specs.declared.Span.{Span}
 use Rattle.shape.specs.Centres.{centres}
 use Rattle.free.specs.Chords.{othersFrom}
 use Rattle.free.specs.Blocked.{intervals, blocked}
 use Rattle.free.specs.Free.{spans}
-use Rattle.free.specs.Turns.{intervals-end}
-use Rattle.free.proofs.Laws.{blocked-turn}
+use Rattle.free.specs.Steps.{intervals-end}
+use Rattle.free.proofs.Laws.{blocked-step}
 use Rattle.free.proofs.blocked.Statement.{statement}
 use Rattle.free.proofs.blocked.Tie as tie
 
@@ -25,7 +25,7 @@ abbrev μ-loop : tie.MeasureT-loop
 μ-loop xs ys c lo₀ hi₀ n₀ k₀ k-end lo hi n k = length xs - k
 
 loop-holds : tie.Need-loop-holds Inv-loop μ-loop
-unfolding zip
+unfolding zipBy
 loop-holds c = (refl, omega arith, omega arith, refl, refl, refl)
 
 centre-requires : tie.Need-centre-requires Inv-loop μ-loop
@@ -50,7 +50,7 @@ loop-again c =
       omega (arith, g .more),
       g .low ∙ c .before .before .before .before .before .before .before .before .before .loop .inv .3,
       g .high ∙ c .before .before .before .before .before .before .before .before .before .loop .inv .4,
-      blocked-turn (a .c) (centres (now (a .xs)) (now (a .ys))) (c .before .before .before .before .before .before .before .before .before .loop .k) (c .before .before .before .before .before .before .before .centre .result) _ _ _ _ _ _ _ h (c .before .before .before .before .before .before .before .centre .ensures) g (c .before .before .before .before .before .before .before .before .before .loop .inv .5),
+      blocked-step (a .c) (centres (now (a .xs)) (now (a .ys))) (c .before .before .before .before .before .before .before .before .before .loop .k) (c .before .before .before .before .before .before .before .centre .result) _ _ _ _ _ _ _ h (c .before .before .before .before .before .before .before .centre .ensures) g (c .before .before .before .before .before .before .before .before .before .loop .inv .5),
     )
 
 same-length : tie.Need-same-length Inv-loop μ-loop

@@ -9,10 +9,10 @@ use denote.Ref.{now}
 use borrow.Author.Needs.{needs}
 use borrow.Author.Tests.{not-true, not-false}
 use Rattle.laws.specs.Loops.{over}
-use Rattle.laws.specs.Zip.{zip-over-turn, zip-over-end}
+use Rattle.laws.specs.Zip.{zip-over-step, zip-over-end}
 use Rattle.free.specs.declared.Pass.{Pass}
-use Rattle.free.specs.Free.{span, spans, visit, pass, firstFree}
-use Rattle.free.specs.Moves.{left, pass-falls, free-still, free-moved}
+use Rattle.free.specs.Free.{spanFrom, spans, visit, pass, firstFree}
+use Rattle.free.specs.Moves.{spansAhead, pass-falls, free-still, free-moved}
 use Rattle.free.proofs.first_free.Statement.{statement}
 use Rattle.free.proofs.first_free.Tie as tie
 
@@ -26,7 +26,7 @@ abbrev Inv-loop : tie.InvT-loop
 Inv-loop lo hi start dir h₀ h = firstFree dir (spans lo hi) h ≡ firstFree dir (spans lo hi) start
 
 abbrev μ-loop : tie.MeasureT-loop
-μ-loop lo hi start dir h₀ h = left dir (spans lo hi) h
+μ-loop lo hi start dir h₀ h = spansAhead dir (spans lo hi) h
 
 loop-holds : tie.Need-loop-holds Inv-loop2 μ-loop2 Inv-loop μ-loop
 loop-holds c = refl
@@ -59,14 +59,14 @@ loop2-less c = search needs
 loop2-again : tie.Need-loop2-again Inv-loop2 μ-loop2 Inv-loop μ-loop
 loop2-again c =
     let a = c .before .before .before .before .before .before .before .before .args in
-    (search needs, search needs, rw (c .visit .ensures) (zip-over-turn span (visit (a .dir)) (now (a .lo)) (now (a .hi)) (c .before .before .before .before .loop2 .i) nan nan (c .before .before .before .before .loop2 .s) (c .before .before .before .before .before .before .before .before .pre) (omega arith) ∙ c .before .before .before .before .loop2 .inv .2))
+    (search needs, search needs, rw (c .visit .ensures) (zip-over-step spanFrom (visit (a .dir)) (now (a .lo)) (now (a .hi)) (c .before .before .before .before .loop2 .i) nan nan (c .before .before .before .before .loop2 .s) (c .before .before .before .before .before .before .before .before .pre) (omega arith) ∙ c .before .before .before .before .loop2 .inv .2))
 
 loop-less : tie.Need-loop-less Inv-loop2 μ-loop2 Inv-loop μ-loop
 loop-less c =
     let a = c .before .before .before .before .before .before .before .args in
     let h = c .before .before .before .before .loop .h in
     let l = c .before .before .before .loop2 in
-    let e : l .s ≡ pass (a .dir) (spans (now (a .lo)) (now (a .hi))) h = zip-over-end span (visit (a .dir)) (now (a .lo)) (now (a .hi)) (l .i) (l .s) (c .before .before .before .before .before .before .before .pre) (omega arith) ∙ l .inv .2 in
+    let e : l .s ≡ pass (a .dir) (spans (now (a .lo)) (now (a .hi))) h = zip-over-end spanFrom (visit (a .dir)) (now (a .lo)) (now (a .hi)) (l .i) (l .s) (c .before .before .before .before .before .before .before .pre) (omega arith) ∙ l .inv .2 in
     let m : pass (a .dir) (spans (now (a .lo)) (now (a .hi))) h .moved ≡ true = ap (λ (s : Pass). s .moved) (sym e) ∙ not-false _ (c .if1 .left) in
     rw e (pass-falls _ _ h m)
 
@@ -75,7 +75,7 @@ loop-again c =
     let a = c .before .before .before .before .before .before .before .args in
     let h = c .before .before .before .before .loop .h in
     let l = c .before .before .before .loop2 in
-    let e : l .s ≡ pass (a .dir) (spans (now (a .lo)) (now (a .hi))) h = zip-over-end span (visit (a .dir)) (now (a .lo)) (now (a .hi)) (l .i) (l .s) (c .before .before .before .before .before .before .before .pre) (omega arith) ∙ l .inv .2 in
+    let e : l .s ≡ pass (a .dir) (spans (now (a .lo)) (now (a .hi))) h = zip-over-end spanFrom (visit (a .dir)) (now (a .lo)) (now (a .hi)) (l .i) (l .s) (c .before .before .before .before .before .before .before .pre) (omega arith) ∙ l .inv .2 in
     let m : pass (a .dir) (spans (now (a .lo)) (now (a .hi))) h .moved ≡ true = ap (λ (s : Pass). s .moved) (sym e) ∙ not-false _ (c .if1 .left) in
     rw e (sym (free-moved _ _ h m) ∙ c .before .before .before .before .loop .inv)
 
@@ -84,7 +84,7 @@ returns c =
     let a = c .before .before .before .before .before .before .before .args in
     let h = c .before .before .before .before .loop .h in
     let l = c .before .before .before .loop2 in
-    let e : l .s ≡ pass (a .dir) (spans (now (a .lo)) (now (a .hi))) h = zip-over-end span (visit (a .dir)) (now (a .lo)) (now (a .hi)) (l .i) (l .s) (c .before .before .before .before .before .before .before .pre) (omega arith) ∙ l .inv .2 in
+    let e : l .s ≡ pass (a .dir) (spans (now (a .lo)) (now (a .hi))) h = zip-over-end spanFrom (visit (a .dir)) (now (a .lo)) (now (a .hi)) (l .i) (l .s) (c .before .before .before .before .before .before .before .pre) (omega arith) ∙ l .inv .2 in
     let m : pass (a .dir) (spans (now (a .lo)) (now (a .hi))) h .moved ≡ false = ap (λ (s : Pass). s .moved) (sym e) ∙ not-true _ (c .if1 .taken) in
     rw e (sym (free-still _ _ h m) ∙ c .before .before .before .before .loop .inv)
 

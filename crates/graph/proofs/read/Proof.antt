@@ -4,9 +4,9 @@ use mathlib.Core.List.{List}
 use Prim.Native.Nat.{ℕ}
 use lib.ListN.{length-map}
 use denote.Ref.{now}
+use Rattle.laws.specs.Filled.{put-whole}
 use Rattle.sheet.specs.Sheet.{statesOf, arrowsOf, meaning, flagsOf}
 use Rattle.meaning.specs.Read.{sources, targets}
-use Rattle.graph.proofs.Laws.{put-whole}
 use borrow.Author.Needs.{needs}
 use Rattle.graph.proofs.read.Statement.{statement}
 use Rattle.graph.proofs.read.Tie as tie
@@ -42,8 +42,8 @@ returns : tie.Need-returns
 returns c =
     let s : List ℕ = now (c .before .before .before .before .before .before .before .before .before .before .before .before .before .before .before .before .before .before .before .before .before .before .before .before .before .args .s) in (
       c .before .before .before .before .before .before .before .before .before .before .before .before .before .before .before .before .before .flags-into .ensures ∙ put-whole (now (c .before .before .before .before .before .before .before .before .before .before .before .before .before .before .before .before .before .before .before .before .before .before .before .before .before .args .flags)) (flagsOf (meaning s)) (c .before .before .before .before .before .before .before .before .before .before .before .before .before .before .before .before .before .before .before .before .before .before .before .before .before .pre .0 ∙ sym (length-map (statesOf s) (λ a. a .flags))),
-      c .before .before .before .before .before .before .before .before .before .before .before .before .before .sources-into .ensures ∙ put-whole (now (c .before .before .before .before .before .before .before .before .before .before .before .before .before .before .before .before .before .before .before .before .before .before .before .before .before .args .sources)) (sources (meaning s)) (c .before .before .before .before .before .before .before .before .before .before .before .before .before .before .before .before .before .before .before .before .before .before .before .before .before .pre .1 .0 .0 ∙ sym (length-map (arrowsOf s) (λ a. a .source))),
-      c .before .before .before .before .before .before .before .before .before .targets-into .ensures ∙ put-whole (now (c .before .before .before .before .before .before .before .before .before .before .before .before .before .before .before .before .before .before .before .before .before .before .before .before .before .args .targets)) (targets (meaning s)) (c .before .before .before .before .before .before .before .before .before .before .before .before .before .before .before .before .before .before .before .before .before .before .before .before .before .pre .1 .0 .1 ∙ sym (length-map (arrowsOf s) (λ a. a .target))),
+      c .before .before .before .before .before .before .before .before .before .before .before .before .before .sources-into .ensures ∙ put-whole (now (c .before .before .before .before .before .before .before .before .before .before .before .before .before .before .before .before .before .before .before .before .before .before .before .before .before .args .sources)) (sources (meaning s)) (c .before .before .before .before .before .before .before .before .before .before .before .before .before .before .before .before .before .before .before .before .before .before .before .before .before .pre .1 .0 ∙ sym (length-map (arrowsOf s) (λ a. a .source))),
+      c .before .before .before .before .before .before .before .before .before .targets-into .ensures ∙ put-whole (now (c .before .before .before .before .before .before .before .before .before .before .before .before .before .before .before .before .before .before .before .before .before .before .before .before .before .args .targets)) (targets (meaning s)) (c .before .before .before .before .before .before .before .before .before .before .before .before .before .before .before .before .before .before .before .before .before .before .before .before .before .pre .1 .1 ∙ sym (length-map (arrowsOf s) (λ a. a .target))),
       c .before .before .before .before .sizes-into .ensures .0,
       c .before .before .before .before .sizes-into .ensures .1,
     )

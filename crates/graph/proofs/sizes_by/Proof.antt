@@ -3,9 +3,9 @@ use mathlib.Core.Path.{_≡_, sym, ap, _∙_}
 use mathlib.Core.List.{List, map}
 use Prim.Native.Nat.{ℕ}
 use denote.Ref.{now}
-use Rattle.meaning.specs.Read.{heads, heads-length}
+use Rattle.laws.specs.Filled.{put-whole}
+use Rattle.meaning.specs.Read.{firstLines, heads-length}
 use Rattle.graph.specs.Sizes.{widthFrom, heightFrom, widths-are, heights-are}
-use Rattle.graph.proofs.Laws.{put-whole}
 use borrow.Author.Needs.{needs}
 use Rattle.graph.proofs.sizes_by.Statement.{statement}
 use Rattle.graph.proofs.sizes_by.Tie as tie
@@ -28,7 +28,7 @@ same-length-3 c = search needs
 returns : tie.Need-returns
 returns c =
     let s : List ℕ = now (c .before .before .before .before .before .before .before .before .before .before .before .before .before .before .before .before .args .s) in
-    let h : c .before .before .before .before .before .before .before .before .before .before .heads-into .last .1 .0 ≡ heads s = c .before .before .before .before .before .before .before .before .before .before .heads-into .ensures ∙ put-whole (now (c .before .before .before .before .before .before .before .before .before .before .before .before .before .before .before .before .args .heads)) (heads s) (c .before .before .before .before .before .before .before .before .before .before .before .before .before .before .before .before .pre .0 ∙ sym (heads-length s)) in (
+    let h : c .before .before .before .before .before .before .before .before .before .before .heads-into .last .1 .0 ≡ firstLines s = c .before .before .before .before .before .before .before .before .before .before .heads-into .ensures ∙ put-whole (now (c .before .before .before .before .before .before .before .before .before .before .before .before .before .before .before .before .args .heads)) (firstLines s) (c .before .before .before .before .before .before .before .before .before .before .before .before .before .before .before .before .pre .0 ∙ sym (heads-length s)) in (
       h,
       c .before .before .before .before .sizes-from .ensures .0 ∙ ap (map (widthFrom s)) h ∙ widths-are s,
       c .before .before .before .before .sizes-from .ensures .1 ∙ ap (map (heightFrom s)) h ∙ heights-are s,

@@ -6,9 +6,9 @@ use native.Mathlib.Omega.{arith}
 use lib.ListN.{length, take, drop, length-set}
 use lib.Ieee.{Float}
 use denote.Ref.{now}
+use Rattle.laws.specs.Filled.{into-step, into-end}
 use Rattle.label.specs.declared.Block.{Block}
 use Rattle.graph.specs.Sizes.{widthFrom, heightFrom}
-use Rattle.graph.proofs.Laws.{into-turn, into-end}
 use borrow.Author.Needs.{needs}
 use Rattle.graph.proofs.sizes_from.Statement.{statement}
 use Rattle.graph.proofs.sizes_from.Tie as tie
@@ -67,8 +67,8 @@ loop-again c =
       omega arith,
       length-set w k (b .width) ∙ c .before .before .before .loop .inv .2,
       length-set h k (b .height) ∙ c .before .before .before .loop .inv .3,
-      into-turn (widthFrom s) 0 heads w k (b .width) (omega arith) (omega arith) (ap (λ (x : Block). x .width) (c .block-at .ensures)) ∙ c .before .before .before .loop .inv .4,
-      into-turn (heightFrom s) 0 heads h k (b .height) (omega arith) (omega arith) (ap (λ (x : Block). x .height) (c .block-at .ensures)) ∙ c .before .before .before .loop .inv .5,
+      into-step (widthFrom s) 0 heads w k (b .width) (omega arith) (omega arith) (ap (λ (x : Block). x .width) (c .block-at .ensures)) ∙ c .before .before .before .loop .inv .4,
+      into-step (heightFrom s) 0 heads h k (b .height) (omega arith) (omega arith) (ap (λ (x : Block). x .height) (c .block-at .ensures)) ∙ c .before .before .before .loop .inv .5,
     )
 
 same-length : tie.Need-same-length Inv-loop μ-loop

@@ -8,7 +8,7 @@ use denote.Ref.{now}
 use Rattle.float.specs.Constants.{f0}
 use Rattle.label.specs.declared.Measure.{Measure}
 use Rattle.label.specs.declared.Sized.the-variants.{Size}
-use Rattle.label.specs.Label.{blockHeight, cut, total}
+use Rattle.label.specs.Label.{blockHeight, cut, totalLength}
 use Rattle.label.specs.Measuring.{measureAll, linesSize}
 use Rattle.label.proofs.Laws.{line-ill, line-well, lines-end, total-at}
 use borrow.Author.Needs.{needs}
@@ -17,7 +17,7 @@ use Rattle.label.proofs.lines_size.Tie as tie
 
 abbrev Inv-loop : tie.InvT-loop
 Inv-loop text lengths at₀ width₀ i₀ i-end at width i =
-    (i-end ≡ length lengths) × (i ≤ length lengths) × (at + total (drop i lengths) ≤ length text)
+    (i-end ≡ length lengths) × (i ≤ length lengths) × (at + totalLength (drop i lengths) ≤ length text)
     × (linesSize (blockHeight (length lengths)) width (cut (drop at text) (drop i lengths)) ≡ linesSize (blockHeight (length lengths)) f0 (cut text lengths))
 
 abbrev μ-loop : tie.MeasureT-loop

@@ -6,14 +6,14 @@ use native.Mathlib.Omega.{arith}
 use denote.Ref.{now}
 use Rattle.laws.specs.Loops.{over}
 use Rattle.sheet.specs.Sheet.{chainBy, lineOf, linesFrom}
-use Rattle.label.specs.Label.{wider, blockWidth}
-use Rattle.label.proofs.Laws.{things-end, things-cut, things-turn, block-start, wider-measured}
+use Rattle.label.specs.Label.{widerLine, blockWidth}
+use Rattle.label.proofs.Laws.{things-end, things-cut, things-step, block-start, wider-measured}
 use borrow.Author.Needs.{needs}
 use Rattle.label.proofs.widest.Statement.{statement}
 use Rattle.label.proofs.widest.Tie as tie
 
 abbrev Inv-loop : tie.InvT-loop
-Inv-loop s first w₀ i₀ left₀ w i left = (over wider w (map (lineOf s) (chainBy s left i)) ≡ blockWidth (linesFrom s first)) × (i < 65536)
+Inv-loop s first w₀ i₀ left₀ w i left = (over widerLine w (map (lineOf s) (chainBy s left i)) ≡ blockWidth (linesFrom s first)) × (i < 65536)
 
 abbrev μ-loop : tie.MeasureT-loop
 μ-loop s first w₀ i₀ left₀ w i left = left
@@ -28,7 +28,7 @@ loop-holds : tie.Need-loop-holds Inv-loop μ-loop
 loop-holds c = (block-start (now (c .before .before .args .s)) (c .before .before .args .first) (c .word-at .result) (c .word-at .ensures .0), omega arith)
 
 returns : tie.Need-returns Inv-loop μ-loop
-returns c = things-cut wider (now (c .before .before .before .before .before .args .s)) (lineOf (now (c .before .before .before .before .before .args .s))) (c .before .before .loop .left) (c .before .before .loop .i) (c .before .before .loop .w) (c .if1 .taken) ∙ c .before .before .loop .inv .0
+returns c = things-cut widerLine (now (c .before .before .before .before .before .args .s)) (lineOf (now (c .before .before .before .before .before .args .s))) (c .before .before .loop .left) (c .before .before .loop .i) (c .before .before .loop .w) (c .if1 .taken) ∙ c .before .before .loop .inv .0
 
 measure-line-requires : tie.Need-measure-line-requires Inv-loop μ-loop
 measure-line-requires c κs = search needs
@@ -48,15 +48,15 @@ loop-less c = search needs
 loop-again : tie.Need-loop-again Inv-loop μ-loop
 loop-again c =
     let s = now (c .before .before .before .before .before .before .before .before .args .s) in (
-      ap (λ (j : ℕ). over wider (c .before .max .result) (map (lineOf s) (chainBy s (c .before .before .before .before .before .loop .left - 1) j))) (c .next-of .ensures .0)
-          ∙ things-turn wider s (lineOf s) (c .before .before .before .before .before .loop .left) (c .before .before .before .before .before .loop .i) (c .before .before .before .before .before .loop .w) (c .before .max .result)
+      ap (λ (j : ℕ). over widerLine (c .before .max .result) (map (lineOf s) (chainBy s (c .before .before .before .before .before .loop .left - 1) j))) (c .next-of .ensures .0)
+          ∙ things-step widerLine s (lineOf s) (c .before .before .before .before .before .loop .left) (c .before .before .before .before .before .loop .i) (c .before .before .before .before .before .loop .w) (c .before .max .result)
           (wider-measured (c .before .before .before .before .before .loop .w) (c .before .max .result) (lineOf s (c .before .before .before .before .before .loop .i)) (c .before .before .measure-line .result) (c .before .before .measure-line .ensures) (c .before .max .ensures)) (c .before .before .before .if1 .left) (c .before .before .before .before .loop-test .taken)
           ∙ c .before .before .before .before .before .loop .inv .0,
       omega arith,
     )
 
 returns-2 : tie.Need-returns-2 Inv-loop μ-loop
-returns-2 c = things-end wider (now (c .before .before .before .before .args .s)) (lineOf (now (c .before .before .before .before .args .s))) (c .before .loop .left) (c .before .loop .i) (c .before .loop .w) (c .loop-test .left) ∙ c .before .loop .inv .0
+returns-2 c = things-end widerLine (now (c .before .before .before .before .args .s)) (lineOf (now (c .before .before .before .before .args .s))) (c .before .loop .left) (c .before .loop .i) (c .before .loop .w) (c .loop-test .left) ∙ c .before .loop .inv .0
 
 pub widest-spec : {M : Type 1} → statement M
 widest-spec =

@@ -4,8 +4,8 @@ use Prim.Native.Nat.{_-_, _≤_}
 use native.Mathlib.Omega.{arith}
 use lib.ListN.{length, take, replicate, length-replicate, getD-replicate, length-set}
 use denote.Ref.{now}
+use Rattle.laws.specs.Filled.{fill-more, fill-end}
 use Rattle.float.specs.Constants.{f0}
-use Rattle.columns.specs.Lists.{fill-more, fill-end}
 use borrow.Author.Needs.{needs}
 use Rattle.layered.proofs.clear.Statement.{statement}
 use Rattle.layered.proofs.clear.Tie as tie
@@ -48,7 +48,7 @@ returns : tie.Need-returns Inv-loop μ-loop
 returns c =
     let l = c .before .loop in
     let n = length (now (c .before .before .args .ys)) in
-    fill-end f0 (l .ys) (replicate n f0) (l .v) (omega arith) (omega (arith, length-replicate n f0)) (l .inv .3)
+    fill-end (l .ys) (replicate n f0) (l .v) (omega arith) (omega (arith, length-replicate n f0)) (l .inv .3)
 
 pub clear-spec : {M : Type 1} → statement M
 clear-spec =

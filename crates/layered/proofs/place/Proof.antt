@@ -5,27 +5,27 @@ use native.Mathlib.Omega.{arith}
 use lib.ListN.{length, take}
 use lib.Seq.{length-take-le}
 use denote.Ref.{now}
-use Rattle.columns.specs.Columns.{arrowsOf, columns}
-use Rattle.columns.specs.Split.{split}
+use Rattle.laws.specs.Split.{split}
+use Rattle.columns.specs.Columns.{endPairs, columns}
 use Rattle.layered.proofs.Laws.{xs-are, ys-are}
 use borrow.Author.Needs.{needs}
 use Rattle.layered.proofs.place.Statement.{statement}
 use Rattle.layered.proofs.place.Tie as tie
 
-fill-requires : tie.Need-fill-requires
-fill-requires c κs = search needs
+fill-columns-requires : tie.Need-fill-columns-requires
+fill-columns-requires c κs = search needs
 
 slice-reshare-prefix-put-xs : tie.Need-slice-reshare-prefix-put-xs
 slice-reshare-prefix-put-xs c = search needs
 
 slice-aggregate-put-xs : tie.Need-slice-aggregate-put-xs
-slice-aggregate-put-xs c = sym (length-take-le _ _ (omega (arith, c .before .before .before .before .before .before .fill .ensures .0, c .before .before .before .before .before .before .fill .kept .1 .1 .1 .1 .0)))
+slice-aggregate-put-xs c = sym (length-take-le _ _ (omega (arith, c .before .before .before .before .before .before .fill-columns .ensures .0, c .before .before .before .before .before .before .fill-columns .kept .1 .1 .1 .1 .0)))
 
 gap-for-requires : tie.Need-gap-for-requires
 gap-for-requires c κs = search needs
 
 put-xs-requires : tie.Need-put-xs-requires
-put-xs-requires c κs = (omega (arith, c .before .before .before .before .before .before .before .before .fill .ensures .1, c .before .before .before .before .before .before .before .before .fill .kept .1 .1 .1 .0), omega (arith, length-take-le (c .before .before .before .before .before .before .before .before .fill .result) (c .before .before .before .before .before .before .before .before .fill .last .1 .1 .1 .1 .0) (omega (arith, c .before .before .before .before .before .before .before .before .fill .ensures .0, c .before .before .before .before .before .before .before .before .fill .kept .1 .1 .1 .1 .0)), c .before .before .before .before .before .before .before .before .fill .ensures .0, c .before .before .before .before .before .before .before .before .before .before .before .before .before .before .before .before .before .pre .6))
+put-xs-requires c κs = (omega (arith, c .before .before .before .before .before .before .before .before .fill-columns .ensures .1, c .before .before .before .before .before .before .before .before .fill-columns .kept .1 .1 .1 .0), omega (arith, length-take-le (c .before .before .before .before .before .before .before .before .fill-columns .result) (c .before .before .before .before .before .before .before .before .fill-columns .last .1 .1 .1 .1 .0) (omega (arith, c .before .before .before .before .before .before .before .before .fill-columns .ensures .0, c .before .before .before .before .before .before .before .before .fill-columns .kept .1 .1 .1 .1 .0)), c .before .before .before .before .before .before .before .before .fill-columns .ensures .0, c .before .before .before .before .before .before .before .before .before .before .before .before .before .before .before .before .before .pre .6))
 
 clear-requires : tie.Need-clear-requires
 clear-requires c κs = search needs
@@ -34,10 +34,10 @@ slice-reshare-prefix-sweep : tie.Need-slice-reshare-prefix-sweep
 slice-reshare-prefix-sweep c = search needs
 
 slice-aggregate-sweep : tie.Need-slice-aggregate-sweep
-slice-aggregate-sweep c = sym (length-take-le _ _ (omega (arith, c .before .before .before .before .before .before .before .before .before .before .before .before .before .before .before .before .before .fill .ensures .0, c .before .before .before .before .before .before .before .before .before .before .before .before .before .before .before .before .before .fill .kept .1 .1 .1 .1 .0)))
+slice-aggregate-sweep c = sym (length-take-le _ _ (omega (arith, c .before .before .before .before .before .before .before .before .before .before .before .before .before .before .before .before .before .fill-columns .ensures .0, c .before .before .before .before .before .before .before .before .before .before .before .before .before .before .before .before .before .fill-columns .kept .1 .1 .1 .1 .0)))
 
 sweep-requires : tie.Need-sweep-requires
-sweep-requires c κs = (c .before .before .before .before .before .before .before .before .before .before .before .before .before .before .before .before .before .before .before .before .before .before .before .before .before .before .before .pre .3, c .before .before .before .before .before .before .before .before .before .before .before .before .before .before .before .before .before .before .before .before .before .before .before .before .before .before .before .pre .4, c .before .before .before .before .before .before .before .before .before .before .before .before .before .before .before .before .before .before .fill .ensures .1 ∙ sym (c .before .before .before .before .before .before .before .before .before .before .before .before .before .before .before .before .before .before .fill .kept .1 .1 .1 .0), omega (arith, c .before .before .before .before .before .before .before .before .before .before .before .before .before .before .before .before .before .before .fill .kept .1 .1 .1 .0, c .before .before .before .before .before .before .before .before .before .before .before .before .before .before .before .before .before .before .before .before .before .before .before .before .before .before .before .pre .5, c .before .before .before .before .before .before .before .before .before .before .before .before .before .before .before .before .before .before .before .before .before .before .before .before .before .before .before .pre .1))
+sweep-requires c κs = (c .before .before .before .before .before .before .before .before .before .before .before .before .before .before .before .before .before .before .before .before .before .before .before .before .before .before .before .pre .3, c .before .before .before .before .before .before .before .before .before .before .before .before .before .before .before .before .before .before .before .before .before .before .before .before .before .before .before .pre .4, c .before .before .before .before .before .before .before .before .before .before .before .before .before .before .before .before .before .before .fill-columns .ensures .1 ∙ sym (c .before .before .before .before .before .before .before .before .before .before .before .before .before .before .before .before .before .before .fill-columns .kept .1 .1 .1 .0), omega (arith, c .before .before .before .before .before .before .before .before .before .before .before .before .before .before .before .before .before .before .fill-columns .kept .1 .1 .1 .0, c .before .before .before .before .before .before .before .before .before .before .before .before .before .before .before .before .before .before .before .before .before .before .before .before .before .before .before .pre .5, c .before .before .before .before .before .before .before .before .before .before .before .before .before .before .before .before .before .before .before .before .before .before .before .before .before .before .before .pre .1))
 
 row-for-requires : tie.Need-row-for-requires
 row-for-requires c κs = search needs
@@ -60,9 +60,9 @@ same-length-4 c = search needs
 returns : tie.Need-returns
 returns c =
     let a = c .before .before .before .before .before .before .before .before .before .before .before .before .before .before .before .before .before .before .before .before .before .before .before .before .before .before .before .before .before .before .before .before .before .before .before .before .before .args in
-    let f = c .before .before .before .before .before .before .before .before .before .before .before .before .before .before .before .before .before .before .before .before .before .before .before .before .before .before .before .before .fill in
+    let f = c .before .before .before .before .before .before .before .before .before .before .before .before .before .before .before .before .before .before .before .before .before .before .before .before .before .before .before .before .fill-columns in
     let n : ℕ = length (now (a .xs)) in
-    let l = arrowsOf (now (a .sources)) (now (a .targets)) in
+    let l = endPairs (now (a .sources)) (now (a .targets)) in
     let cs = split (take (f .result) (f .last .1 .1 .1 .1 .0)) (f .last .1 .1 .1 .0) in
     let q : cs ≡ columns n l (a .start) = f .ensures .2 ∙ ap (λ (k : ℕ). columns k l (a .start)) (c .before .before .before .before .before .before .before .before .before .before .before .before .before .before .before .before .before .before .before .before .before .before .before .before .before .before .before .before .before .before .before .before .before .before .before .before .before .pre .5) in (
       xs-are n (a .start) l cs (a .width) q (c .before .before .before .before .before .before .before .before .before .before .before .before .before .before .before .before .before .before .before .before .before .gap-for .result) n (c .before .before .before .before .before .before .before .before .before .before .before .before .before .before .before .before .before .before .before .put-xs .last .1 .1 .1 .0) (c .before .before .before .before .before .before .before .before .before .before .before .before .before .before .before .before .before .before .before .before .before .gap-for .ensures) refl (c .before .before .before .before .before .before .before .before .before .before .before .before .before .before .before .before .before .before .before .put-xs .ensures),
@@ -73,7 +73,7 @@ pub place-spec : {M : Type 1} → statement M
 place-spec =
     tie.close
     (tie.spec
-    fill-requires
+    fill-columns-requires
     slice-reshare-prefix-put-xs
     slice-aggregate-put-xs
     gap-for-requires

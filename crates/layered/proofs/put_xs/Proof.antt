@@ -9,18 +9,20 @@ use lib.ListN.{length, take, length-map, length-set}
 use lib.Ieee.{Float, nan, inFloat}
 use denote.Ref.{now}
 use Rattle.laws.specs.Counting.{table-length}
-use Rattle.float.specs.Ops.{_⊗_, count}
-use Rattle.columns.specs.Columns.{states}
-use Rattle.columns.specs.Split.{split}
+use Rattle.laws.specs.Split.{split}
+use Rattle.laws.specs.Filled.{fill-more, fill-end}
+use Rattle.laws.specs.Lists.{map-at}
+use Rattle.laws.specs.Tables.{table-at}
+use Rattle.float.specs.Ops.{_⊗_, ofNat}
+use Rattle.columns.specs.Columns.{stateNumbers}
 use Rattle.layered.specs.Layered.{columnOf}
-use Rattle.columns.specs.Lists.{fill-more, fill-end, map-at, table-at}
 use borrow.Author.Needs.{needs}
 use Rattle.layered.proofs.put_xs.Statement.{statement}
 use Rattle.layered.proofs.put_xs.Tie as tie
 
 abbrev Inv-loop : tie.InvT-loop
 Inv-loop order sizes gap xs₀ v₀ v-end xs v =
-    (v-end ≡ length xs₀) × (v ≤ length xs₀) × (length xs ≡ length xs₀) × (take v xs ≡ take v (map (λ (w : ℕ). count (columnOf (split sizes order) w) ⊗ gap) (states (length xs₀))))
+    (v-end ≡ length xs₀) × (v ≤ length xs₀) × (length xs ≡ length xs₀) × (take v xs ≡ take v (map (λ (w : ℕ). ofNat (columnOf (split sizes order) w) ⊗ gap) (stateNumbers (length xs₀))))
 
 abbrev μ-loop : tie.MeasureT-loop
 μ-loop order sizes gap xs₀ v₀ v-end xs v = length xs₀ - v
@@ -53,16 +55,16 @@ loop-again c =
     let l = c .before .before .before .loop in
     let n : ℕ = length (now (a .xs)) in
     let cs = split (now (a .sizes)) (now (a .order)) in
-    let f : ℕ → Float = λ (w : ℕ). count (columnOf cs w) ⊗ a .gap in
-    let k : length (map f (states n)) ≡ n = length-map (states n) f ∙ table-length (λ (w : ℕ). w) 0 n in
-    let x : Float = count (c .before .column-of .result) ⊗ a .gap in (
+    let f : ℕ → Float = λ (w : ℕ). ofNat (columnOf cs w) ⊗ a .gap in
+    let k : length (map f (stateNumbers n)) ≡ n = length-map (stateNumbers n) f ∙ table-length (λ (w : ℕ). w) 0 n in
+    let x : Float = ofNat (c .before .column-of .result) ⊗ a .gap in (
       search needs,
       search needs,
       length-set (l .xs) (l .v) x ∙ l .inv .2,
-      fill-more nan (l .xs) (map f (states n)) (l .v) x (omega arith) (omega (arith, k)) (l .inv .3)
-          (ap (λ (j : ℕ). count j ⊗ a .gap) (c .before .column-of .ensures .0)
+      fill-more nan (l .xs) (map f (stateNumbers n)) (l .v) x (omega arith) (omega (arith, k)) (l .inv .3)
+          (ap (λ (j : ℕ). ofNat j ⊗ a .gap) (c .before .column-of .ensures .0)
           ∙ ap f (sym (zero-add (l .v)) ∙ sym (table-at (λ (w : ℕ). w) 0 n (l .v) 0 (omega arith)))
-          ∙ map-at f (states n) (l .v) 0 nan (omega (arith, table-length (λ (w : ℕ). w) 0 n))),
+          ∙ map-at f (stateNumbers n) (l .v) 0 nan (omega (arith, table-length (λ (w : ℕ). w) 0 n))),
     )
 
 same-length : tie.Need-same-length Inv-loop μ-loop
@@ -74,9 +76,9 @@ returns c =
     let l = c .before .loop in
     let n : ℕ = length (now (a .xs)) in
     let cs = split (now (a .sizes)) (now (a .order)) in
-    let f : ℕ → Float = λ (w : ℕ). count (columnOf cs w) ⊗ a .gap in
-    let k : length (map f (states n)) ≡ n = length-map (states n) f ∙ table-length (λ (w : ℕ). w) 0 n in
-    fill-end nan (l .xs) (map f (states n)) (l .v) (omega arith) (omega (arith, k)) (l .inv .3)
+    let f : ℕ → Float = λ (w : ℕ). ofNat (columnOf cs w) ⊗ a .gap in
+    let k : length (map f (stateNumbers n)) ≡ n = length-map (stateNumbers n) f ∙ table-length (λ (w : ℕ). w) 0 n in
+    fill-end (l .xs) (map f (stateNumbers n)) (l .v) (omega arith) (omega (arith, k)) (l .inv .3)
 
 pub put-xs-spec : {M : Type 1} → statement M
 put-xs-spec =

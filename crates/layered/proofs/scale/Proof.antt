@@ -6,8 +6,9 @@ use native.Mathlib.Omega.{arith}
 use lib.ListN.{length, take, drop, getD, length-map, length-set}
 use lib.Ieee.{Float, nan}
 use denote.Ref.{now}
+use Rattle.laws.specs.Filled.{fill-more, fill-end}
+use Rattle.laws.specs.Lists.{map-at}
 use Rattle.float.specs.Ops.{_⊗_}
-use Rattle.columns.specs.Lists.{fill-more, fill-end, map-at}
 use Rattle.layered.proofs.Laws.{rest-read, rest-set}
 use borrow.Author.Needs.{needs}
 use Rattle.layered.proofs.scale.Statement.{statement}
@@ -63,7 +64,7 @@ returns c =
     let l = c .before .loop in
     let y = now (c .before .before .args .ys) in
     let f : Float → Float = λ (s : Float). s ⊗ c .before .before .args .row in
-    fill-end nan (l .ys) (map f y) (l .v) (omega arith) (omega (arith, length-map y f)) (l .inv .3)
+    fill-end (l .ys) (map f y) (l .v) (omega arith) (omega (arith, length-map y f)) (l .inv .3)
 
 pub scale-spec : {M : Type 1} → statement M
 scale-spec =

@@ -2,8 +2,8 @@
 use native.Mathlib.Omega.{arith}
 use denote.Ref.{now}
 use Rattle.laws.specs.Zip.{zip-length}
-use Rattle.routing.specs.Passes.{endsBy}
-use Rattle.layout.specs.Layout.{Plan, planBy, placing, frameAt}
+use Rattle.routing.specs.Sheets.{endsBy}
+use Rattle.layout.specs.Layout.{Plan, planBy, placing, planFrame}
 use Rattle.layout.specs.Slices.{reads-drawn}
 use Rattle.layout.specs.Laws.{fitted-left}
 use borrow.Author.Needs.{needs}
@@ -23,7 +23,7 @@ fit-requires : tie.Need-fit-requires
 fit-requires c κs =
     let a = c .before .before .before .before .before .before .before .before .before .before .before .before .before .before .before .args in
     let p : Plan = planBy (now (a .flags)) (now (a .sources)) (now (a .targets)) (now (a .widths)) (now (a .heights)) in
-    let r = reads-drawn (frameAt p (placing (now (a .xs)) (now (a .ys)))) (p .sizes) _ _ _ (c .before .before .before .before .geometry .ensures .0) (c .before .before .before .before .geometry .ensures .1) (omega (arith, c .before .before .before .before .before .before .before .before .before .before .before .before .before .before .before .pre .1 .0, zip-length endsBy (now (a .sources)) (now (a .targets)) (c .before .before .before .before .before .before .before .before .before .before .before .before .before .before .before .pre .1 .1))) (omega arith) in
+    let r = reads-drawn (planFrame p (placing (now (a .xs)) (now (a .ys)))) (p .sizes) _ _ _ (c .before .before .before .before .geometry .ensures .0) (c .before .before .before .before .geometry .ensures .1) (omega (arith, c .before .before .before .before .before .before .before .before .before .before .before .before .before .before .before .pre .1 .0, zip-length endsBy (now (a .sources)) (now (a .targets)) (c .before .before .before .before .before .before .before .before .before .before .before .before .before .before .before .pre .1 .1))) (omega arith) in
     (omega arith, omega arith, omega (arith, r .most))
 
 same-length : tie.Need-same-length
@@ -36,7 +36,7 @@ returns : tie.Need-returns
 returns c =
     let a = c .before .before .before .before .before .before .before .before .before .before .before .before .before .before .before .before .before .before .before .before .args in
     let p : Plan = planBy (now (a .flags)) (now (a .sources)) (now (a .targets)) (now (a .widths)) (now (a .heights)) in
-    let r = reads-drawn (frameAt p (placing (now (a .xs)) (now (a .ys)))) (p .sizes) _ _ _ (c .before .before .before .before .before .before .before .before .before .geometry .ensures .0) (c .before .before .before .before .before .before .before .before .before .geometry .ensures .1) (omega (arith, c .before .before .before .before .before .before .before .before .before .before .before .before .before .before .before .before .before .before .before .before .pre .1 .0, zip-length endsBy (now (a .sources)) (now (a .targets)) (c .before .before .before .before .before .before .before .before .before .before .before .before .before .before .before .before .before .before .before .before .pre .1 .1))) (omega arith) in
+    let r = reads-drawn (planFrame p (placing (now (a .xs)) (now (a .ys)))) (p .sizes) _ _ _ (c .before .before .before .before .before .before .before .before .before .geometry .ensures .0) (c .before .before .before .before .before .before .before .before .before .geometry .ensures .1) (omega (arith, c .before .before .before .before .before .before .before .before .before .before .before .before .before .before .before .before .before .before .before .before .pre .1 .0, zip-length endsBy (now (a .sources)) (now (a .targets)) (c .before .before .before .before .before .before .before .before .before .before .before .before .before .before .before .before .before .before .before .before .pre .1 .1))) (omega arith) in
     fitted-left p (placing (now (a .xs)) (now (a .ys))) _ _ _ _ _ r (c .before .before .before .before .fit .ensures .0) (c .before .before .before .before .fit .ensures .1) (c .before .before .before .before .fit .ensures .2)
 
 pub fit-at-spec : {M : Type 1} → statement M

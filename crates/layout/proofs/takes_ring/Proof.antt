@@ -5,7 +5,7 @@ use Prim.Native.Nat.{_≤_}
 use native.Mathlib.Omega.{arith}
 use denote.Ref.{now}
 use Rattle.laws.specs.Zip.{zip-length}
-use Rattle.routing.specs.Passes.{endsBy}
+use Rattle.routing.specs.Sheets.{endsBy}
 use Rattle.layout.specs.Layout.{Plan, planBy, ring, clutterAt, isDense}
 use Rattle.layout.specs.Slices.{dense-slices}
 use Rattle.layout.specs.Laws.{clutter-most, ring-dense, ring-tangled}

@@ -4,8 +4,8 @@ use denote.Ref.{now}
 use native.Mathlib.Omega.{arith}
 use lib.ListN.{take}
 use lib.Seq.{length-take-le}
-use Rattle.diagram.specs.Calls.{writtenAs}
-use Rattle.listing.specs.Laws.{listed, refused}
+use Rattle.calls.specs.Calls.{writtenAs}
+use Rattle.listing.specs.Laws.{listed-output, refused-output}
 use borrow.Author.Needs.{needs}
 use Rattle.listing.proofs.output.Statement.{statement}
 use Rattle.listing.proofs.output.Tie as tie
@@ -29,7 +29,7 @@ returns : tie.Need-returns
 returns c =
     let a = c .before .before .before .before .before .before .before .args in
     let l = c .before .before .before .list in
-    let p = listed (take (a .n) (now (a .input))) (now (a .text)) (search needs)
+    let p = listed-output (take (a .n) (now (a .input))) (now (a .text)) (search needs)
     (ap writtenAs (sym (c .before .c .given .1)) ∙ l .ensures .0) (l .ensures .1) in
     (search needs, omega (arith, l .kept), omega (arith, p .0), p .1)
 
@@ -40,7 +40,7 @@ returns-2 c =
       search needs,
       omega (arith, c .put-refused .kept, l .kept),
       omega (arith, c .put-refused .ensures .0, l .kept),
-      c .put-refused .ensures .1 ∙ refused (take (a .n) (now (a .input))) (now (a .text)) (search needs)
+      c .put-refused .ensures .1 ∙ refused-output (take (a .n) (now (a .input))) (now (a .text)) (search needs)
           (ap writtenAs (sym (c .before .before .before .c2 .given .1)) ∙ l .ensures .0),
     )
 

@@ -4,7 +4,7 @@ use native.Mathlib.Omega.{arith}
 use lib.ListN.{length}
 use denote.Ref.{now}
 use Rattle.sheet.specs.Sheet.{chain, chainBy, count}
-use Rattle.meaning.proofs.Laws.{length-end, length-cut, length-turn}
+use Rattle.meaning.proofs.Laws.{length-end, length-cut, length-step}
 use borrow.Author.Needs.{needs}
 use Rattle.meaning.proofs.chain_length.Statement.{statement}
 use Rattle.meaning.proofs.chain_length.Tie as tie
@@ -46,7 +46,7 @@ loop-again : tie.Need-loop-again Inv-loop μ-loop
 loop-again c =
     let s = now (c .before .before .before .before .before .before .args .s) in (
       ap (λ (j : ℕ). c .before .before .before .loop .n + 1 + length (chainBy s (c .before .before .before .loop .left - 1) j)) (c .next-of .ensures .0)
-          ∙ length-turn s (c .before .before .before .loop .left) (c .before .before .before .loop .i) (c .before .before .before .loop .n) (c .before .if1 .left) (c .before .before .loop-test .taken)
+          ∙ length-step s (c .before .before .before .loop .left) (c .before .before .before .loop .i) (c .before .before .before .loop .n) (c .before .if1 .left) (c .before .before .loop-test .taken)
           ∙ c .before .before .before .loop .inv .0,
       omega arith,
       omega arith,

@@ -5,7 +5,7 @@ use native.Mathlib.Omega.{arith}
 use denote.Ref.{now}
 use Rattle.text.specs.Automaton.{feedAll}
 use Rattle.sheet.specs.Sheet.{chainBy, piece, lineOf}
-use Rattle.meaning.proofs.Laws.{feed-end, feed-cut, feed-turn, feed-start}
+use Rattle.meaning.proofs.Laws.{feed-end, feed-cut, feed-step, feed-start}
 use borrow.Author.Needs.{needs}
 use Rattle.meaning.proofs.feed_line.Statement.{statement}
 use Rattle.meaning.proofs.feed_line.Tie as tie
@@ -57,7 +57,7 @@ loop-again : tie.Need-loop-again Inv-loop μ-loop
 loop-again c =
     let s = now (c .before .before .before .before .before .before .before .before .before .args .s) in (
       ap (λ (j : ℕ). feedAll (c .before .feed-part .result) (flatMap (piece s) (chainBy s (c .before .before .before .before .before .loop .left - 1) j))) (c .next-of .ensures .0)
-          ∙ feed-turn s (c .before .before .before .before .before .loop .left) (c .before .before .before .before .before .loop .i) (c .before .before .before .before .before .loop .st) (c .before .before .record-of2 .result .one) (c .before .feed-part .result) (ap (λ (x : Record). x .one) (c .before .before .record-of2 .ensures .0)) (c .before .feed-part .ensures) (c .before .before .before .if1 .left) (c .before .before .before .before .loop-test .taken)
+          ∙ feed-step s (c .before .before .before .before .before .loop .left) (c .before .before .before .before .before .loop .i) (c .before .before .before .before .before .loop .st) (c .before .before .record-of2 .result .one) (c .before .feed-part .result) (ap (λ (x : Record). x .one) (c .before .before .record-of2 .ensures .0)) (c .before .feed-part .ensures) (c .before .before .before .if1 .left) (c .before .before .before .before .loop-test .taken)
           ∙ c .before .before .before .before .before .loop .inv .0,
       omega arith,
     )

@@ -2,15 +2,15 @@ use mathlib.Core.Path.{_≡_, ap}
 use Prim.Native.Nat.{_+_, _<_}
 use native.Mathlib.Omega.{arith}
 use Rattle.sheet.specs.Sheet.{count, firstLine}
-use Rattle.meaning.specs.Read.{heads}
-use Rattle.meaning.proofs.Laws.{Fills, fills-start, fills-cut, fills-end, fills-turn}
+use Rattle.meaning.specs.Read.{firstLines}
+use Rattle.meaning.proofs.Laws.{Fills, fills-start, fills-cut, fills-end, fills-step}
 use borrow.Author.Needs.{needs}
 use Rattle.meaning.proofs.heads_into.Statement.{statement}
 use Rattle.meaning.proofs.heads_into.Tie as tie
 use Rattle.reader.specs.declared.Record.{Record}
 
 abbrev Inv-loop : tie.InvT-loop
-Inv-loop s out₀ i₀ left₀ k₀ out i left k = Fills s (firstLine s) (heads s) out₀ out i left k × (k + left ≡ count s + 1) × (i < 65536) × (count s < 65536)
+Inv-loop s out₀ i₀ left₀ k₀ out i left k = Fills s (firstLine s) (firstLines s) out₀ out i left k × (k + left ≡ count s + 1) × (i < 65536) × (count s < 65536)
 
 abbrev μ-loop : tie.MeasureT-loop
 μ-loop s out₀ i₀ left₀ k₀ out i left k = left
@@ -25,7 +25,7 @@ add-left : tie.Need-add-left Inv-loop μ-loop
 add-left c = search needs
 
 loop-holds : tie.Need-loop-holds Inv-loop μ-loop
-unfolding heads
+unfolding firstLines
 loop-holds c = (fills-start (c .before .word-at .ensures .0) (c .word-at2 .ensures .0), omega arith, omega arith, omega arith)
 
 same-length : tie.Need-same-length Inv-loop μ-loop
@@ -56,7 +56,7 @@ loop-less : tie.Need-loop-less Inv-loop μ-loop
 loop-less c = search needs
 
 loop-again : tie.Need-loop-again Inv-loop μ-loop
-loop-again c = (fills-turn (c .before .before .before .before .before .before .before .before .before .loop .inv .0) (c .before .before .before .before .before .before .before .if1 .left) (c .before .before .before .before .before .before .before .before .loop-test .taken) (ap (λ (x : Record). x .word8) (c .before .before .before .before .before .before .record-of .ensures .0)) (c .before .before .before .store-u16 .ensures) (c .next-of .ensures .0), omega arith, omega arith, omega arith)
+loop-again c = (fills-step (c .before .before .before .before .before .before .before .before .before .loop .inv .0) (c .before .before .before .before .before .before .before .if1 .left) (c .before .before .before .before .before .before .before .before .loop-test .taken) (ap (λ (x : Record). x .word8) (c .before .before .before .before .before .before .record-of .ensures .0)) (c .before .before .before .store-u16 .ensures) (c .next-of .ensures .0), omega arith, omega arith, omega arith)
 
 same-length-2 : tie.Need-same-length-2 Inv-loop μ-loop
 same-length-2 c = c .before .loop .inv .0 .same

@@ -3,8 +3,9 @@ use mathlib.Core.List.{map}
 use Prim.Native.Nat.{ℕ, _-_, _<_}
 use native.Mathlib.Omega.{arith}
 use denote.Ref.{now}
+use Rattle.laws.specs.Any.{anyOf}
 use Rattle.sheet.specs.Sheet.{chainBy, arrowOf, meaning}
-use Rattle.sheet.specs.Refusals.{any, illArrow, illFormed}
+use Rattle.sheet.specs.Refusals.{illArrow, illFormed}
 use Rattle.sheet.specs.Chains.{any-end, any-cut, any-hit, any-miss}
 use Rattle.meaning.proofs.Laws.{arrows-start, ill-arrow}
 use borrow.Author.Needs.{needs}
@@ -13,7 +14,7 @@ use Rattle.meaning.proofs.ill_formed.Tie as tie
 use Rattle.reader.specs.declared.Record.{Record}
 
 abbrev Inv-loop : tie.InvT-loop
-Inv-loop s i₀ left₀ i left = (any illArrow (map (arrowOf s) (chainBy s left i)) ≡ illFormed (meaning s)) × (i < 65536)
+Inv-loop s i₀ left₀ i left = (anyOf illArrow (map (arrowOf s) (chainBy s left i)) ≡ illFormed (meaning s)) × (i < 65536)
 
 abbrev μ-loop : tie.MeasureT-loop
 μ-loop s i₀ left₀ i left = left
@@ -56,7 +57,7 @@ loop-less c = search needs
 loop-again : tie.Need-loop-again Inv-loop μ-loop
 loop-again c =
     let s = now (c .before .before .before .before .before .before .before .before .before .before .args .s) in (
-      ap (λ (j : ℕ). any illArrow (map (arrowOf s) (chainBy s (c .before .before .before .before .before .before .loop .left - 1) j))) (c .next-of .ensures .0)
+      ap (λ (j : ℕ). anyOf illArrow (map (arrowOf s) (chainBy s (c .before .before .before .before .before .before .loop .left - 1) j))) (c .next-of .ensures .0)
           ∙ any-miss s (arrowOf s) illArrow (c .before .before .before .before .before .before .loop .left) (c .before .before .before .before .before .before .loop .i) (c .before .before .before .before .if1 .left) (c .before .before .before .before .before .loop-test .taken) (ill-arrow (now (c .before .before .before .before .before .before .before .before .before .before .args .s)) (c .before .before .before .before .before .before .loop .i) (c .before .before .before .record-of .result .word8) (c .before .before .some-ill .result) (ap (λ (x : Record). x .word8) (c .before .before .before .record-of .ensures .0)) (c .before .before .some-ill .ensures) ∙ c .before .if2 .left)
           ∙ c .before .before .before .before .before .before .loop .inv .0,
       omega arith,

@@ -5,7 +5,7 @@ use native.Mathlib.Omega.{arith}
 use lib.ListN.{length}
 use denote.Ref.{now}
 use Rattle.sheet.specs.Sheet.{chainBy, piece, lineOf}
-use Rattle.meaning.proofs.Laws.{bytes-end, bytes-cut, bytes-turn, line-start}
+use Rattle.meaning.proofs.Laws.{bytes-end, bytes-cut, bytes-step, line-start}
 use borrow.Author.Needs.{needs}
 use Rattle.meaning.proofs.line_length.Statement.{statement}
 use Rattle.meaning.proofs.line_length.Tie as tie
@@ -61,7 +61,7 @@ loop-again c =
     let s = now (c .before .before .before .before .before .before .before .before .args .s) in
     let p : c .before .piece-end .result - (16 * c .before .before .before .before .loop .i + 4) ≡ length (piece s (c .before .before .before .before .loop .i)) = omega (arith, c .before .piece-end .ensures .0) in (
       ap (λ (j : ℕ). c .before .before .before .before .loop .n + (c .before .piece-end .result - (16 * c .before .before .before .before .loop .i + 4)) + length (flatMap (piece s) (chainBy s (c .before .before .before .before .loop .left - 1) j))) (c .next-of .ensures .0)
-          ∙ bytes-turn s (c .before .before .before .before .loop .left) (c .before .before .before .before .loop .i) (c .before .before .before .before .loop .n) (c .before .piece-end .result - (16 * c .before .before .before .before .loop .i + 4)) p (c .before .before .if1 .left) (c .before .before .before .loop-test .taken)
+          ∙ bytes-step s (c .before .before .before .before .loop .left) (c .before .before .before .before .loop .i) (c .before .before .before .before .loop .n) (c .before .piece-end .result - (16 * c .before .before .before .before .loop .i + 4)) p (c .before .before .if1 .left) (c .before .before .before .loop-test .taken)
           ∙ c .before .before .before .before .loop .inv .0,
       omega arith,
       omega arith,

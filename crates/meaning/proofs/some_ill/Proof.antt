@@ -3,8 +3,9 @@ use mathlib.Core.List.{map}
 use Prim.Native.Nat.{ℕ, _-_, _<_}
 use native.Mathlib.Omega.{arith}
 use denote.Ref.{now}
+use Rattle.laws.specs.Any.{anyOf}
 use Rattle.sheet.specs.Sheet.{chainBy, lineOf, linesFrom}
-use Rattle.sheet.specs.Refusals.{any, illLine}
+use Rattle.sheet.specs.Refusals.{illLine}
 use Rattle.sheet.specs.Chains.{any-end, any-cut, any-hit, any-miss}
 use Rattle.meaning.proofs.Laws.{lines-start}
 use borrow.Author.Needs.{needs}
@@ -12,7 +13,7 @@ use Rattle.meaning.proofs.some_ill.Statement.{statement}
 use Rattle.meaning.proofs.some_ill.Tie as tie
 
 abbrev Inv-loop : tie.InvT-loop
-Inv-loop s first i₀ left₀ i left = (any illLine (map (lineOf s) (chainBy s left i)) ≡ any illLine (linesFrom s first)) × (i < 65536)
+Inv-loop s first i₀ left₀ i left = (anyOf illLine (map (lineOf s) (chainBy s left i)) ≡ anyOf illLine (linesFrom s first)) × (i < 65536)
 
 abbrev μ-loop : tie.MeasureT-loop
 μ-loop s first i₀ left₀ i left = left
@@ -48,7 +49,7 @@ loop-less c = search needs
 loop-again : tie.Need-loop-again Inv-loop μ-loop
 loop-again c =
     let s = now (c .before .before .before .before .before .before .before .before .args .s) in (
-      ap (λ (j : ℕ). any illLine (map (lineOf s) (chainBy s (c .before .before .before .before .before .loop .left - 1) j))) (c .next-of .ensures .0)
+      ap (λ (j : ℕ). anyOf illLine (map (lineOf s) (chainBy s (c .before .before .before .before .before .loop .left - 1) j))) (c .next-of .ensures .0)
           ∙ any-miss s (lineOf s) illLine (c .before .before .before .before .before .loop .left) (c .before .before .before .before .before .loop .i) (c .before .before .before .if1 .left) (c .before .before .before .before .loop-test .taken) (sym (c .before .before .ill-line .ensures) ∙ c .before .if2 .left)
           ∙ c .before .before .before .before .before .loop .inv .0,
       omega arith,

@@ -3,8 +3,9 @@ use mathlib.Core.List.{map}
 use Prim.Native.Nat.{ℕ, _-_, _<_}
 use native.Mathlib.Omega.{arith}
 use denote.Ref.{now}
+use Rattle.laws.specs.Any.{anyOf}
 use Rattle.sheet.specs.Sheet.{chainBy, arrowOf, arrowsOf}
-use Rattle.sheet.specs.Refusals.{any, largeArrow}
+use Rattle.sheet.specs.Refusals.{largeArrow}
 use Rattle.sheet.specs.Chains.{any-end, any-cut, any-hit, any-miss}
 use Rattle.meaning.proofs.Laws.{arrows-start}
 use borrow.Author.Needs.{needs}
@@ -12,7 +13,7 @@ use Rattle.meaning.proofs.some_large.Statement.{statement}
 use Rattle.meaning.proofs.some_large.Tie as tie
 
 abbrev Inv-loop : tie.InvT-loop
-Inv-loop s m i₀ left₀ i left = (any (largeArrow m) (map (arrowOf s) (chainBy s left i)) ≡ any (largeArrow m) (arrowsOf s)) × (i < 65536)
+Inv-loop s m i₀ left₀ i left = (anyOf (largeArrow m) (map (arrowOf s) (chainBy s left i)) ≡ anyOf (largeArrow m) (arrowsOf s)) × (i < 65536)
 
 abbrev μ-loop : tie.MeasureT-loop
 μ-loop s m i₀ left₀ i left = left
@@ -51,7 +52,7 @@ loop-less c = search needs
 loop-again : tie.Need-loop-again Inv-loop μ-loop
 loop-again c =
     let s = now (c .before .before .before .before .before .before .before .before .before .args .s) in (
-      ap (λ (j : ℕ). any (largeArrow (c .before .before .before .before .before .before .before .before .before .args .m)) (map (arrowOf s) (chainBy s (c .before .before .before .before .before .loop .left - 1) j))) (c .next-of .ensures .0)
+      ap (λ (j : ℕ). anyOf (largeArrow (c .before .before .before .before .before .before .before .before .before .args .m)) (map (arrowOf s) (chainBy s (c .before .before .before .before .before .loop .left - 1) j))) (c .next-of .ensures .0)
           ∙ any-miss s (arrowOf s) (largeArrow (c .before .before .before .before .before .before .before .before .before .args .m)) (c .before .before .before .before .before .loop .left) (c .before .before .before .before .before .loop .i) (c .before .before .before .if1 .left) (c .before .before .before .before .loop-test .taken) (sym (c .before .before .large-arrow .ensures) ∙ c .before .if2 .left)
           ∙ c .before .before .before .before .before .loop .inv .0,
       omega arith,

@@ -5,8 +5,9 @@ use native.Mathlib.Omega.{arith}
 use borrow.Author.Tests.{lt-ltb, le-ltb}
 use denote.Ref.{now}
 use lib.Dec.{ltb}
+use Rattle.laws.specs.Any.{anyOf}
 use Rattle.sheet.specs.Sheet.{chainBy, lineOf, linesFrom}
-use Rattle.sheet.specs.Refusals.{any, longLine}
+use Rattle.sheet.specs.Refusals.{longLine}
 use Rattle.sheet.specs.Chains.{any-end, any-cut, any-hit, any-miss}
 use Rattle.meaning.proofs.Laws.{lines-start}
 use borrow.Author.Needs.{needs}
@@ -14,7 +15,7 @@ use Rattle.meaning.proofs.some_long.Statement.{statement}
 use Rattle.meaning.proofs.some_long.Tie as tie
 
 abbrev Inv-loop : tie.InvT-loop
-Inv-loop s first m i₀ left₀ i left = (any (longLine m) (map (lineOf s) (chainBy s left i)) ≡ any (longLine m) (linesFrom s first)) × (i < 65536)
+Inv-loop s first m i₀ left₀ i left = (anyOf (longLine m) (map (lineOf s) (chainBy s left i)) ≡ anyOf (longLine m) (linesFrom s first)) × (i < 65536)
 
 abbrev μ-loop : tie.MeasureT-loop
 μ-loop s first m i₀ left₀ i left = left
@@ -50,7 +51,7 @@ loop-less c = search needs
 loop-again : tie.Need-loop-again Inv-loop μ-loop
 loop-again c =
     let s = now (c .before .before .before .before .before .before .before .before .before .args .s) in (
-      ap (λ (j : ℕ). any (longLine (c .before .before .before .before .before .before .before .before .before .args .m)) (map (lineOf s) (chainBy s (c .before .before .before .before .before .before .loop .left - 1) j))) (c .next-of .ensures .0)
+      ap (λ (j : ℕ). anyOf (longLine (c .before .before .before .before .before .before .before .before .before .args .m)) (map (lineOf s) (chainBy s (c .before .before .before .before .before .before .loop .left - 1) j))) (c .next-of .ensures .0)
           ∙ any-miss s (lineOf s) (longLine (c .before .before .before .before .before .before .before .before .before .args .m)) (c .before .before .before .before .before .before .loop .left) (c .before .before .before .before .before .before .loop .i) (c .before .before .before .before .if1 .left) (c .before .before .before .before .before .loop-test .taken) (ap (ltb (c .before .before .before .before .before .before .before .before .before .args .m .bytes)) (sym (c .before .before .before .line-length .ensures)) ∙ le-ltb _ _ (c .before .if2 .left))
           ∙ c .before .before .before .before .before .before .loop .inv .0,
       omega arith,

@@ -1,7 +1,7 @@
 -- `murshogi::murshogi_check` meets its contract.
 use mathlib.Core.Path.{ap, sym, _∙_}
-use Rattle.diagram.specs.Calls.{checkedAs}
-use Rattle.murshogi.specs.Exports.{code}
+use Rattle.calls.specs.Calls.{checkedAs}
+use Rattle.murshogi.specs.Exports.{returned}
 use borrow.Author.Needs.{needs}
 use Rattle.murshogi.proofs.murshogi_check.Statement.{statement}
 use Rattle.murshogi.proofs.murshogi_check.Tie as tie
@@ -16,10 +16,10 @@ enum-known-c : tie.Need-enum-known-c
 enum-known-c c = search needs
 
 returns : tie.Need-returns
-returns c = ap code (ap checkedAs (sym (c .enum-told .given .1)) ∙ c .before .before .check .ensures)
+returns c = ap returned (ap checkedAs (sym (c .enum-told .given .1)) ∙ c .before .before .check .ensures)
 
 returns-2 : tie.Need-returns-2
-returns-2 c = ap code (ap checkedAs (sym (c .before .c .given .1)) ∙ c .before .before .before .check .ensures)
+returns-2 c = ap returned (ap checkedAs (sym (c .before .c .given .1)) ∙ c .before .before .before .check .ensures)
 
 pub murshogi-check-spec : {M : Type 1} → statement M
 murshogi-check-spec = tie.close (tie.spec check-requires enum-told enum-known-c returns returns-2)

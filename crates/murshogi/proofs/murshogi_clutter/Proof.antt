@@ -1,7 +1,7 @@
 -- `murshogi::murshogi_clutter` meets its contract.
 use mathlib.Core.Path.{ap, sym, _∙_}
 use denote.Ref.{now}
-use Rattle.diagram.specs.Calls.{countedAs}
+use Rattle.calls.specs.Calls.{countedAs}
 use Rattle.murshogi.specs.Exports.{itself}
 use Rattle.murshogi.specs.Laws.{told}
 use borrow.Author.Needs.{needs}

@@ -1,7 +1,7 @@
 -- `murshogi::murshogi_label_size` meets its contract.
 use mathlib.Core.Path.{ap, sym, _∙_}
 use denote.Ref.{now}
-use Rattle.diagram.specs.Calls.{sizedAs}
+use Rattle.calls.specs.Calls.{sizedAs}
 use Rattle.murshogi.specs.Exports.{both}
 use Rattle.murshogi.specs.Laws.{told}
 use borrow.Author.Needs.{needs}

@@ -1,8 +1,8 @@
 -- `murshogi::murshogi_layout` meets its contract.
 use mathlib.Core.Path.{ap, sym, _∙_}
 use denote.Ref.{now}
-use Rattle.diagram.specs.Calls.{laidOutAs}
-use Rattle.murshogi.specs.Exports.{sizeOf, statesOf}
+use Rattle.calls.specs.Calls.{laidOutAs}
+use Rattle.murshogi.specs.Exports.{layoutSize, layoutStates}
 use Rattle.murshogi.specs.Laws.{told}
 use borrow.Author.Needs.{needs}
 use Rattle.murshogi.proofs.murshogi_layout.Statement.{statement}
@@ -26,8 +26,8 @@ same-length-2 c = search needs
 returns : tie.Need-returns
 returns c =
     let e = ap laidOutAs (sym (c .before .before .c .given .1)) ∙ c .before .before .before .before .before .before .before .before .layout .ensures .0 in
-    let t = told sizeOf (now (c .before .before .before .before .before .before .before .before .before .before .before .before .before .before .args .size)) e in
-    (t .0, (c .before .before .before .before .before .before .before .before .layout .ensures .1, (c .before .before .before .before .before .before .before .before .layout .ensures .2, (t .1, told statesOf (now (c .before .before .before .before .before .before .before .before .before .before .before .before .before .before .args .states)) e .1))))
+    let t = told layoutSize (now (c .before .before .before .before .before .before .before .before .before .before .before .before .before .before .args .size)) e in
+    (t .0, c .before .before .before .before .before .before .before .before .layout .ensures .1, c .before .before .before .before .before .before .before .before .layout .ensures .2, t .1, told layoutStates (now (c .before .before .before .before .before .before .before .before .before .before .before .before .before .before .args .states)) e .1)
 
 same-length-3 : tie.Need-same-length-3
 same-length-3 c = search needs
@@ -38,8 +38,8 @@ same-length-4 c = search needs
 returns-2 : tie.Need-returns-2
 returns-2 c =
     let e = ap laidOutAs (sym (c .before .c2 .given .1)) ∙ c .before .before .before .before .before .before .before .layout .ensures .0 in
-    let t = told sizeOf (now (c .before .before .before .before .before .before .before .before .before .before .before .before .before .args .size)) e in
-    (t .0, (c .before .before .before .before .before .before .before .layout .ensures .1, (c .before .before .before .before .before .before .before .layout .ensures .2, (t .1, told statesOf (now (c .before .before .before .before .before .before .before .before .before .before .before .before .before .args .states)) e .1))))
+    let t = told layoutSize (now (c .before .before .before .before .before .before .before .before .before .before .before .before .before .args .size)) e in
+    (t .0, c .before .before .before .before .before .before .before .layout .ensures .1, c .before .before .before .before .before .before .before .layout .ensures .2, t .1, told layoutStates (now (c .before .before .before .before .before .before .before .before .before .before .before .before .before .args .states)) e .1)
 
 pub murshogi-layout-spec : {M : Type 1} → statement M
 murshogi-layout-spec =

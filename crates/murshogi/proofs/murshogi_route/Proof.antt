@@ -1,7 +1,7 @@
 -- `murshogi::murshogi_route` meets its contract.
 use mathlib.Core.Path.{ap, sym, _∙_}
 use denote.Ref.{now}
-use Rattle.diagram.specs.Calls.{routedAs}
+use Rattle.calls.specs.Calls.{routedAs}
 use Rattle.murshogi.specs.Exports.{both}
 use Rattle.murshogi.specs.Laws.{told}
 use borrow.Author.Needs.{needs}
@@ -26,7 +26,7 @@ same-length-2 c = search needs
 returns : tie.Need-returns
 returns c =
     let t = told both (now (c .before .before .before .before .before .before .before .before .before .before .before .before .before .before .before .before .args .lengths)) (ap routedAs (sym (c .before .before .c .given .1)) ∙ c .before .before .before .before .before .before .before .before .route .ensures .0) in
-    (t .0, (c .before .before .before .before .before .before .before .before .route .ensures .1, (c .before .before .before .before .before .before .before .before .route .ensures .2, t .1)))
+    (t .0, c .before .before .before .before .before .before .before .before .route .ensures .1, c .before .before .before .before .before .before .before .before .route .ensures .2, t .1)
 
 same-length-3 : tie.Need-same-length-3
 same-length-3 c = search needs
@@ -37,7 +37,7 @@ same-length-4 c = search needs
 returns-2 : tie.Need-returns-2
 returns-2 c =
     let t = told both (now (c .before .before .before .before .before .before .before .before .before .before .before .before .before .before .before .args .lengths)) (ap routedAs (sym (c .before .c2 .given .1)) ∙ c .before .before .before .before .before .before .before .route .ensures .0) in
-    (t .0, (c .before .before .before .before .before .before .before .route .ensures .1, (c .before .before .before .before .before .before .before .route .ensures .2, t .1)))
+    (t .0, c .before .before .before .before .before .before .before .route .ensures .1, c .before .before .before .before .before .before .before .route .ensures .2, t .1)
 
 pub murshogi-route-spec : {M : Type 1} → statement M
 murshogi-route-spec =

@@ -4,7 +4,7 @@ use denote.Ref.{now}
 use Rattle.laws.specs.Writers.{refuses, writes}
 use Rattle.number.specs.Number.{numText}
 use Rattle.number.specs.declared.Written.the-variants.{Length, Refused}
-use Rattle.number.proofs.Laws.{refused, goes-on}
+use Rattle.number.proofs.Laws.{num-refused, goes-on}
 use borrow.Author.Needs.{needs}
 use Rattle.number.proofs.write_num.Statement.{statement}
 use Rattle.number.proofs.write_num.Tie as tie
@@ -13,7 +13,7 @@ writable-requires : tie.Need-writable-requires
 writable-requires c κs = search needs
 
 returns : tie.Need-returns
-returns c = refused (c .before .before .before .args .v) (c .before .writable .result) (now (c .before .before .before .args .out)) (c .before .writable .ensures) (c .if1 .taken)
+returns c = num-refused (c .before .before .before .args .v) (c .before .writable .result) (now (c .before .before .before .args .out)) (c .before .writable .ensures) (c .if1 .taken)
 
 slice-relend-prefix-put-num : tie.Need-slice-relend-prefix-put-num
 slice-relend-prefix-put-num c = search needs

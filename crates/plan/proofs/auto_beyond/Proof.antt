@@ -3,7 +3,7 @@ use mathlib.Core.Path.{sym, _∙_}
 use denote.Ref.{now}
 use Rattle.layout.specs.Layout.{Plan, planBy}
 use Rattle.layout.specs.Slices.{dense-slices}
-use Rattle.plan.specs.Laws.{auto-dense, auto-layers, auto-both}
+use Rattle.plan.specs.Laws.{beyond-auto-dense, beyond-auto-layers, beyond-auto-both}
 use borrow.Author.Needs.{needs}
 use Rattle.plan.proofs.auto_beyond.Statement.{statement}
 use Rattle.plan.proofs.auto_beyond.Tie as tie
@@ -24,7 +24,7 @@ returns : tie.Need-returns
 returns c =
     let a = c .before .before .before .before .before .before .before .before .before .before .before .before .before .before .before .before .args in
     let p : Plan = planBy (now (a .flags)) (now (a .sources)) (now (a .targets)) (now (a .widths)) (now (a .heights)) in
-    auto-dense p _ (sym (dense-slices (now (a .flags)) (now (a .sources)) (now (a .targets)) (now (a .widths)) (now (a .heights)) (c .before .before .before .before .before .before .before .before .before .before .before .before .before .before .before .before .pre .1 .1)) ∙ sym (c .before .before .before .before .before .before .before .before .dense .ensures) ∙ c .before .before .before .before .before .before .before .if1 .taken) (c .before .before .before .before .ring-beyond .ensures)
+    beyond-auto-dense p _ (sym (dense-slices (now (a .flags)) (now (a .sources)) (now (a .targets)) (now (a .widths)) (now (a .heights)) (c .before .before .before .before .before .before .before .before .before .before .before .before .before .before .before .before .pre .1 .1)) ∙ sym (c .before .before .before .before .before .before .before .before .dense .ensures) ∙ c .before .before .before .before .before .before .before .if1 .taken) (c .before .before .before .before .ring-beyond .ensures)
 
 layers-beyond-requires : tie.Need-layers-beyond-requires
 layers-beyond-requires c κs = search needs
@@ -39,7 +39,7 @@ returns-2 : tie.Need-returns-2
 returns-2 c =
     let a = c .before .before .before .before .before .before .before .before .before .before .before .before .before .before .before .before .before .args in
     let p : Plan = planBy (now (a .flags)) (now (a .sources)) (now (a .targets)) (now (a .widths)) (now (a .heights)) in
-    auto-layers p (sym (dense-slices (now (a .flags)) (now (a .sources)) (now (a .targets)) (now (a .widths)) (now (a .heights)) (c .before .before .before .before .before .before .before .before .before .before .before .before .before .before .before .before .before .pre .1 .1)) ∙ sym (c .before .before .before .before .before .before .before .before .before .dense .ensures) ∙ c .before .before .before .before .before .before .before .before .if1 .left) (sym (c .before .before .before .before .before .layers-beyond .ensures) ∙ c .if2 .taken)
+    beyond-auto-layers p (sym (dense-slices (now (a .flags)) (now (a .sources)) (now (a .targets)) (now (a .widths)) (now (a .heights)) (c .before .before .before .before .before .before .before .before .before .before .before .before .before .before .before .before .before .pre .1 .1)) ∙ sym (c .before .before .before .before .before .before .before .before .before .dense .ensures) ∙ c .before .before .before .before .before .before .before .before .if1 .left) (sym (c .before .before .before .before .before .layers-beyond .ensures) ∙ c .if2 .taken)
 
 ring-beyond-requires-2 : tie.Need-ring-beyond-requires-2
 ring-beyond-requires-2 c κs = search needs
@@ -54,7 +54,7 @@ returns-3 : tie.Need-returns-3
 returns-3 c =
     let a = c .before .before .before .before .before .before .before .before .before .before .before .before .before .before .before .before .before .before .before .before .before .before .before .before .args in
     let p : Plan = planBy (now (a .flags)) (now (a .sources)) (now (a .targets)) (now (a .widths)) (now (a .heights)) in
-    auto-both p _ (sym (dense-slices (now (a .flags)) (now (a .sources)) (now (a .targets)) (now (a .widths)) (now (a .heights)) (c .before .before .before .before .before .before .before .before .before .before .before .before .before .before .before .before .before .before .before .before .before .before .before .before .pre .1 .1)) ∙ sym (c .before .before .before .before .before .before .before .before .before .before .before .before .before .before .before .before .dense .ensures) ∙ c .before .before .before .before .before .before .before .before .before .before .before .before .before .before .before .if1 .left) (sym (c .before .before .before .before .before .before .before .before .before .before .before .before .layers-beyond .ensures) ∙ c .before .before .before .before .before .before .before .if2 .left) (c .before .before .before .before .ring-beyond2 .ensures)
+    beyond-auto-both p _ (sym (dense-slices (now (a .flags)) (now (a .sources)) (now (a .targets)) (now (a .widths)) (now (a .heights)) (c .before .before .before .before .before .before .before .before .before .before .before .before .before .before .before .before .before .before .before .before .before .before .before .before .pre .1 .1)) ∙ sym (c .before .before .before .before .before .before .before .before .before .before .before .before .before .before .before .before .dense .ensures) ∙ c .before .before .before .before .before .before .before .before .before .before .before .before .before .before .before .if1 .left) (sym (c .before .before .before .before .before .before .before .before .before .before .before .before .layers-beyond .ensures) ∙ c .before .before .before .before .before .before .before .if2 .left) (c .before .before .before .before .ring-beyond2 .ensures)
 
 pub auto-beyond-spec : {M : Type 1} → statement M
 auto-beyond-spec =

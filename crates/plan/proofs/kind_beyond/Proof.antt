@@ -2,7 +2,7 @@
 use native.Mathlib.Omega.{arith}
 use denote.Ref.{now}
 use Rattle.layout.specs.Layout.{Plan, planBy}
-use Rattle.plan.specs.Laws.{kind-auto, kind-layers, kind-ring}
+use Rattle.plan.specs.Laws.{beyond-auto, beyond-layers, beyond-ring}
 use borrow.Author.Needs.{needs}
 use Rattle.plan.proofs.kind_beyond.Statement.{statement}
 use Rattle.plan.proofs.kind_beyond.Tie as tie
@@ -26,7 +26,7 @@ returns : tie.Need-returns
 returns c =
     let a = c .before .before .before .before .before .before .before .before .before .before .before .before .before .before .before .args in
     let p : Plan = planBy (now (a .flags)) (now (a .sources)) (now (a .targets)) (now (a .widths)) (now (a .heights)) in
-    kind-auto p _ (a .kind) (c .before .before .before .before .before .before .before .match .keys1) (c .before .before .before .before .auto-beyond .ensures)
+    beyond-auto p _ (a .kind) (c .before .before .before .before .before .before .before .match .keys1) (c .before .before .before .before .auto-beyond .ensures)
 
 same-length-3 : tie.Need-same-length-3
 same-length-3 c = c .before .before .before .before .layers-beyond .kept .1 .1 .1 .1 .1 .0
@@ -38,7 +38,7 @@ returns-2 : tie.Need-returns-2
 returns-2 c =
     let a = c .before .before .before .before .before .before .before .before .before .before .before .before .before .before .before .args in
     let p : Plan = planBy (now (a .flags)) (now (a .sources)) (now (a .targets)) (now (a .widths)) (now (a .heights)) in
-    kind-layers p _ (a .kind) (c .before .before .before .before .before .before .before .match .keys2) (c .before .before .before .before .layers-beyond .ensures)
+    beyond-layers p _ (a .kind) (c .before .before .before .before .before .before .before .match .keys2) (c .before .before .before .before .layers-beyond .ensures)
 
 same-length-5 : tie.Need-same-length-5
 same-length-5 c = c .before .before .before .before .ring-beyond .kept .1 .1 .1 .1 .1 .0
@@ -50,7 +50,7 @@ returns-3 : tie.Need-returns-3
 returns-3 c =
     let a = c .before .before .before .before .before .before .before .before .before .before .before .before .before .before .before .args in
     let p : Plan = planBy (now (a .flags)) (now (a .sources)) (now (a .targets)) (now (a .widths)) (now (a .heights)) in
-    kind-ring p _ (a .kind) (c .before .before .before .before .before .before .before .match .keys3) (c .before .before .before .before .ring-beyond .ensures)
+    beyond-ring p _ (a .kind) (c .before .before .before .before .before .before .before .match .keys3) (c .before .before .before .before .ring-beyond .ensures)
 
 returns-4 : tie.Need-returns-4
 returns-4 c = absurd (omega (arith, c .match .rest, c .before .before .before .before .before .before .before .before .pre .0))

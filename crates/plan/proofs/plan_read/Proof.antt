@@ -16,7 +16,7 @@ layout-beyond-requires : tie.Need-layout-beyond-requires
 layout-beyond-requires c κs =
     let k = c .before .before .before .before .before .before .before .before .before .before .before .before .before .before .before .before .before .read .kept in
     let q = c .before .before .before .before .before .before .before .before .before .before .before .before .before .before .before .before .before .before .before .before .before .before .before .before .before .before .before .before .before .before .before .before .before .pre in
-    (q .0 .0, omega (arith, k .1 .0, q .0 .1, q .0 .4), omega (arith, k .1 .0, q .0 .1, q .0 .2), omega (arith, k .1 .0, q .0 .1, q .0 .3), omega (arith, k .1 .1 .0, q .1 .0 .0, q .1 .1 .2), omega (arith, k .1 .1 .0, k .1 .1 .1 .0, q .1 .0 .0, q .1 .0 .1), omega (arith, k .1 .1 .0, k .1 .1 .1 .1 .0, q .1 .0 .0, q .1 .1 .0), omega (arith, k .1 .1 .0, k .1 .1 .1 .1 .1 .0, q .1 .0 .0, q .1 .1 .1))
+    (q .0 .0, omega (arith, k .1 .0, q .0 .1, q .0 .4), omega (arith, k .1 .0, q .0 .1, q .0 .2), omega (arith, k .1 .0, q .0 .1, q .0 .3), omega (arith, k .1 .1 .0, q .1 .0, q .1 .4), omega (arith, k .1 .1 .0, k .1 .1 .1 .0, q .1 .0, q .1 .1), omega (arith, k .1 .1 .0, k .1 .1 .1 .1 .0, q .1 .0, q .1 .2), omega (arith, k .1 .1 .0, k .1 .1 .1 .1 .1 .0, q .1 .0, q .1 .3))
 
 same-length : tie.Need-same-length
 same-length c = c .before .before .before .before .before .before .before .before .before .before .before .before .before .before .before .before .before .before .before .before .before .before .before .read .kept .1 .0
@@ -52,7 +52,7 @@ layout-requires c κs =
     let k = c .before .before .before .before .before .before .before .before .before .before .before .before .before .before .before .before .before .before .before .before .before .before .before .before .before .before .before .before .before .before .read .kept in
     let b = c .before .before .before .before .before .before .before .before .before .before .before .before .layout-beyond .kept in
     let q = c .before .before .before .before .before .before .before .before .before .before .before .before .before .before .before .before .before .before .before .before .before .before .before .before .before .before .before .before .before .before .before .before .before .before .before .before .before .before .before .before .before .before .before .before .before .before .pre in
-    (q .0 .0, omega (arith, k .1 .0, q .0 .1, q .0 .4), omega (arith, b .1 .1 .1 .1 .1 .1 .0, k .1 .0, q .0 .1, q .0 .2), omega (arith, b .1 .1 .1 .1 .1 .1 .1 .0, k .1 .0, q .0 .1, q .0 .3), omega (arith, k .1 .1 .0, q .1 .0 .0, q .1 .1 .2), omega (arith, k .1 .1 .0, k .1 .1 .1 .0, q .1 .0 .0, q .1 .0 .1), omega (arith, k .1 .1 .0, k .1 .1 .1 .1 .0, q .1 .0 .0, q .1 .1 .0), omega (arith, k .1 .1 .0, k .1 .1 .1 .1 .1 .0, q .1 .0 .0, q .1 .1 .1))
+    (q .0 .0, omega (arith, k .1 .0, q .0 .1, q .0 .4), omega (arith, b .1 .1 .1 .1 .1 .1 .0, k .1 .0, q .0 .1, q .0 .2), omega (arith, b .1 .1 .1 .1 .1 .1 .1 .0, k .1 .0, q .0 .1, q .0 .3), omega (arith, k .1 .1 .0, q .1 .0, q .1 .4), omega (arith, k .1 .1 .0, k .1 .1 .1 .0, q .1 .0, q .1 .1), omega (arith, k .1 .1 .0, k .1 .1 .1 .1 .0, q .1 .0, q .1 .2), omega (arith, k .1 .1 .0, k .1 .1 .1 .1 .1 .0, q .1 .0, q .1 .3))
 
 copy-requires : tie.Need-copy-requires
 copy-requires c κs = let q = c .before .before .before .before .before .before .before .before .before .before .before .before .before .before .before .before .before .before .before .before .before .before .before .before .before .before .before .before .before .before .before .before .before .before .before .before .before .before .before .before .before .before .before .before .before .before .before .before .before .before .before .before .before .pre in omega (arith, c .before .before .before .before .before .before .layout .kept .1 .1 .1 .1 .1 .1 .0, c .before .before .before .before .before .before .before .before .before .before .before .before .before .before .before .before .before .before .before .layout-beyond .kept .1 .1 .1 .1 .1 .1 .0, q .0 .2, q .0 .4, q .0 .5)

@@ -52,7 +52,7 @@ plan-read-requires : tie.Need-plan-read-requires
 plan-read-requires c κs =
     let q = c .before .before .before .before .before .before .before .before .before .before .before .before .pre in (
       (q .0, length-take-le _ _ (omega (arith, q .2)) ∙ q .1, length-take-le _ _ (omega (arith, q .2)) ∙ q .1, length-take-le _ _ (omega (arith, q .2)) ∙ q .1, omega (arith, q .1, q .2), q .5, q .6),
-      ((length-take-le _ _ (omega (arith, q .4)) ∙ q .3, length-take-le _ _ (omega (arith, q .4)) ∙ q .3), (length-take-le _ _ (omega (arith, q .4)) ∙ q .3, length-take-le _ _ (omega (arith, q .4)) ∙ q .3, omega (arith, q .3, q .4))),
+      (length-take-le _ _ (omega (arith, q .4)) ∙ q .3, length-take-le _ _ (omega (arith, q .4)) ∙ q .3, length-take-le _ _ (omega (arith, q .4)) ∙ q .3, length-take-le _ _ (omega (arith, q .4)) ∙ q .3, omega (arith, q .3, q .4)),
     )
 
 same-length : tie.Need-same-length

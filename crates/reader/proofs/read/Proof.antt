@@ -34,7 +34,7 @@ use denote.Triple.Clauses.{ensured, lasts}
 use Rattle.reader.specs.Reading.{recordOf, Fits}
 use Rattle.reader.specs.declared.Reader.{Reader}
 use Rattle.reader.specs.declared.Record.{Record}
-use Rattle.reader.proofs.Held.{B, D, L, mach, passed, Own, Fields, handed}
+use Rattle.reader.proofs.Held.{B, D, L, mach, readerPassed, Own, Fields, handed}
 use Rattle.reader.proofs.Reader.Laws as T′
 use Rattle.reader.proofs.Record as R
 use Rattle.reader.proofs.Record.Laws as R′
@@ -64,7 +64,7 @@ module _ {M : Type 1} (𝓤 : URA M) (H : Heap 𝓤) (A : Atoms 𝓤) (W : Given
 
   -- what the callee is passed, and that the reader has what it asks
   abbrev to : RecordAt 𝓤 H A mem run .Ghost
-  to = (((κ, tt), (q, tt), tt, (d .sheet, (d .at, tt)), passed d), tt)
+  to = (((κ, tt), (q, tt), tt, (d .sheet, (d .at, tt)), readerPassed d), tt)
 
   asked : d .at < 65536 → ent 𝓤 (⋆ 𝓤 H A ((‵ (flft κ q) ⊛ ‵ ftrue) ∷ ‵ (Fields κ d) ∷ [])) (RecordAt 𝓤 H A mem run .pre to)
   asked low = qed W ((‵ (flft κ q) ⊛ ‵ ftrue) ∷ ‵ (Fields κ d) ∷ []) ∵ says ! low $ frame ! $ done !

@@ -7,7 +7,7 @@ use Prim.Native.Nat.{ℕ, _+_, _-_, _*_, _/_, _%_, _^_}
 use lib.Dec.{le→leb}
 use lib.Ieee.{binary64, inFloat, round}
 use Rattle.laws.specs.Nan.{no-nan-bits}
-use Rattle.remainder.specs.Tau.{significand, shifted, rem-once, rem-from, quotient-is, small-enough}
+use Rattle.remainder.specs.Tau.{significand, shiftedBits, rem-once, rem-from, quotient-is, small-enough}
 use Rattle.remainder.proofs.from_tau.Statement.{statement}
 use Rattle.remainder.proofs.from_tau.Tie as tie
 
@@ -35,7 +35,7 @@ returns-2 c =
     let b = c .before .before .before .args .size in
     let r = c .before .reduce .result in
     let e = c .before .reduce .ensures ∙ ap (λ (y : ℕ). (2 ^ 52 + y) * 2 ^ (b / 2 ^ 52 - 1025) % significand) (and-mask b 52) in
-    quotient-is r (small-enough (shifted b) r e)
+    quotient-is r (small-enough (shiftedBits b) r e)
     ∙ ap (λ (n : ℕ). round binary64 false n (2 ^ 50)) e
     ∙ rem-from b (c .before .before .before .pre .0) (c .before .before .before .pre .1)
 

@@ -1,17 +1,17 @@
 -- `shape::step` meets its contract.
 use mathlib.Core.Path.{_∙_, ap}
 use lib.Ieee.{Float}
-use Rattle.shape.specs.Steps.{settled, step, step-enters, step-leaves}
+use Rattle.shape.specs.Steps.{settled, clipStep, step-enters, step-leaves}
 use borrow.Author.Needs.{needs}
 use Rattle.shape.proofs.step.Statement.{statement}
 use Rattle.shape.proofs.step.Tie as tie
 
 returns : tie.Need-returns
-unfolding step
+unfolding clipStep
 returns c = rw (c .before .if1 .taken, c .if2 .taken)
 
 returns-2 : tie.Need-returns-2
-unfolding step
+unfolding clipStep
 returns-2 c = rw (c .before .if1 .taken, c .if2 .left)
 
 max-requires : tie.Need-max-requires

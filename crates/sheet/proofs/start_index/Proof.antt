@@ -5,7 +5,7 @@ use native.Mathlib.Omega.{arith}
 use lib.ListN.{length, drop}
 use denote.Ref.{now}
 use Rattle.sheet.specs.Meaning.{startFrom, startIndex}
-use Rattle.sheet.proofs.Laws.{start-hit, start-miss, start-none}
+use Rattle.sheet.proofs.Laws.{start-hit, start-miss, start-past}
 use borrow.Author.Needs.{needs}
 use Rattle.sheet.proofs.start_index.Statement.{statement}
 use Rattle.sheet.proofs.start_index.Tie as tie
@@ -38,7 +38,7 @@ loop-again : tie.Need-loop-again Inv-loop μ-loop
 loop-again c = (search needs, search needs, start-miss (now (c .before .before .before .before .before .before .args .flags)) (c .before .before .before .before .loop .i) (omega arith) (sym (c .before .is-start .ensures) ∙ c .if1 .left) ∙ c .before .before .before .before .loop .inv .2)
 
 returns-2 : tie.Need-returns-2 Inv-loop μ-loop
-returns-2 c = start-none (now (c .before .before .before .args .flags)) (c .before .loop .i) (omega arith) ∙ c .before .loop .inv .2
+returns-2 c = start-past (now (c .before .before .before .args .flags)) (c .before .loop .i) (omega arith) ∙ c .before .loop .inv .2
 
 pub start-index-spec : {M : Type 1} → statement M
 start-index-spec =

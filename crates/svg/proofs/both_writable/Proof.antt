@@ -1,7 +1,7 @@
 -- `svg::both_writable` meets its contract.
 use mathlib.Core.Path.{sym, _∙_}
-use Rattle.svg.proofs.Laws.{and-taken, and-left}
 use borrow.Author.Needs.{needs}
+use Rattle.laws.specs.Bools.{and-yes, and-no}
 use Rattle.svg.proofs.both_writable.Statement.{statement}
 use Rattle.svg.proofs.both_writable.Tie as tie
 
@@ -12,10 +12,10 @@ point-writable-requires-2 : tie.Need-point-writable-requires-2
 point-writable-requires-2 c κs = search needs
 
 returns : tie.Need-returns
-returns c = and-taken (sym (c .before .before .point-writable .ensures) ∙ c .before .if1 .taken) (c .point-writable2 .ensures)
+returns c = and-yes (sym (c .before .before .point-writable .ensures) ∙ c .before .if1 .taken) (c .point-writable2 .ensures)
 
 returns-2 : tie.Need-returns-2
-returns-2 c = and-left _ (sym (c .before .point-writable .ensures) ∙ c .if1 .left)
+returns-2 c = and-no _ (sym (c .before .point-writable .ensures) ∙ c .if1 .left)
 
 pub both-writable-spec : {M : Type 1} → statement M
 both-writable-spec =

@@ -2,7 +2,7 @@
 use mathlib.Core.Path.{sym, ap, _∙_}
 use Rattle.laws.specs.Writers.{wrote-as, wrote-more}
 use Rattle.svg.specs.Paths.{curveText}
-use Rattle.svg.proofs.Laws.{line-is, quad-is, cubic-is}
+use Rattle.svg.proofs.Laws.{line-text-is, quad-is, cubic-is}
 use borrow.Author.Needs.{needs}
 use Rattle.svg.proofs.put_path.Statement.{statement}
 use Rattle.svg.proofs.put_path.Tie as tie
@@ -38,7 +38,7 @@ same-length : tie.Need-same-length
 same-length c = search needs
 
 returns : tie.Need-returns
-returns c = wrote-as (line-is _ _ ∙ sym (ap curveText (c .before .before .before .before .before .k .given .1))) (c .before .before .put-from .ensures)
+returns c = wrote-as (line-text-is _ _ ∙ sym (ap curveText (c .before .before .before .before .before .k .given .1))) (c .before .before .put-from .ensures)
 
 same-length-2 : tie.Need-same-length-2
 same-length-2 c = search needs

@@ -2,7 +2,7 @@
 use mathlib.Core.Path.{refl}
 use native.Mathlib.Omega.{arith}
 use lib.ListN.{take, drop}
-use Rattle.laws.specs.Loops.{Folds, folds-turn, folds-none, folds-past}
+use Rattle.laws.specs.Loops.{Folds, folds-step, folds-none, folds-past}
 use Rattle.text.specs.Automaton.{feedAll, feedOf}
 use Rattle.text.proofs.feed_part.Statement.{statement}
 use Rattle.text.proofs.feed_part.Tie as tie
@@ -35,7 +35,7 @@ loop-less : tie.Need-loop-less Inv-loop μ-loop
 loop-less c = omega arith
 
 loop-again : tie.Need-loop-again Inv-loop μ-loop
-loop-again c = folds-turn (c .before .before .before .before .loop .inv) 0 (c .before .before .if1 .left) (c .before .before .before .loop-test .taken) (c .feed .ensures)
+loop-again c = folds-step (c .before .before .before .before .loop .inv) 0 (c .before .before .if1 .left) (c .before .before .before .loop-test .taken) (c .feed .ensures)
 
 returns-2 : tie.Need-returns-2 Inv-loop μ-loop
 returns-2 c = folds-none (c .before .loop .inv) (c .loop-test .left)

@@ -5,13 +5,13 @@ use native.Mathlib.Omega.{arith}
 use denote.Ref.{now}
 use Rattle.laws.specs.Flat.{table}
 use Rattle.trace.specs.Traces.{anySegment, segmentCrosses}
-use Rattle.trace.specs.Form.{pointIn, pointsOf, decodeTrace}
+use Rattle.trace.specs.Form.{tracePoint, pointsOf, decodeTrace}
 use Rattle.trace.proofs.Laws.{hit-at, miss-at, seg-end}
 use Rattle.trace.proofs.any_crossing.Statement.{statement}
 use Rattle.trace.proofs.any_crossing.Tie as tie
 
 abbrev Inv-loop : tie.InvT-loop
-Inv-loop s n t k₀ left₀ k left = (anySegment (segmentCrosses (decodeTrace t)) (table (pointIn s) k left) ≡ anySegment (segmentCrosses (decodeTrace t)) (pointsOf n s)) × (k + left ≡ n)
+Inv-loop s n t k₀ left₀ k left = (anySegment (segmentCrosses (decodeTrace t)) (table (tracePoint s) k left) ≡ anySegment (segmentCrosses (decodeTrace t)) (pointsOf n s)) × (k + left ≡ n)
 
 abbrev μ-loop : tie.MeasureT-loop
 μ-loop s n t k₀ left₀ k left = left
@@ -50,7 +50,7 @@ loop-again c = (
 )
 
 returns-2 : tie.Need-returns-2 Inv-loop μ-loop
-returns-2 c = seg-end (segmentCrosses (decodeTrace (now (c .before .before .before .before .args .t)))) (pointIn (now (c .before .before .before .before .args .s))) (c .before .loop .k) (c .before .loop .left) (omega arith) ∙ c .before .loop .inv .0
+returns-2 c = seg-end (segmentCrosses (decodeTrace (now (c .before .before .before .before .args .t)))) (tracePoint (now (c .before .before .before .before .args .s))) (c .before .loop .k) (c .before .loop .left) (omega arith) ∙ c .before .loop .inv .0
 
 pub any-crossing-spec : {M : Type 1} → statement M
 any-crossing-spec =

@@ -5,13 +5,13 @@ use native.Mathlib.Omega.{arith}
 use denote.Ref.{now}
 use Rattle.laws.specs.Flat.{table}
 use Rattle.trace.specs.Traces.{anySegment, segmentHits}
-use Rattle.trace.specs.Form.{pointIn, pointsOf}
+use Rattle.trace.specs.Form.{tracePoint, pointsOf}
 use Rattle.trace.proofs.Laws.{hit-at, miss-at, seg-end}
 use Rattle.trace.proofs.any_hit.Statement.{statement}
 use Rattle.trace.proofs.any_hit.Tie as tie
 
 abbrev Inv-loop : tie.InvT-loop
-Inv-loop t n r k₀ left₀ k left = (anySegment (segmentHits r) (table (pointIn t) k left) ≡ anySegment (segmentHits r) (pointsOf n t)) × (k + left ≡ n)
+Inv-loop t n r k₀ left₀ k left = (anySegment (segmentHits r) (table (tracePoint t) k left) ≡ anySegment (segmentHits r) (pointsOf n t)) × (k + left ≡ n)
 
 abbrev μ-loop : tie.MeasureT-loop
 μ-loop t n r k₀ left₀ k left = left
@@ -50,7 +50,7 @@ loop-again c = (
 )
 
 returns-2 : tie.Need-returns-2 Inv-loop μ-loop
-returns-2 c = seg-end (segmentHits (c .before .before .before .args .r)) (pointIn (now (c .before .before .before .args .t))) (c .before .loop .k) (c .before .loop .left) (omega arith) ∙ c .before .loop .inv .0
+returns-2 c = seg-end (segmentHits (c .before .before .before .args .r)) (tracePoint (now (c .before .before .before .args .t))) (c .before .loop .k) (c .before .loop .left) (omega arith) ∙ c .before .loop .inv .0
 
 pub any-hit-spec : {M : Type 1} → statement M
 any-hit-spec =

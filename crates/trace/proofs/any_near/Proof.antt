@@ -5,13 +5,13 @@ use native.Mathlib.Omega.{arith}
 use denote.Ref.{now}
 use Rattle.laws.specs.Flat.{table}
 use Rattle.trace.specs.Traces.{anyPoint, pointNear}
-use Rattle.trace.specs.Form.{pointIn, pointsOf}
+use Rattle.trace.specs.Form.{tracePoint, pointsOf}
 use Rattle.trace.proofs.Laws.{near-hit, near-miss, point-end}
 use Rattle.trace.proofs.any_near.Statement.{statement}
 use Rattle.trace.proofs.any_near.Tie as tie
 
 abbrev Inv-loop : tie.InvT-loop
-Inv-loop t n o k₀ left₀ k left = (anyPoint (pointNear o) (table (pointIn t) k left) ≡ anyPoint (pointNear o) (pointsOf n t)) × (k + left ≡ n)
+Inv-loop t n o k₀ left₀ k left = (anyPoint (pointNear o) (table (tracePoint t) k left) ≡ anyPoint (pointNear o) (pointsOf n t)) × (k + left ≡ n)
 
 abbrev μ-loop : tie.MeasureT-loop
 μ-loop t n o k₀ left₀ k left = left
@@ -44,7 +44,7 @@ loop-again c = (
 )
 
 returns-2 : tie.Need-returns-2 Inv-loop μ-loop
-returns-2 c = point-end (pointNear (c .before .before .before .args .o)) (pointIn (now (c .before .before .before .args .t))) (c .before .loop .k) (c .before .loop .left) (omega arith) ∙ c .before .loop .inv .0
+returns-2 c = point-end (pointNear (c .before .before .before .args .o)) (tracePoint (now (c .before .before .before .args .t))) (c .before .loop .k) (c .before .loop .left) (omega arith) ∙ c .before .loop .inv .0
 
 pub any-near-spec : {M : Type 1} → statement M
 any-near-spec =

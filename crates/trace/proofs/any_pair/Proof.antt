@@ -5,13 +5,13 @@ use native.Mathlib.Omega.{arith}
 use denote.Ref.{now}
 use Rattle.laws.specs.Flat.{table}
 use Rattle.trace.specs.Traces.{anySegment, pairCross}
-use Rattle.trace.specs.Form.{pointIn, pointsOf}
+use Rattle.trace.specs.Form.{tracePoint, pointsOf}
 use Rattle.trace.proofs.Laws.{hit-at, miss-at, seg-end}
 use Rattle.trace.proofs.any_pair.Statement.{statement}
 use Rattle.trace.proofs.any_pair.Tie as tie
 
 abbrev Inv-loop : tie.InvT-loop
-Inv-loop t n ab a b k₀ left₀ k left = (anySegment (pairCross ab a b) (table (pointIn t) k left) ≡ anySegment (pairCross ab a b) (pointsOf n t)) × (k + left ≡ n)
+Inv-loop t n ab a b k₀ left₀ k left = (anySegment (pairCross ab a b) (table (tracePoint t) k left) ≡ anySegment (pairCross ab a b) (pointsOf n t)) × (k + left ≡ n)
 
 abbrev μ-loop : tie.MeasureT-loop
 μ-loop t n ab a b k₀ left₀ k left = left
@@ -50,7 +50,7 @@ loop-again c = (
 )
 
 returns-2 : tie.Need-returns-2 Inv-loop μ-loop
-returns-2 c = seg-end (pairCross (c .before .before .before .args .ab) (c .before .before .before .args .a) (c .before .before .before .args .b)) (pointIn (now (c .before .before .before .args .t))) (c .before .loop .k) (c .before .loop .left) (omega arith) ∙ c .before .loop .inv .0
+returns-2 c = seg-end (pairCross (c .before .before .before .args .ab) (c .before .before .before .args .a) (c .before .before .before .args .b)) (tracePoint (now (c .before .before .before .args .t))) (c .before .loop .k) (c .before .loop .left) (omega arith) ∙ c .before .loop .inv .0
 
 pub any-pair-spec : {M : Type 1} → statement M
 any-pair-spec =

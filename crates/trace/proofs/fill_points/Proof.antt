@@ -7,7 +7,8 @@ use lib.ListN.{length}
 use Rattle.laws.specs.Flat.{table, table-more}
 use Rattle.laws.specs.Loops.{over}
 use Rattle.shape.specs.declared.«V».{«V»}
-use Rattle.trace.specs.Traces.{boundsOf, extended}
+use Rattle.shape.specs.Plane.{extended}
+use Rattle.trace.specs.Traces.{boundsOf}
 use Rattle.trace.specs.Form.{decodePoints, sampleAt}
 use Rattle.trace.proofs.Laws.{bounds-more}
 use Rattle.trace.proofs.fill_points.Statement.{statement}
@@ -19,12 +20,12 @@ Inv-loop points₀ c n b₀ k₀ points b k = (decodePoints k points ≡ table (
 abbrev μ-loop : tie.MeasureT-loop
 μ-loop points₀ c n b₀ k₀ points b k = n - k
 
-no-bounds-requires : tie.Need-no-bounds-requires Inv-loop μ-loop
-no-bounds-requires c κs = tt
+empty-requires : tie.Need-empty-requires Inv-loop μ-loop
+empty-requires c κs = tt
 
 loop-holds : tie.Need-loop-holds Inv-loop μ-loop
 unfolding table boundsOf over
-loop-holds c = (refl, c .no-bounds .ensures, omega arith, refl)
+loop-holds c = (refl, c .empty .ensures, omega arith, refl)
 
 sample-at-requires : tie.Need-sample-at-requires Inv-loop μ-loop
 sample-at-requires c κs = omega arith
@@ -60,7 +61,7 @@ fill-points-spec =
     (tie.spec
     Inv-loop
     μ-loop
-    no-bounds-requires
+    empty-requires
     loop-holds
     sample-at-requires
     extended-requires

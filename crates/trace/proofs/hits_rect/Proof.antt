@@ -5,11 +5,8 @@ use borrow.Author.Needs.{needs}
 use Rattle.trace.proofs.hits_rect.Statement.{statement}
 use Rattle.trace.proofs.hits_rect.Tie as tie
 
-bounds-of-requires : tie.Need-bounds-of-requires
-bounds-of-requires c κs = search needs
-
-touches-requires : tie.Need-touches-requires
-touches-requires c κs = search needs
+reaches-requires : tie.Need-reaches-requires
+reaches-requires c κs = search needs
 
 shared-slice-read-points-in : tie.Need-shared-slice-read-points-in
 shared-slice-read-points-in c = search needs
@@ -21,19 +18,15 @@ any-hit-requires : tie.Need-any-hit-requires
 any-hit-requires c κs = search needs
 
 returns : tie.Need-returns
-returns c = hits-on (now (c .before .before .before .before .before .before .before .args .t)) (c .before .before .before .before .before .before .before .args .r) (c .before .before .before .before .before .bounds-of .result) (c .before .before .before .before .touches .result) (c .before .before .before .before .before .bounds-of .ensures) (c .before .before .before .before .touches .ensures) (c .before .points-in .result) (c .any-hit .result) (c .before .before .before .if1 .taken) (c .before .points-in .ensures .0) (c .any-hit .ensures)
+returns c =
+    let a = c .before .before .before .before .before .before .args in
+    hits-on (now (a .t)) (a .r) (c .before .before .before .before .reaches .result) (c .before .before .before .before .reaches .ensures) (c .before .points-in .result) (c .any-hit .result) (c .before .before .before .if1 .taken) (c .before .points-in .ensures .0) (c .any-hit .ensures)
 
 returns-2 : tie.Need-returns-2
-returns-2 c = hits-off (now (c .before .before .before .before .args .t)) (c .before .before .before .before .args .r) (c .before .before .bounds-of .result) (c .before .touches .result) (c .before .before .bounds-of .ensures) (c .before .touches .ensures) (c .if1 .left)
+returns-2 c =
+    let a = c .before .before .before .args in
+    hits-off (now (a .t)) (a .r) (c .before .reaches .result) (c .before .reaches .ensures) (c .if1 .left)
 
 pub hits-rect-spec : {M : Type 1} → statement M
 hits-rect-spec =
-    tie.close
-    (tie.spec
-    bounds-of-requires
-    touches-requires
-    shared-slice-read-points-in
-    points-in-requires
-    any-hit-requires
-    returns
-    returns-2)
+    tie.close (tie.spec reaches-requires shared-slice-read-points-in points-in-requires any-hit-requires returns returns-2)

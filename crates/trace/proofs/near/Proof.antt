@@ -1,6 +1,6 @@
 -- `trace::near` meets its contract.
 use denote.Ref.{now}
-use Rattle.trace.proofs.Laws.{near-is}
+use Rattle.trace.proofs.Laws.{near25-is}
 use borrow.Author.Needs.{needs}
 use Rattle.trace.proofs.near.Statement.{statement}
 use Rattle.trace.proofs.near.Tie as tie
@@ -15,7 +15,7 @@ any-near-requires : tie.Need-any-near-requires
 any-near-requires c κs = search needs
 
 returns : tie.Need-returns
-returns c = near-is (now (c .before .before .before .before .args .t)) (c .before .before .before .before .args .o) (c .before .points-in .result) (c .any-near .result) (c .before .points-in .ensures .0) (c .any-near .ensures)
+returns c = near25-is (now (c .before .before .before .before .args .t)) (c .before .before .before .before .args .o) (c .before .points-in .result) (c .any-near .result) (c .before .points-in .ensures .0) (c .any-near .ensures)
 
 pub near-spec : {M : Type 1} → statement M
 near-spec =

@@ -8,7 +8,7 @@ use Rattle.vectors.proofs.replay_all.Tie as tie
 
 abbrev Inv-loop : tie.InvT-loop
 Inv-loop cases₀ differ₀ payload₀ done₀ cases differ payload done =
-    (length cases ≡ length cases₀) × (length differ ≡ length differ₀) × (length payload ≡ 70000) × (done ≤ 1000000)
+    (length cases ≡ length cases₀) × (length differ ≡ length differ₀) × (length payload ≡ 140000) × (done ≤ 1000000)
 
 abbrev μ-loop : tie.MeasureT-loop
 μ-loop cases₀ differ₀ payload₀ done₀ cases differ payload done = 1000000 - done

@@ -1,0 +1,9 @@
+pub mod Clear
+pub mod Choice
+pub mod Steps
+pub mod Bend
+pub mod Between
+pub mod Numbers
+pub mod Exactly
+pub mod Leads
+pub mod Farther

@@ -1,9 +1,0 @@
-pub mod Clear
-pub mod Choice
-pub mod Turns
-pub mod Bend
-pub mod Between
-pub mod Numbers
-pub mod Exactly
-pub mod Leads
-pub mod Farther

@@ -1,0 +1,3 @@
+pub mod Held
+pub mod Routes
+pub mod Lists

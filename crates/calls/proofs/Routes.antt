@@ -1,0 +1,72 @@
+-- Routing and counting clutter, from what drawing a sheet gives. Assumes nothing.
+use mathlib.Core.Path.{_≡_, sym, ap, _∙_}
+use mathlib.Core.List.{List}
+use Prim.Native.Nat.{ℕ, _*_, _≤_}
+use native.Mathlib.Omega.{arith}
+use lib.ListN.{length, take}
+use lib.Ieee.{Float}
+use Rattle.laws.specs.Flat.{table}
+use Rattle.laws.specs.Refusals.{Refusal, decide-map, First, first-decides, clear-decides, first-joined, clear-joined}
+use Rattle.sheet.specs.Sheet.{meaning}
+use Rattle.records.specs.Records.{decodeRecords}
+use Rattle.routing.specs.Sheets.{centreAt, frameOf}
+use Rattle.clutter.specs.Clutter.{clutterOf}
+use Rattle.drawing_text.specs.Lines.{pathsText}
+use Rattle.draw.specs.Drawn.{drawRefusals, drawOf}
+use Rattle.draw.specs.declared.Drawing.the-variants as P
+use Rattle.calls.specs.Calls.{number, values, mainScreen, drawnOf, numbersOf, onto, routedAs, countedAs, route, recordsAfter, textAfter, clutter}
+use Rattle.outputs.specs.Answers.{AsWritten, fillRefusals, FilledInto}
+use Rattle.outputs.specs.Written.{fewer-written}
+use Rattle.outputs.specs.declared.Routed.{Routed}
+use Rattle.outputs.specs.declared.Routed.the-variants as D
+use Rattle.calls.specs.declared.Counted.the-variants as K
+use Rattle.calls.proofs.Held.{DrawingHeld, draw-stopped}
+
+-- a drawing begins with its records as they are written, and so with its first m
+pub ready : {s : List ℕ} {xs ys : List Float} {count : ℕ} {slice : List Float} → DrawingHeld s xs ys count slice → (m : ℕ) → m ≤ count → (20 * m ≤ length slice) × AsWritten m slice
+ready {count} {slice} h m i =
+    let room = h .room in
+    (omega arith, fewer-written m count slice i (h .numbers ∙ ap numbersOf (sym (h .decoded))))
+
+module _ (s : List ℕ) (xs ys : List Float) where
+  abbrev drawing : List Refusal
+  drawing = drawRefusals mainScreen s xs ys
+
+  module _ (records : List Float) (text : List ℕ) where
+    -- r is answered, and a and b stand in the lent slices
+    abbrev pub Routes : Routed → List Float → List ℕ → Type 0
+    Routes r a b =
+        (routedAs r ≡ route s xs ys (length records) (length text))
+        × (a ≡ recordsAfter s xs ys records (length text))
+        × (b ≡ textAfter s xs ys (length records) text)
+
+    abbrev filling : List Refusal
+    filling = fillRefusals (numbersOf (drawnOf s xs ys)) (drawnOf s xs ys) (length records) (length text)
+
+    pub route-refused : (n : ℕ) → P.Refused n ≡ drawOf mainScreen s xs ys → Routes (D.Refused n) records text
+    unfolding route recordsAfter textAfter
+    route-refused n e =
+        let f : First drawing n = draw-stopped drawing (length (drawnOf s xs ys)) n e in
+        (sym (first-joined number _ drawing filling n f), sym (first-joined (λ m. records) _ drawing filling n f), sym (first-joined (λ m. text) _ drawing filling n f))
+
+    pub route-drawn : (count : ℕ) (slice : List Float) → DrawingHeld s xs ys count slice → (r : Routed) (a : List Float) (b : List ℕ)
+        → FilledInto (take (20 * count) slice) (decodeRecords count slice) records text r a b → Routes r a b
+    unfolding route recordsAfter textAfter
+    route-drawn count slice h r a b f =
+        let gs = drawnOf s xs ys in
+        let g : FilledInto (numbersOf gs) gs records text r a b = rw (h .numbers, h .decoded) at f in (
+          ap routedAs (g .0) ∙ decide-map routedAs filling D.Refused (D.Lengths (length (numbersOf gs)) (length (pathsText gs))) ∙ sym (clear-joined number _ drawing filling (h .clear)),
+          g .1 ∙ sym (clear-joined (λ m. records) (onto (numbersOf gs) records) drawing filling (h .clear)),
+          g .2 ∙ sym (clear-joined (λ m. text) (onto (pathsText gs) text) drawing filling (h .clear)),
+        )
+
+  pub clutter-refused : (n : ℕ) → P.Refused n ≡ drawOf mainScreen s xs ys → countedAs (K.Refused n) ≡ clutter s xs ys
+  unfolding clutter
+  clutter-refused n e = sym (first-decides number _ drawing n (draw-stopped drawing (length (drawnOf s xs ys)) n e))
+
+  pub clutter-drawn : (count : ℕ) (slice : List Float) → DrawingHeld s xs ys count slice → (m k : ℕ) → m ≡ length (meaning s .states)
+      → k ≡ clutterOf (table (centreAt xs ys) 0 m) (decodeRecords count slice) → countedAs (K.Count k) ≡ clutter s xs ys
+  unfolding clutter frameOf
+  clutter-drawn count slice h m k e f =
+      ap (λ (n : ℕ). values n) (f ∙ rw (h .decoded, e))
+      ∙ sym (clear-decides number (values (clutterOf (table (centreAt xs ys) 0 (length (meaning s .states))) (drawnOf s xs ys))) drawing (h .clear))

@@ -1,0 +1,72 @@
+-- `calls::layout` meets its contract.
+use mathlib.Core.Path.{sym, _∙_}
+use native.Mathlib.Omega.{arith}
+use lib.Seq.{length-take-le}
+use denote.Ref.{now}
+use Rattle.calls.proofs.Lists.{few-states, laid, layout-refused, layout-laid}
+use borrow.Author.Needs.{needs}
+use Rattle.calls.proofs.layout.Statement.{statement}
+use Rattle.calls.proofs.layout.Tie as tie
+
+slice-aggregate-plan : tie.Need-slice-aggregate-plan
+slice-aggregate-plan c = search needs
+
+slice-aggregate-plan-2 : tie.Need-slice-aggregate-plan-2
+slice-aggregate-plan-2 c = search needs
+
+plan-requires : tie.Need-plan-requires
+plan-requires c κs = search needs
+
+enum-known-planned : tie.Need-enum-known-planned
+enum-known-planned c = search needs
+
+enum-known-planned-2 : tie.Need-enum-known-planned-2
+enum-known-planned-2 c = search needs
+
+array-share-prefix-across : tie.Need-array-share-prefix-across
+array-share-prefix-across c = omega (arith, few-states (now (c .before .before .before .before .before .before .before .before .before .before .before .args .sheet)) (c .before .before .before .before .before .before .before .before .before .before .before .args .kind) _ _ _ (sym (c .before .planned2 .given .1) ∙ c .before .before .before .before .before .plan .ensures .0))
+
+slice-aggregate-place : tie.Need-slice-aggregate-place
+slice-aggregate-place c = sym (length-take-le _ _ (omega (arith, few-states (now (c .before .before .before .before .before .before .before .before .before .before .before .before .args .sheet)) (c .before .before .before .before .before .before .before .before .before .before .before .before .args .kind) _ _ _ (sym (c .before .before .planned2 .given .1) ∙ c .before .before .before .before .before .before .plan .ensures .0))))
+
+array-share-prefix-down : tie.Need-array-share-prefix-down
+array-share-prefix-down c = omega (arith, few-states (now (c .before .before .before .before .before .before .before .before .before .before .before .before .args .sheet)) (c .before .before .before .before .before .before .before .before .before .before .before .before .args .kind) _ _ _ (sym (c .before .before .planned2 .given .1) ∙ c .before .before .before .before .before .before .plan .ensures .0))
+
+slice-aggregate-place-2 : tie.Need-slice-aggregate-place-2
+slice-aggregate-place-2 c = sym (length-take-le _ _ (omega (arith, few-states (now (c .before .before .before .before .before .before .before .before .before .before .before .before .before .args .sheet)) (c .before .before .before .before .before .before .before .before .before .before .before .before .before .args .kind) _ _ _ (sym (c .before .before .before .planned2 .given .1) ∙ c .before .before .before .before .before .before .before .plan .ensures .0))))
+
+place-requires : tie.Need-place-requires
+place-requires c κs =
+    let l = laid (now (c .before .before .before .before .before .before .before .before .before .before .before .before .before .before .before .args .sheet)) (c .before .before .before .before .before .before .before .before .before .before .before .before .before .before .before .args .kind) _ _ _ _ _ _ _ (omega arith) (omega arith) (sym (c .before .before .before .before .before .planned2 .given .1) ∙ c .before .before .before .before .before .before .before .before .before .plan .ensures .0) (c .before .before .before .before .before .before .before .before .before .plan .ensures .1) (c .before .before .before .before .before .before .before .before .before .plan .ensures .2) in
+    l .ys-many ∙ sym (l .xs-many)
+
+returns : tie.Need-returns
+returns c = layout-refused (now (c .before .before .before .before .before .before .before .before .before .before .before .args .sheet)) (c .before .before .before .before .before .before .before .before .before .before .before .args .kind) (now (c .before .before .before .before .before .before .before .before .before .before .before .args .xs)) (now (c .before .before .before .before .before .before .before .before .before .before .before .args .ys)) _ (sym (c .before .planned .given .1) ∙ c .before .before .before .before .before .plan .ensures .0)
+
+same-length : tie.Need-same-length
+same-length c = search needs
+
+same-length-2 : tie.Need-same-length-2
+same-length-2 c = search needs
+
+returns-2 : tie.Need-returns-2
+returns-2 c = layout-laid (now (c .before .before .before .before .before .before .before .before .before .before .before .before .before .before .before .before .before .before .before .before .args .sheet)) (c .before .before .before .before .before .before .before .before .before .before .before .before .before .before .before .before .before .before .before .before .args .kind) (now (c .before .before .before .before .before .before .before .before .before .before .before .before .before .before .before .before .before .before .before .before .args .xs)) (now (c .before .before .before .before .before .before .before .before .before .before .before .before .before .before .before .before .before .before .before .before .args .ys)) _ _ _ _ _ (laid (now (c .before .before .before .before .before .before .before .before .before .before .before .before .before .before .before .before .before .before .before .before .args .sheet)) (c .before .before .before .before .before .before .before .before .before .before .before .before .before .before .before .before .before .before .before .before .args .kind) _ _ _ _ _ _ _ (omega arith) (omega arith) (sym (c .before .before .before .before .before .before .before .before .before .before .planned2 .given .1) ∙ c .before .before .before .before .before .before .before .before .before .before .before .before .before .before .plan .ensures .0) (c .before .before .before .before .before .before .before .before .before .before .before .before .before .before .plan .ensures .1) (c .before .before .before .before .before .before .before .before .before .before .before .before .before .before .plan .ensures .2)) _ _ _ (c .before .before .before .before .place .ensures)
+
+pub layout-spec : {M : Type 1} → statement M
+layout-spec =
+    tie.close
+    (tie.spec
+    slice-aggregate-plan
+    slice-aggregate-plan-2
+    plan-requires
+    enum-known-planned
+    enum-known-planned-2
+    array-share-prefix-across
+    slice-aggregate-place
+    array-share-prefix-down
+    slice-aggregate-place-2
+    place-requires
+    returns
+    same-length
+    same-length-2
+    returns-2)

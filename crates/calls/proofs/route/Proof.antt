@@ -1,0 +1,54 @@
+-- `calls::route` meets its contract.
+use mathlib.Core.Path.{sym, _∙_}
+use denote.Ref.{now}
+use native.Mathlib.Omega.{arith}
+use Rattle.calls.proofs.Held.{held}
+use Rattle.calls.proofs.Routes.{ready, route-refused, route-drawn}
+use borrow.Author.Needs.{needs}
+use Rattle.calls.proofs.route.Statement.{statement}
+use Rattle.calls.proofs.route.Tie as tie
+
+slice-aggregate-draw : tie.Need-slice-aggregate-draw
+slice-aggregate-draw c = search needs
+
+draw-requires : tie.Need-draw-requires
+draw-requires c κs = search needs
+
+enum-known-drawn : tie.Need-enum-known-drawn
+enum-known-drawn c = search needs
+
+enum-known-drawn-2 : tie.Need-enum-known-drawn-2
+enum-known-drawn-2 c = search needs
+
+slice-aggregate-fill : tie.Need-slice-aggregate-fill
+slice-aggregate-fill c = search needs
+
+fill-requires : tie.Need-fill-requires
+fill-requires c κs = ready (held (now (c .before .before .before .before .before .before .before .before .before .before .before .before .before .before .args .sheet)) (now (c .before .before .before .before .before .before .before .before .before .before .before .before .before .before .args .xs)) (now (c .before .before .before .before .before .before .before .before .before .before .before .before .before .before .args .ys)) (c .before .before .before .before .drawn2 .given .0 .0) _ _ (omega arith) (sym (c .before .before .before .before .drawn2 .given .1) ∙ c .before .before .before .before .before .before .before .draw .ensures .0) (c .before .before .before .before .before .before .before .draw .ensures .1)) _ (omega arith)
+
+returns : tie.Need-returns
+returns c = route-refused (now (c .before .before .before .before .before .before .before .before .before .before .before .args .sheet)) (now (c .before .before .before .before .before .before .before .before .before .before .before .args .xs)) (now (c .before .before .before .before .before .before .before .before .before .before .before .args .ys)) (now (c .before .before .before .before .before .before .before .before .before .before .before .args .records)) (now (c .before .before .before .before .before .before .before .before .before .before .before .args .text)) (c .before .drawn .given .0 .0) (sym (c .before .drawn .given .1) ∙ c .before .before .before .before .draw .ensures .0)
+
+same-length : tie.Need-same-length
+same-length c = search needs
+
+same-length-2 : tie.Need-same-length-2
+same-length-2 c = search needs
+
+returns-2 : tie.Need-returns-2
+returns-2 c = route-drawn (now (c .before .before .before .before .before .before .before .before .before .before .before .before .before .before .before .before .before .before .before .args .sheet)) (now (c .before .before .before .before .before .before .before .before .before .before .before .before .before .before .before .before .before .before .before .args .xs)) (now (c .before .before .before .before .before .before .before .before .before .before .before .before .before .before .before .before .before .before .before .args .ys)) (now (c .before .before .before .before .before .before .before .before .before .before .before .before .before .before .before .before .before .before .before .args .records)) (now (c .before .before .before .before .before .before .before .before .before .before .before .before .before .before .before .before .before .before .before .args .text)) (c .before .before .before .before .before .before .before .before .before .drawn2 .given .0 .0) _ (held (now (c .before .before .before .before .before .before .before .before .before .before .before .before .before .before .before .before .before .before .before .args .sheet)) (now (c .before .before .before .before .before .before .before .before .before .before .before .before .before .before .before .before .before .before .before .args .xs)) (now (c .before .before .before .before .before .before .before .before .before .before .before .before .before .before .before .before .before .before .before .args .ys)) (c .before .before .before .before .before .before .before .before .before .drawn2 .given .0 .0) _ _ (omega arith) (sym (c .before .before .before .before .before .before .before .before .before .drawn2 .given .1) ∙ c .before .before .before .before .before .before .before .before .before .before .before .before .draw .ensures .0) (c .before .before .before .before .before .before .before .before .before .before .before .before .draw .ensures .1)) _ _ _ (c .before .before .before .before .fill .ensures)
+
+pub route-spec : {M : Type 1} → statement M
+route-spec =
+    tie.close
+    (tie.spec
+    slice-aggregate-draw
+    draw-requires
+    enum-known-drawn
+    enum-known-drawn-2
+    slice-aggregate-fill
+    fill-requires
+    returns
+    same-length
+    same-length-2
+    returns-2)

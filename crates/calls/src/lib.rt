@@ -1,0 +1,173 @@
+// The calls of document 01, for the main screen. None has a requirement.
+use draw::Drawing;
+use number::Written;
+pub use outputs::LaidOut;
+pub use outputs::Routed;
+use plan::Planned;
+ghost use mathlib.Core.Path.{_≡_};
+ghost use lib.ListN.{length};
+ghost use Rattle.sheet.specs.Sheet.{statesOf};
+ghost use Rattle.calls.specs.Calls as S;
+ghost use Rattle.calls.specs.Listed as F;
+
+// The clutter, or the number of the refusal.
+pub enum Counted {
+    Count(usize),
+    Refused(u8),
+}
+
+// Checks a sheet: accepted, or the number of the refusal.
+pub fn check(sheet: &[u8]) -> sheet::Checked
+    ensures { λ r. ⌜ S.checkedAs r ≡ S.check (now (sheet .entry)) ⌝ }
+{
+    sheet_check::check_within(sheet, sheet::main_screen())
+}
+
+// The width and height of a label block: its text, and the length of each line.
+pub fn label_size(text: &[u8], lengths: &[usize]) -> label::Sized
+    ensures { λ r. ⌜ S.sizedAs r ≡ S.labelSize (now (text .entry)) (now (lengths .entry)) ⌝ }
+{
+    label::label_size(text, lengths, sheet::main_screen())
+}
+
+// Writes a number into `out`: the bytes written, or the number of the refusal.
+pub fn write_num(v: f64, out: &mut [u8]) -> number::Written
+    ensures { λ r. ⌜
+        (S.writtenAs r ≡ S.writeNum v (now (out .entry)))
+        × (now (out .exit) ≡ S.writeNumAfter v (now (out .entry)))
+        ⌝ }
+{
+    number::write_num(v, out)
+}
+
+// ---- routing
+
+// Routes a sheet at the given centres: its records and their paths, or the number of the refusal.
+pub fn route(sheet: &[u8], xs: &[f64], ys: &[f64], records: &mut [f64], text: &mut [u8]) -> Routed
+    ensures { λ r.
+        let s = now (sheet .entry) in
+        let x = now (xs .entry) in
+        let y = now (ys .entry) in
+        let recordRoom = length (now (records .entry)) in
+        let textRoom = length (now (text .entry)) in
+        ⌜ (S.routedAs r ≡ S.route s x y recordRoom textRoom)
+        × (now (records .exit) ≡ S.recordsAfter s x y (now (records .entry)) textRoom)
+        × (now (text .exit) ≡ S.textAfter s x y recordRoom (now (text .entry))) ⌝ }
+{
+    let mut drawing = [0.0f64; 5120];
+    let drawn = draw::draw(sheet, xs, ys, &mut drawing);
+    match drawn {
+        Drawing::Refused(n) => Routed::Refused(n),
+        Drawing::Records(count) => outputs::fill(&drawing, count, records, text),
+    }
+}
+
+// ---- clutter
+
+// Counts the clutter of a sheet routed at the given centres, or gives the number of the refusal.
+pub fn clutter(sheet: &[u8], xs: &[f64], ys: &[f64]) -> Counted
+    ensures { λ r. ⌜ S.countedAs r ≡ S.clutter (now (sheet .entry)) (now (xs .entry)) (now (ys .entry)) ⌝ }
+{
+    let mut drawing = [0.0f64; 5120];
+    let drawn = draw::draw(sheet, xs, ys, &mut drawing);
+    match drawn {
+        Drawing::Refused(n) => Counted::Refused(n),
+        Drawing::Records(count) => {
+            let n = meaning::state_count(sheet);
+            Counted::Count(outputs::clutter_at(xs, ys, n, &drawing, count))
+        }
+    }
+}
+
+// ---- layout
+
+// Lays out a sheet by kind: the centres of its states and the size, or the number of the refusal.
+pub fn layout(sheet: &[u8], kind: u8, xs: &mut [f64], ys: &mut [f64]) -> LaidOut
+    ensures { λ r.
+        let xRoom = length (now (xs .entry)) in
+        let yRoom = length (now (ys .entry)) in
+        ⌜ (S.laidOutAs r ≡ S.layout (now (sheet .entry)) kind xRoom yRoom)
+        × (now (xs .exit) ≡ S.xsAfter (now (sheet .entry)) kind (now (xs .entry)) yRoom)
+        × (now (ys .exit) ≡ S.ysAfter (now (sheet .entry)) kind xRoom (now (ys .entry))) ⌝ }
+{
+    let mut across = [0.0f64; 64];
+    let mut down = [0.0f64; 64];
+    let planned = plan::plan(sheet, kind, &mut across, &mut down);
+    match planned {
+        Planned::Refused(n) => LaidOut::Refused(n),
+        Planned::Size(n, width, height) => outputs::place(
+            &across[..n],
+            &down[..n],
+            width,
+            height,
+            xs,
+            ys,
+        ),
+    }
+}
+
+// ---- listing
+
+// The listing of a sheet drawn at these centres; `flags` is left with the states' flag bytes.
+fn list_by(
+    sheet: &[u8],
+    width: f64,
+    height: f64,
+    xs: &[f64],
+    ys: &[f64],
+    flags: &mut [u8],
+    out: &mut [u8],
+) -> Written
+    requires { let states = length (now xs) in
+        ⌜ (length (now ys) ≡ states)
+        × (length (now flags) ≡ states)
+        × (length (statesOf (now sheet)) ≡ states) ⌝ }
+    ensures { λ r.
+        let s = now (sheet .entry) in
+        let x = now (xs .entry) in
+        let y = now (ys .entry) in
+        ⌜ (r ≡ F.listingAt s width height x y (length (now (out .entry))))
+        × (now (out .exit) ≡ F.listedAfter s width height x y (now (out .entry))) ⌝ }
+{
+    meaning::flags_into(sheet, flags);
+    let mut drawing = [0.0f64; 5120];
+    let drawn = draw::draw(sheet, xs, ys, &mut drawing);
+    match drawn {
+        Drawing::Refused(n) => Written::Refused(n),
+        Drawing::Records(count) => outputs::write_listing(
+            width,
+            height,
+            xs,
+            ys,
+            flags,
+            &drawing,
+            count,
+            out,
+        ),
+    }
+}
+
+// Lists the drawing of a sheet, laid out by kind: the bytes written, or the number of the refusal.
+pub fn list(sheet: &[u8], kind: u8, out: &mut [u8]) -> Written
+    ensures { λ r. ⌜
+        (S.writtenAs r ≡ S.list (now (sheet .entry)) kind (length (now (out .entry))))
+        × (now (out .exit) ≡ S.listAfter (now (sheet .entry)) kind (now (out .entry)))
+        ⌝ }
+{
+    let mut xs = [0.0f64; 64];
+    let mut ys = [0.0f64; 64];
+    let mut flags = [0u8; 64];
+    let planned = plan::plan(sheet, kind, &mut xs, &mut ys);
+    match planned {
+        Planned::Refused(n) => Written::Refused(n),
+        Planned::Size(n, width, height) => list_by(
+            sheet,
+            width,
+            height,
+            &xs[..n],
+            &ys[..n],
+            &mut flags[..n],
+            out,
+        ),
+    }
+}

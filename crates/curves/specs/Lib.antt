@@ -1,0 +1,4 @@
+pub mod Lay
+pub mod Steps
+pub mod Numbers
+pub mod Traces

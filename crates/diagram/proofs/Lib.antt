@@ -1,4 +1,0 @@
-pub mod Held
-pub mod Whole
-pub mod Routes
-pub mod Lists

@@ -1,5 +1,0 @@
-pub mod Lay
-pub mod Steps
-pub mod Filled
-pub mod Numbers
-pub mod Traces

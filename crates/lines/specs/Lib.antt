@@ -1,5 +1,0 @@
-pub mod Every
-pub mod Each
-pub mod Continues
-pub mod Lines
-pub mod Worked

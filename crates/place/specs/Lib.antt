@@ -1,3 +1,0 @@
-pub mod Scene
-pub mod Turn
-pub mod Cut

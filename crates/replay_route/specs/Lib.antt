@@ -1,4 +1,0 @@
-pub mod Answers
-pub mod Graphs
-pub mod Cases
-pub mod Laws

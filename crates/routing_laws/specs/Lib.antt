@@ -1,0 +1,10 @@
+pub mod Numbers
+pub mod Passes
+pub mod Order
+pub mod Slots
+pub mod Demand
+pub mod Turns
+pub mod Rim
+pub mod Agree
+pub mod Frames
+pub mod Decoded

@@ -1,0 +1,4 @@
+pub mod Scene
+pub mod Turn
+pub mod Cut
+pub mod Struck
