@@ -1,4 +1,4 @@
--- A state whose square of the distance is not less leaves the clearance as it is, so its root need not be taken: `farther`. Subtracting the radius keeps
+-- A state whose square of the distance is not less leaves the clearance as it is, so its root need not be taken. Subtracting the radius keeps
 -- the order of distances, with its rounding. Assumes nothing.
 use mathlib.Core.Path.{_≡_, refl, sym, ap, _∙_, subst}
 use mathlib.Core.Bool.{true, false, cond, true≢false}

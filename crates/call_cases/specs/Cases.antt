@@ -9,7 +9,7 @@ use lib.ListN.{length, getD, take, drop, replicate}
 use lib.Ieee.{Float, binary64, ofBits, round}
 use Rattle.laws.specs.Loops.{anyUp}
 use Rattle.calls.specs.Calls.{Outcome, values, number, check, labelSize, writeNum, writeNumAfter, route, recordsAfter, textAfter, clutter, layout, xsAfter, ysAfter, list, listAfter}
-use Rattle.cases.specs.Payload.{byteAt, wordAt, longAt, floatAt, floatsAt, sizesAt, alike, sameFloat, kindRow, rowRight}
+use Rattle.cases.specs.Payload.{payloadByte, wordAt, longAt, floatAt, floatsAt, sizesAt, alike, sameFloat, kindRow, rowRight}
 
 -- ---- the answer
 
@@ -38,7 +38,7 @@ numbersHold out numbers = leb (length numbers) (length out) && not (anyUp (diffe
 
 -- the same of bytes
 abbrev pub byteDiffers : List ℕ → List ℕ → ℕ → Bool
-byteDiffers out text i = not (eqb (byteAt out i) (getD text i 170))
+byteDiffers out text i = not (eqb (payloadByte out i) (getD text i 170))
 
 unfoldable pub textHolds : List ℕ → List ℕ → Bool
 textHolds out text = leb (length text) (length out) && not (anyUp (byteDiffers out text) 0 (length out))
@@ -171,4 +171,4 @@ called kind a by s rest =
 unfoldable pub callAgrees : ℕ → List ℕ → Bool
 callAgrees kind p =
     let n = longAt p 2 in
-    leb (6 + n) (length p) && called kind (byteAt p 0) (byteAt p 1) (take n (drop 6 p)) (drop (6 + n) p)
+    leb (6 + n) (length p) && called kind (payloadByte p 0) (payloadByte p 1) (take n (drop 6 p)) (drop (6 + n) p)

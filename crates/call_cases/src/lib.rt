@@ -23,7 +23,7 @@ use cases::same_float;
 use label::Sized;
 use number::Written;
 use outputs::LaidOut;
-use outputs::Routed;
+use outputs::RouteAnswer;
 use sheet::Checked;
 
 // No answer holds it.
@@ -318,7 +318,7 @@ fn route_in(
     bytes: usize,
     records: &mut [f64],
     out: &mut [u8],
-) -> Routed
+) -> RouteAnswer
     requires { ⌜ (16 + room ≤ length (now records)) × (16 + bytes ≤ length (now out)) ⌝ }
     ensures { λ r.
         let s = now (sheet .entry) in
@@ -334,12 +334,12 @@ fn route_in(
     calls::route(sheet, xs, ys, &mut records[16..end], &mut out[16..stop])
 }
 
-fn routed_is(r: Routed, answer: u8, n: usize, text: &[u8]) -> bool
+fn routed_is(r: RouteAnswer, answer: u8, n: usize, text: &[u8]) -> bool
     ensures { λ b. ⌜ b ≡ S.outcomeRight answer (S.lengthsAre n (now (text .entry))) (C.routedAs r) ⌝ }
 {
     match r {
-        Routed::Lengths(k, m) => lengths_are(n, text, k, m) && answer == 0,
-        Routed::Refused(k) => answer == k,
+        RouteAnswer::Lengths(k, m) => lengths_are(n, text, k, m) && answer == 0,
+        RouteAnswer::Refused(k) => answer == k,
     }
 }
 

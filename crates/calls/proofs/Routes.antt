@@ -17,8 +17,8 @@ use Rattle.draw.specs.declared.Drawing.the-variants as P
 use Rattle.calls.specs.Calls.{number, values, mainScreen, drawnOf, numbersOf, onto, routedAs, countedAs, route, recordsAfter, textAfter, clutter}
 use Rattle.outputs.specs.Answers.{AsWritten, fillRefusals, FilledInto}
 use Rattle.outputs.specs.Written.{fewer-written}
-use Rattle.outputs.specs.declared.Routed.{Routed}
-use Rattle.outputs.specs.declared.Routed.the-variants as D
+use Rattle.outputs.specs.declared.RouteAnswer.{RouteAnswer}
+use Rattle.outputs.specs.declared.RouteAnswer.the-variants as D
 use Rattle.calls.specs.declared.Counted.the-variants as K
 use Rattle.calls.proofs.Held.{DrawingHeld, draw-stopped}
 
@@ -34,7 +34,7 @@ module _ (s : List ℕ) (xs ys : List Float) where
 
   module _ (records : List Float) (text : List ℕ) where
     -- r is answered, and a and b stand in the lent slices
-    abbrev pub Routes : Routed → List Float → List ℕ → Type 0
+    abbrev pub Routes : RouteAnswer → List Float → List ℕ → Type 0
     Routes r a b =
         (routedAs r ≡ route s xs ys (length records) (length text))
         × (a ≡ recordsAfter s xs ys records (length text))
@@ -49,7 +49,7 @@ module _ (s : List ℕ) (xs ys : List Float) where
         let f : First drawing n = draw-stopped drawing (length (drawnOf s xs ys)) n e in
         (sym (first-joined number _ drawing filling n f), sym (first-joined (λ m. records) _ drawing filling n f), sym (first-joined (λ m. text) _ drawing filling n f))
 
-    pub route-drawn : (count : ℕ) (slice : List Float) → DrawingHeld s xs ys count slice → (r : Routed) (a : List Float) (b : List ℕ)
+    pub route-drawn : (count : ℕ) (slice : List Float) → DrawingHeld s xs ys count slice → (r : RouteAnswer) (a : List Float) (b : List ℕ)
         → FilledInto (take (20 * count) slice) (decodeRecords count slice) records text r a b → Routes r a b
     unfolding route recordsAfter textAfter
     route-drawn count slice h r a b f =

@@ -27,8 +27,8 @@ use Rattle.draw.specs.Drawn.{farCentre, drawRefusals}
 use Rattle.layout.specs.Layout.{Layout, planOf, lastKind, layoutOf}
 use Rattle.plan.specs.Measured.{layoutBeyond}
 use Rattle.plan.specs.Planned.{planRefusals}
-use Rattle.outputs.specs.declared.Routed.{Routed}
-use Rattle.outputs.specs.declared.Routed.the-variants as D
+use Rattle.outputs.specs.declared.RouteAnswer.{RouteAnswer}
+use Rattle.outputs.specs.declared.RouteAnswer.the-variants as D
 use Rattle.calls.specs.declared.Counted.{Counted}
 use Rattle.calls.specs.declared.Counted.the-variants as K
 use Rattle.outputs.specs.declared.LaidOut.{LaidOut}
@@ -55,7 +55,7 @@ writtenAs (N.Length n) = values n
 writtenAs (N.Refused n) = number n
 
 -- f64 numbers written, bytes written
-abbrev pub routedAs : Routed → Outcome (ℕ × ℕ)
+abbrev pub routedAs : RouteAnswer → Outcome (ℕ × ℕ)
 routedAs (D.Lengths n m) = values (n, m)
 routedAs (D.Refused n) = number n
 

@@ -2,7 +2,7 @@
 use draw::Drawing;
 use number::Written;
 pub use outputs::LaidOut;
-pub use outputs::Routed;
+pub use outputs::RouteAnswer;
 use plan::Planned;
 ghost use mathlib.Core.Path.{_≡_};
 ghost use lib.ListN.{length};
@@ -43,7 +43,13 @@ pub fn write_num(v: f64, out: &mut [u8]) -> number::Written
 // ---- routing
 
 // Routes a sheet at the given centres: its records and their paths, or the number of the refusal.
-pub fn route(sheet: &[u8], xs: &[f64], ys: &[f64], records: &mut [f64], text: &mut [u8]) -> Routed
+pub fn route(
+    sheet: &[u8],
+    xs: &[f64],
+    ys: &[f64],
+    records: &mut [f64],
+    text: &mut [u8],
+) -> RouteAnswer
     ensures { λ r.
         let s = now (sheet .entry) in
         let x = now (xs .entry) in
@@ -57,7 +63,7 @@ pub fn route(sheet: &[u8], xs: &[f64], ys: &[f64], records: &mut [f64], text: &m
     let mut drawing = [0.0f64; 5120];
     let drawn = draw::draw(sheet, xs, ys, &mut drawing);
     match drawn {
-        Drawing::Refused(n) => Routed::Refused(n),
+        Drawing::Refused(n) => RouteAnswer::Refused(n),
         Drawing::Records(count) => outputs::fill(&drawing, count, records, text),
     }
 }

@@ -15,12 +15,12 @@ abbrev pub after : ℕ → ℕ → ℕ
 after at n = (at + n) % 2 ^ 64
 
 -- the byte at a place, 0 past the end
-abbrev pub byteAt : List ℕ → ℕ → ℕ
-byteAt p at = getD p at 0
+abbrev pub payloadByte : List ℕ → ℕ → ℕ
+payloadByte p at = getD p at 0
 
 -- the number in two, four and eight bytes, the least first
 unfoldable pub wordAt : List ℕ → ℕ → ℕ
-wordAt p at = byteAt p at + 256 * byteAt p (after at 1)
+wordAt p at = payloadByte p at + 256 * payloadByte p (after at 1)
 
 unfoldable pub longAt : List ℕ → ℕ → ℕ
 longAt p at = wordAt p at + 65536 * wordAt p (after at 2)
@@ -28,7 +28,7 @@ longAt p at = wordAt p at + 65536 * wordAt p (after at 2)
 unfoldable pub bitsAt : List ℕ → ℕ → ℕ
 bitsAt p at = longAt p at + 4294967296 * longAt p (after at 4)
 
--- "A float is its eight bytes, the least first"
+-- a float is its eight bytes, the least first
 unfoldable pub floatAt : List ℕ → ℕ → Float
 floatAt p at = ofBits binary64 (bitsAt p at)
 

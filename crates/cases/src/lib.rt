@@ -1,4 +1,4 @@
-// Reading the cases that the program `vectors` replays. A case's payload is a slice of bytes; a
+// Reading the cases that the program `vectors` compares. A case's payload is a slice of bytes; a
 // read past its end gives 0, so a payload that is too short is found by its length, not here.
 
 ghost use mathlib.Core.Path.{_≡_};
@@ -16,7 +16,7 @@ fn after(at: usize, n: usize) -> usize
 
 // The byte at a place.
 pub fn byte(p: &[u8], at: usize) -> u8
-    ensures { λ r. ⌜ r ≡ S.byteAt (now (p .entry)) at ⌝ }
+    ensures { λ r. ⌜ r ≡ S.payloadByte (now (p .entry)) at ⌝ }
 {
     if at < p.len() { p[at] } else { 0 }
 }

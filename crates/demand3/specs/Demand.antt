@@ -18,7 +18,7 @@ use Rattle.svg.specs.Paths.{curveText}
 use Rattle.label_spots.specs.declared.Geometry.{Geometry}
 use Rattle.records.specs.Records.{fields}
 use Rattle.scene.specs.Scene.{Scene}
-use Rattle.routing.specs.Routing.{Frame, Size, Item, Step, numbered, isKeptIn, kept, edgeOf, order, stepOf, listedBy, cost, drawnStep, placesTaken, sceneAt, numberedAt, isTurn, itemFor, noItem}
+use Rattle.routing.specs.Routing.{Frame, BlockSize, Item, Step, numbered, isKeptIn, kept, edgeOf, order, stepOf, listedBy, cost, drawnStep, placesTaken, sceneAt, numberedAt, isTurn, itemFor, noItem}
 use Rattle.routing.specs.Sheets.{frameOf, sizesOf, SameFrame}
 use Rattle.calls.specs.Calls.{values, route, recordsAfter, textAfter}
 
@@ -85,7 +85,7 @@ abbrev pub frame : Call → Frame
 frame c = frameOf (graph c) (c .xs) (c .ys)
 
 -- the sizes of the label blocks
-abbrev pub sizes : Call → List Size
+abbrev pub sizes : Call → List BlockSize
 sizes c = sizesOf (graph c)
 
 -- the turns in order

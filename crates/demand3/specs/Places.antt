@@ -11,7 +11,7 @@ use Rattle.laws.specs.Filter.{filterBy}
 use Rattle.laws.specs.Places.{At, filter-only, left-at, left-inside, From, left-from}
 use Rattle.laws.specs.Lists.{getD-any}
 use Rattle.label_spots.specs.declared.Geometry.{Geometry}
-use Rattle.routing.specs.Routing.{Frame, Size, Item, Numbered, numbered, isKeptIn, isLoop, kept, edgeOf, order, drawing, drawnFor, records, numberedBy, noEnds, numberedAt, itemFor, noItem}
+use Rattle.routing.specs.Routing.{Frame, BlockSize, Item, Numbered, numbered, isKeptIn, isLoop, kept, edgeOf, order, drawing, drawnFor, records, numberedBy, noEnds, numberedAt, itemFor, noItem}
 use Rattle.routing_laws.specs.Numbers.{length-numbered, numbered-at}
 use Rattle.routing_laws.specs.Slots.{isEdge, drawn-once, records-edges, records-length}
 use Rattle.routing_laws.specs.Demand.{recordFor, record-drawn, kept-turn}
@@ -40,7 +40,7 @@ pub item-edge : (f : Frame) (a : Numbered) → edgeOf (itemFor f a) ≡ a .edge
 item-edge f a = by-bool (isLoop a) (λ t. rw t) (λ t. rw t)
 
 module _ (f : Frame) where
-  module _ (sizes : List Size) (e : ℕ) (h : e < length (f .arrows)) (c : isKeptIn f (numberedAt f e) ≡ true) where
+  module _ (sizes : List BlockSize) (e : ℕ) (h : e < length (f .arrows)) (c : isKeptIn f (numberedAt f e) ≡ true) where
     pub record-inside : recordNumber f e < length (records f sizes)
     record-inside = omega (arith, number-inside f e h c, records-length f sizes)
 

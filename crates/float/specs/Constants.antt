@@ -1,4 +1,4 @@
--- The constants by their bits, as the code has them; those that the Rust names, under its names; and the list that reads each as the f64 nearest to a fraction.
+-- The constants by their bits, as the code has them; those that the Rust names, under its names or, where the word has another meaning here, with a word more (its CLEARANCE is `fullClearance`); and the list that reads each as the f64 nearest to a fraction.
 -- A name gives the decimal: f0-36 is 0.36, f64-0 is 64. f2e20 and f2e64 are powers of two. `infinity` is read by `infinity-is`, `labelCharWidth` by `label-char-width-is`.
 use mathlib.Core.Path.{_≡_, refl}
 use mathlib.Core.Bool.{false}

@@ -1,5 +1,5 @@
 -- What later crates cite of the stand-ins: the larger and the smaller, and the arctangent at zeros (roots: RootLaws). Assumes nothing.
--- (`<` of floats is transitive and irreflexive, with NaN and the infinities: `lt-trans`, `lt-itself` of laws.)
+-- (`<` of floats is transitive and irreflexive, with NaN and the infinities: `float-lt-trans`, `lt-itself` of laws.)
 use mathlib.Core.Path.{_≡_, refl, ap, _∙_, subst}
 use mathlib.Core.Bool.{Bool, true, false, cond}
 use Prim.Native.Nat.{ℕ, zero, suc, _-_, _*_}

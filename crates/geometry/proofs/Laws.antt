@@ -10,7 +10,7 @@ use Rattle.laws.specs.Put.{put}
 use Rattle.shape.specs.Centres.{centres}
 use Rattle.records.specs.Records.{fields}
 use Rattle.records.specs.Back.{length-records}
-use Rattle.routing.specs.Routing.{Size, records}
+use Rattle.routing.specs.Routing.{BlockSize, records}
 use Rattle.routing.specs.Sheets.{frameBy}
 use Rattle.routing_laws.specs.Frames.{orZeros}
 use Rattle.curves.specs.Lay.{Slices, Laying}
@@ -20,7 +20,7 @@ use Rattle.turns.specs.Steps.{LoopsAt, rimBy, gatheredFrom, drawnFrom}
 
 -- ---- what the turns gather
 
-module _ (flags : List ℕ) (xs ys : List Float) (sources targets : List ℕ) (sizes : List Size) (m : ℕ) (t : Slices) (n : length targets ≡ length sources)
+module _ (flags : List ℕ) (xs ys : List Float) (sources targets : List ℕ) (sizes : List BlockSize) (m : ℕ) (t : Slices) (n : length targets ≡ length sources)
     (o : Laying (frameBy flags (centres xs ys) sources targets) m t) where
   pub loops-in : length flags ≡ length xs → LoopsAt (t .kinds) sources (length xs)
   loops-in e = subst (LoopsAt (t .kinds) sources) e (loops-at flags xs ys sources targets sizes m t n o)

@@ -8,7 +8,7 @@ use Rattle.shape.specs.Centres.{centres}
 use Rattle.shape.specs.declared.«V».{«V»}
 use Rattle.sheet.specs.Sheet.{Graph, flagsOf}
 use Rattle.records.specs.Records.{fields}
-use Rattle.routing.specs.Routing.{Frame, Size, records}
+use Rattle.routing.specs.Routing.{Frame, BlockSize, records}
 use Rattle.routing.specs.Sheets.{frameBy, frameOf, centresAt}
 use Rattle.routing_laws.specs.Frames.{orZeros, centres-table, frame-sheet}
 
@@ -17,11 +17,11 @@ abbrev pub frameFrom : List ℕ → List Float → List Float → List ℕ → L
 frameFrom flags xs ys sources targets = frameBy flags (centresAt xs ys (length flags)) sources targets
 
 -- how many records there are
-abbrev pub recordCount : Frame → List Size → ℕ
+abbrev pub recordCount : Frame → List BlockSize → ℕ
 recordCount f sizes = length (records f sizes)
 
 -- their numbers, in arrow order, twenty each
-abbrev pub numbers : Frame → List Size → List Float
+abbrev pub numbers : Frame → List BlockSize → List Float
 numbers f sizes = flatMap fields (records f sizes)
 
 -- ---- the frame as the slices hold it

@@ -23,7 +23,7 @@ use Rattle.records.specs.Records.{fields}
 use Rattle.scene.specs.Scene.{sceneOf}
 use Rattle.scene.specs.Turn.{placedArrow}
 use Rattle.self_loop.specs.Looped.{looped, loopOf}
-use Rattle.routing.specs.Routing.{Frame, Ends, Size, Numbered, numbered, isKeptIn, isLoop, isArc, routeOf, firstScene, rim, loopTurn, turnOf, records, numberedBy, noEnds, numberedAt}
+use Rattle.routing.specs.Routing.{Frame, Ends, BlockSize, Numbered, numbered, isKeptIn, isLoop, isArc, routeOf, firstScene, rim, loopTurn, turnOf, records, numberedBy, noEnds, numberedAt}
 use Rattle.routing.specs.Sheets.{endsBy, frameBy}
 use Rattle.routing_laws.specs.Passes.{isCrossing, turnKind, Drawn, drawnWith, turned, passed, slotsOf, gathered}
 use Rattle.routing_laws.specs.Numbers.{length-numbered, numbered-at, numbered-drop, numbered-past, of-arrow}
@@ -47,7 +47,7 @@ unfolding up
 up-agree g h n a e = rw (sub-zero n) (turns-agree g h n 0 a (λ j l. e j (omega arith)))
 
 -- a pass over the arrows, by their numbers
-pass-over : (f : Frame) (sizes : List Size) (p n : ℕ) (step : ℕ → Drawn → Drawn) (d : Drawn) → n ≡ length (f .arrows)
+pass-over : (f : Frame) (sizes : List BlockSize) (p n : ℕ) (step : ℕ → Drawn → Drawn) (d : Drawn) → n ≡ length (f .arrows)
     → ((j : ℕ) → j < length (f .arrows) → (b : Drawn) → step j b ≡ turned f sizes p b (numberedAt f j)) → up step 0 n d ≡ passed f sizes p d
 unfolding passed
 pass-over f sizes p n step d e a =
@@ -86,7 +86,7 @@ kind-crossing f a p e = go (isKeptIn f a) (isLoop a) (isArc (routeOf f a)) e
     go false l c e = absurd (omega arith)
 
 -- ---- the passes
-module _ (flags : List ℕ) (xs ys : List Float) (sources targets : List ℕ) (sizes : List Size) (m : ℕ) (t : Slices) (n : length targets ≡ length sources)
+module _ (flags : List ℕ) (xs ys : List Float) (sources targets : List ℕ) (sizes : List BlockSize) (m : ℕ) (t : Slices) (n : length targets ≡ length sources)
     (l : Laying (frameBy flags (centres xs ys) sources targets) m t) where
   abbrev frame : Frame
   frame = frameBy flags (centres xs ys) sources targets

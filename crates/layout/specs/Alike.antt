@@ -11,7 +11,7 @@ use Rattle.laws.specs.Cases.{by-bool}
 use Rattle.laws.specs.Counting.{table-length}
 use Rattle.sheet.specs.Sheet.{Graph}
 use Rattle.sheet.specs.Meaning as Meaning
-use Rattle.routing.specs.Routing.{Frame, Size}
+use Rattle.routing.specs.Routing.{Frame, BlockSize}
 use Rattle.routing.specs.Sheets.{frameOf, sizesOf, SameFrame}
 use Rattle.routing_laws.specs.Agree.{same-frame}
 use Rattle.circular.specs.Ring.{aroundRing, ringed, cosAt, sinAt}
@@ -25,7 +25,7 @@ pub same-plan : (g h : Graph) → SameFrame g h → sizesOf g ≡ sizesOf h → 
 unfolding frameOf
 same-plan g h e z =
     let f : frameOf g [] [] ≡ frameOf h [] [] = same-frame g h [] [] e in
-    ap₂ (λ (k : Frame) (s : List Size). record { flags = k .flags; arrows = k .arrows; sizes = s }) f z
+    ap₂ (λ (k : Frame) (s : List BlockSize). record { flags = k .flags; arrows = k .arrows; sizes = s }) f z
 
 -- whatever the label lines, where their sizes are alike: by every kind the same centres and size
 pub same-layout : (kind : ℕ) (g h : Graph) → SameFrame g h → sizesOf g ≡ sizesOf h

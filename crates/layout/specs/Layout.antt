@@ -12,7 +12,7 @@ use Rattle.sheet.specs.Sheet.{Graph, flagsOf}
 use Rattle.sheet.specs.Meaning.{startIndex}
 use Rattle.shape.specs.Centres.{centres}
 use Rattle.label_spots.specs.declared.Geometry.{Geometry}
-use Rattle.routing.specs.Routing.{Ends, Frame, Size, records}
+use Rattle.routing.specs.Routing.{Ends, Frame, BlockSize, records}
 use Rattle.routing.specs.Sheets.{endsBy, sizesBy, endsOf, sizesOf, frameWith, centresAt}
 use Rattle.clutter.specs.Clutter.{clutterOf}
 use Rattle.circular.specs.Ring.{largest, circularXs, circularYs}
@@ -25,7 +25,7 @@ use Rattle.fit.specs.Fit.{fitXs, fitYs, fitSize}
 pub record Plan : Type 0 where
   pub flags : List ℕ
   pub arrows : List Ends
-  pub sizes : List Size
+  pub sizes : List BlockSize
 
 abbrev pub planOf : Graph → Plan
 planOf g = record { flags = flagsOf g; arrows = map endsOf (g .arrows); sizes = sizesOf g }

@@ -9,7 +9,7 @@ use Rattle.laws.specs.Put.{put}
 use Rattle.laws.specs.Zip.{zip-length, map-zip-first, map-zip-second, map-zip}
 use Rattle.records.specs.Records.{decodeRecords}
 use Rattle.records.specs.Back.{Small}
-use Rattle.routing.specs.Routing.{Frame, Size, records}
+use Rattle.routing.specs.Routing.{Frame, BlockSize, records}
 use Rattle.routing.specs.Sheets.{endsBy, sizesBy, sizeHeld}
 use Rattle.routing_laws.specs.Decoded.{records-most, records-small, records-decoded}
 use Rattle.geometry.specs.Geometry.{recordCount, numbers}
@@ -52,12 +52,12 @@ ring-done flags widths n s w xs ys en es ew ex ey = rw (ex, ey, en, es, ew)
 -- ---- what the numbers of `geometry` hold
 
 -- n records, read from the slice l
-pub record Reads (f : Frame) (sizes : List Size) (n : ℕ) (l : List Float) : Type 0 where
+pub record Reads (f : Frame) (sizes : List BlockSize) (n : ℕ) (l : List Float) : Type 0 where
   pub gives : decodeRecords n l ≡ records f sizes
   pub most : n ≤ 256
   pub small : Small (decodeRecords n l)
 
-pub reads-drawn : (f : Frame) (sizes : List Size) (n : ℕ) (l₀ l : List Float) → n ≡ recordCount f sizes → l ≡ put l₀ 0 (numbers f sizes)
+pub reads-drawn : (f : Frame) (sizes : List BlockSize) (n : ℕ) (l₀ l : List Float) → n ≡ recordCount f sizes → l ≡ put l₀ 0 (numbers f sizes)
     → length (f .arrows) ≤ 256 → 5120 ≤ length l₀ → Reads f sizes n l
 reads-drawn f sizes n l₀ l k w m room =
     let few : length (records f sizes) ≤ length (f .arrows) = records-most f sizes in

@@ -89,11 +89,11 @@ pub extern "C" fn murshogi_route(
 {
     let c = calls::route(sheet, x, y, records, text);
     match c {
-        calls::Routed::Lengths(n, m) => {
+        calls::RouteAnswer::Lengths(n, m) => {
             *lengths = [n, m];
             0
         }
-        calls::Routed::Refused(n) => n,
+        calls::RouteAnswer::Refused(n) => n,
     }
 }
 

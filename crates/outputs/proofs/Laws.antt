@@ -26,8 +26,8 @@ use Rattle.clutter.specs.Clutter.{clutterOf}
 use Rattle.drawing_text.specs.Lines.{pathsText, pathsWritable}
 use Rattle.outputs.specs.Answers as A
 use Rattle.outputs.specs.Answers.{short, onto}
-use Rattle.outputs.specs.declared.Routed.{Routed}
-use Rattle.outputs.specs.declared.Routed.the-variants.{Lengths, Refused}
+use Rattle.outputs.specs.declared.RouteAnswer.{RouteAnswer}
+use Rattle.outputs.specs.declared.RouteAnswer.the-variants.{Lengths, Refused}
 use Rattle.outputs.specs.declared.LaidOut.{LaidOut}
 use Rattle.outputs.specs.declared.LaidOut.the-variants as Z
 use Rattle.number.specs.declared.Written.{Written}
@@ -63,7 +63,7 @@ records-onto drawing l n h w i =
 -- ---- fill
 
 module _ (numbers : List Float) (gs : List Geometry) (records : List Float) (text : List ℕ) where
-  abbrev Filled : Routed → List Float → List ℕ → Type 0
+  abbrev Filled : RouteAnswer → List Float → List ℕ → Type 0
   Filled = A.FilledInto numbers gs records text
 
   pub fill-10 : (w : Bool) → w ≡ pathsWritable gs → not w ≡ true → Filled (Refused 10) records text

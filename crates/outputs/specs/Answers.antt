@@ -10,8 +10,8 @@ use Rattle.laws.specs.Refusals.{Refusal, refusal, decide}
 use Rattle.label_spots.specs.declared.Geometry.{Geometry}
 use Rattle.records.specs.Records.{fields, decodeRecords}
 use Rattle.drawing_text.specs.Lines.{pathsText, pathsWritable}
-use Rattle.outputs.specs.declared.Routed.{Routed}
-use Rattle.outputs.specs.declared.Routed.the-variants.{Lengths, Refused}
+use Rattle.outputs.specs.declared.RouteAnswer.{RouteAnswer}
+use Rattle.outputs.specs.declared.RouteAnswer.the-variants.{Lengths, Refused}
 use Rattle.outputs.specs.declared.LaidOut.{LaidOut}
 use Rattle.outputs.specs.declared.LaidOut.the-variants as Z
 use Rattle.number.specs.declared.Written.{Written}
@@ -39,7 +39,7 @@ fillRefusals numbers gs room textRoom =
     ∷ refusal 7 (short room numbers || short textRoom (pathsText gs))
     ∷ []
 
-abbrev pub filledAs : List Float → List Geometry → ℕ → ℕ → Routed
+abbrev pub filledAs : List Float → List Geometry → ℕ → ℕ → RouteAnswer
 filledAs numbers gs room textRoom = decide (fillRefusals numbers gs room textRoom) Refused (Lengths (length numbers) (length (pathsText gs)))
 
 abbrev pub recordsFilled : List Float → List Geometry → List Float → ℕ → List Float
@@ -49,7 +49,7 @@ abbrev pub textFilled : List Float → List Geometry → ℕ → List ℕ → Li
 textFilled numbers gs room text = decide (fillRefusals numbers gs room (length text)) (λ (n : ℕ). text) (onto (pathsText gs) text)
 
 -- r is answered, and a and b stand in the lent slices
-abbrev pub FilledInto : List Float → List Geometry → List Float → List ℕ → Routed → List Float → List ℕ → Type 0
+abbrev pub FilledInto : List Float → List Geometry → List Float → List ℕ → RouteAnswer → List Float → List ℕ → Type 0
 FilledInto numbers gs records text r a b =
     (r ≡ filledAs numbers gs (length records) (length text))
     × (a ≡ recordsFilled numbers gs records (length text))

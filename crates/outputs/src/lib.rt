@@ -16,7 +16,7 @@ ghost use Rattle.drawing_text.specs.Lines.{listText, listWritable};
 ghost use Rattle.outputs.specs.Answers as F;
 
 // The f64 numbers and the bytes written, or the number of the refusal.
-pub enum Routed {
+pub enum RouteAnswer {
     Lengths(usize, usize),
     Refused(u8),
 }
@@ -43,7 +43,7 @@ fn write_records(drawing: &[f64], count: usize, records: &mut [f64])
 }
 
 // The first `count` records of a drawing and their paths, where every number may be written and there is room for both.
-pub fn fill(drawing: &[f64], count: usize, records: &mut [f64], text: &mut [u8]) -> Routed
+pub fn fill(drawing: &[f64], count: usize, records: &mut [f64], text: &mut [u8]) -> RouteAnswer
     requires { ⌜ (20 * count ≤ length (now drawing)) × F.AsWritten count (now drawing) ⌝ }
     ensures { λ r.
         let numbers = take (20 * count) (now (drawing .entry)) in
@@ -55,19 +55,19 @@ pub fn fill(drawing: &[f64], count: usize, records: &mut [f64], text: &mut [u8])
         × (now (text .exit) ≡ F.textFilled numbers drawn recordRoom (now (text .entry))) ⌝ }
 {
     if !drawing_text::paths_writable(drawing, count) {
-        return Routed::Refused(10);
+        return RouteAnswer::Refused(10);
     }
     let n = 20 * count;
     if records.len() < n {
-        return Routed::Refused(7);
+        return RouteAnswer::Refused(7);
     }
     let need = drawing_text::put_paths(&mut text[..0], 0, drawing, count);
     if text.len() < need {
-        return Routed::Refused(7);
+        return RouteAnswer::Refused(7);
     }
     write_records(drawing, count, records);
     let done = drawing_text::put_paths(text, 0, drawing, count);
-    Routed::Lengths(n, done)
+    RouteAnswer::Lengths(n, done)
 }
 
 // ---- clutter

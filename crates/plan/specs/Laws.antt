@@ -35,7 +35,7 @@ use Rattle.plan.specs.Planned.{measuredRefusals, sheetRefusals, planRefu
 plan-sheet : (g : Graph) → planBy (flagsOf g) (sources g) (targets g) (widths g) (heights g) ≡ planOf g
 unfolding frameOf widths heights
 plan-sheet g =
-    ap₂ (λ (k : Frame) (z : List Routing.Size). record { flags = k .flags; arrows = k .arrows; sizes = z }) (frame-sheet g [] []) (sizes-sheet g)
+    ap₂ (λ (k : Frame) (z : List Routing.BlockSize). record { flags = k .flags; arrows = k .arrows; sizes = z }) (frame-sheet g [] []) (sizes-sheet g)
 
 pub plan-read : (g : Graph) (flags from to : List ℕ) (ws hs : List Float) → flags ≡ flagsOf g → from ≡ sources g → to ≡ targets g → ws ≡ widths g → hs ≡ heights g
     → planBy flags from to ws hs ≡ planOf g

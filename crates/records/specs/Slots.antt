@@ -1,18 +1,20 @@
 -- An arrow whose label is still to be placed, in a slot of twenty numbers: the sort (1 a loop, 2 an arc, 3 straight, as in Sorts); 2, 3 or 4 points; eight
 -- coordinates (unused 0); two zeros; tip angle; the shape's numbers (unused 0); five zeros.
+use mathlib.Core.Path.{_≡_, refl}
 use mathlib.Core.Bool.{cond}
 use mathlib.Core.List.{List, [], _∷_}
 use Prim.Native.Nat.{ℕ}
 use lib.ListN.{getD}
-use lib.Ieee.{Float, nan}
+use lib.Ieee.{Float, nan, ofBits, ofInt, round}
 use Rattle.laws.specs.Flat.{decodeFlat}
-use Rattle.float.specs.Ops.{eq}
+use Rattle.float.specs.Ops.{eq, ofNat}
 use Rattle.float.specs.Constants.{f0, f1, f2, f3}
 use Rattle.shape.specs.declared.«V».{«V»}
 use Rattle.shape.specs.Plane.{vec}
 use Rattle.bend.specs.declared.Shape.{Shape}
 use Rattle.bend.specs.declared.Shape.the-variants as Shape
 use Rattle.bend.specs.declared.Routed.{Routed}
+use Rattle.records.specs.Sorts.{sortLoop, sortArc, sortStraight}
 use Rattle.records.specs.declared.Shaped.{Shaped}
 use Rattle.records.specs.Records.{cornersOf, unused, pointIn, cornersIn, curveOf}
 
@@ -26,6 +28,11 @@ abbrev pub shapedOf : Shape → Shaped
 shapedOf Shape.Line = shaped f3 unused
 shapedOf (Shape.Arc outer) = shaped f2 (vec outer f0)
 shapedOf (Shape.Loop out) = shaped f1 out
+
+-- the sorts' numbers, as floats
+pub sorts-are : (f1 ≡ ofNat sortLoop) × (f2 ≡ ofNat sortArc) × (f3 ≡ ofNat sortStraight)
+unfolding ofBits ofInt round
+sorts-are = (refl, refl, refl)
 
 unfoldable pub routedFields : Routed → List Float
 routedFields r =

@@ -43,11 +43,11 @@ pub record Frame : Type 0 where
   pub arrows : List Ends
 
 -- the size of an arrow's label block
-pub record Size : Type 0 where
+pub record BlockSize : Type 0 where
   pub width : Float
   pub height : Float
 
-abbrev pub noSize : Size
+abbrev pub noSize : BlockSize
 noSize = record { width = f0; height = f0 }
 
 -- ---- arrows by their numbers
@@ -177,25 +177,25 @@ noItem = loop (numberedBy 0 noEnds)
 
 pub record Step : Type 0 where
   pub item : Item
-  pub size : Size
+  pub size : BlockSize
 
-abbrev pub stepOf : List Size → Item → Step
+abbrev pub stepOf : List BlockSize → Item → Step
 stepOf sizes i = record { item = i; size = getD sizes (edgeOf i) noSize }
 
 -- "Each arrow of the records has one turn"
-abbrev pub steps : Frame → List Size → List Step
+abbrev pub steps : Frame → List BlockSize → List Step
 steps f sizes = map (stepOf sizes) (order f)
 
 -- ---- listed places and directions
 
-abbrev pub turnOf : ℕ → Routed → Size → Turn
+abbrev pub turnOf : ℕ → Routed → BlockSize → Turn
 turnOf edge r size = record { edge = edge; arrow = r; width = size .width; height = size .height }
 
 -- a loop's turn
-abbrev pub loopTurn : Frame → Numbered → Size → Loop
+abbrev pub loopTurn : Frame → Numbered → BlockSize → Loop
 loopTurn f a size = let k = a .ends .source in loopOf (a .edge) k (centre (f .centres) k) (rim f k) (size .width) (size .height)
 
-abbrev pub labelTurn : Route → Size → Turn
+abbrev pub labelTurn : Route → BlockSize → Turn
 labelTurn r size = turnOf (r .from .edge) (r .routed) size
 
 -- "Listed are the places named above, in that order; for a loop, the directions of `self_loop` in its order": how many
@@ -204,14 +204,14 @@ listedBy f (loop a) = Looped.directionCount (loopTurn f a noSize)
 listedBy f (label r) = length (labelSpots (r .routed .curve) (r .routed .shape))
 
 -- place or direction j of a turn, drawn
-abbrev pub drawnBy : Frame → Item → Size → ℕ → Geometry
+abbrev pub drawnBy : Frame → Item → BlockSize → ℕ → Geometry
 drawnBy f (loop a) size j = let l = loopTurn f a size in loopDrawn l (Looped.direction l j)
 drawnBy f (label r) size j = Place.labelledAt (labelTurn r size) j
 
 -- ---- full costs
 
 -- "for a loop, what `self_loop` adds too": `directionCost` of Looped
-abbrev pub costBy : Frame → Scene → Item → Size → ℕ → ℕ
+abbrev pub costBy : Frame → Scene → Item → BlockSize → ℕ → ℕ
 costBy f s (loop a) size j = directionCost s (loopTurn f a size) j
 costBy f s (label r) size j = boxCost s (r .from .edge) (drawnBy f (label r) size j .«label_box»)
 
@@ -222,7 +222,7 @@ afterBy s (label r) g = withBox s (g .«label_box»)
 
 -- ---- the run
 
--- the places listed after the first; a turn lists one at least (`listed-some` of Demand)
+-- the places listed after the first; a turn lists one at least (`listed-some` of routing_laws)
 abbrev pub more : Frame → Scene → Step → ℕ
 more f s t = listedBy f (t .item) - 1
 
@@ -237,15 +237,15 @@ abbrev pub sceneAfter : Frame → Scene → Step → ℕ → Scene
 sceneAfter f s t j = afterBy s (t .item) (drawnStep f t j)
 
 -- the places taken, turn by turn: "The first that no other undercuts is taken"
-abbrev pub placesTaken : Frame → List Size → List ℕ
+abbrev pub placesTaken : Frame → List BlockSize → List ℕ
 placesTaken f sizes = Run.run (more f) (cost f) (sceneAfter f) (firstScene f) (steps f sizes)
 
 -- the scene at turn k
-abbrev pub sceneAt : Frame → List Size → ℕ → Scene
+abbrev pub sceneAt : Frame → List BlockSize → ℕ → Scene
 sceneAt f sizes k = Run.runScene (more f) (cost f) (sceneAfter f) (firstScene f) (steps f sizes) k
 
 -- what is drawn, in the order of the turns
-unfoldable pub drawing : Frame → List Size → List Geometry
+unfoldable pub drawing : Frame → List BlockSize → List Geometry
 drawing f sizes = zipBy (drawnStep f) (steps f sizes) (placesTaken f sizes)
 
 -- the drawing of an arrow
@@ -253,5 +253,5 @@ abbrev pub drawnFor : List Geometry → Numbered → List Geometry
 drawnFor gs a = filterBy (λ g. eqb (g .edge) (a .edge)) gs
 
 -- the records, in arrow order; a left-out arrow has none
-unfoldable pub records : Frame → List Size → List Geometry
+unfoldable pub records : Frame → List BlockSize → List Geometry
 records f sizes = flatMap (drawnFor (drawing f sizes)) (kept f)

@@ -13,7 +13,7 @@ use Rattle.sheet.specs.Sheet.{State, Arrow, Graph, flagsOf}
 use Rattle.sheet.specs.Meaning.{noArrow}
 use Rattle.label.specs.Label.{blockWidth, blockHeight}
 use Rattle.label_spots.specs.declared.Geometry.{Geometry}
-use Rattle.routing.specs.Routing.{Ends, Frame, Size, records}
+use Rattle.routing.specs.Routing.{Ends, Frame, BlockSize, records}
 
 -- "Centres missing or not finite count as 0."
 abbrev pub orZero : Float → Float
@@ -27,10 +27,10 @@ centreAt xs ys k = vec (orZero (getD xs k f0)) (orZero (getD ys k f0))
 abbrev pub endsOf : Arrow → Ends
 endsOf a = record { source = a .source; target = a .target }
 
-abbrev pub blockSize : List (List ℕ) → Size
+abbrev pub blockSize : List (List ℕ) → BlockSize
 blockSize lines = record { width = blockWidth lines; height = blockHeight (length lines) }
 
-abbrev pub sizeOf : Arrow → Size
+abbrev pub sizeOf : Arrow → BlockSize
 sizeOf a = blockSize (a .lines)
 
 -- the centres of n states
@@ -44,7 +44,7 @@ frameWith flags cs arrows = record { flags = flags; centres = cs; arrows = arrow
 unfoldable pub frameOf : Graph → List Float → List Float → Frame
 frameOf g xs ys = frameWith (flagsOf g) (centresAt xs ys (length (g .states))) (map endsOf (g .arrows))
 
-abbrev pub sizesOf : Graph → List Size
+abbrev pub sizesOf : Graph → List BlockSize
 sizesOf g = map sizeOf (g .arrows)
 
 -- the records, in arrow order
@@ -71,8 +71,8 @@ endsBy a b = record { source = a; target = b }
 abbrev pub frameBy : List ℕ → List «V» → List ℕ → List ℕ → Frame
 frameBy flags cs sources targets = frameWith flags cs (zipBy endsBy sources targets)
 
-abbrev pub sizeHeld : Float → Float → Size
+abbrev pub sizeHeld : Float → Float → BlockSize
 sizeHeld w h = record { width = w; height = h }
 
-abbrev pub sizesBy : List Float → List Float → List Size
+abbrev pub sizesBy : List Float → List Float → List BlockSize
 sizesBy widths heights = zipBy sizeHeld widths heights

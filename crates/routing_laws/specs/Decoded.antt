@@ -13,13 +13,13 @@ use Rattle.laws.specs.Put.{put}
 use Rattle.label_spots.specs.declared.Geometry.{Geometry}
 use Rattle.records.specs.Records.{fields, decodeRecords}
 use Rattle.records.specs.Back.{Small, decode-records}
-use Rattle.routing.specs.Routing.{Frame, Ends, Size, numberedFrom, numbered, isKeptIn, kept, drawing, drawnFor, records, numberedBy}
+use Rattle.routing.specs.Routing.{Frame, Ends, BlockSize, numberedFrom, numbered, isKeptIn, kept, drawing, drawnFor, records, numberedBy}
 use Rattle.routing_laws.specs.Numbers.{length-numbered}
 use Rattle.routing_laws.specs.Slots.{isEdge, records-each, records-length}
 
 -- ---- how many
 
-pub records-most : (f : Frame) (sizes : List Size) → length (records f sizes) ≤ length (f .arrows)
+pub records-most : (f : Frame) (sizes : List BlockSize) → length (records f sizes) ≤ length (f .arrows)
 unfolding kept
 records-most f sizes = omega (arith, records-length f sizes, filter-length (isKeptIn f) (numbered f), length-numbered f)
 
@@ -46,10 +46,10 @@ small-from f gs n (e ∷ es) h =
     go true = small-own n gs (omega arith)
     go false = tt
 
-pub records-small : (f : Frame) (sizes : List Size) → length (f .arrows) ≤ 65536 → Small (records f sizes)
+pub records-small : (f : Frame) (sizes : List BlockSize) → length (f .arrows) ≤ 65536 → Small (records f sizes)
 records-small f sizes h = subst Small (sym (records-each f sizes)) (small-from f (drawing f sizes) 0 (f .arrows) (omega arith))
 
 -- the records are read back, and the record of each arrow among them
-pub records-decoded : (f : Frame) (sizes : List Size) (l : List Float) → length (f .arrows) ≤ 65536 → 20 * length (records f sizes) ≤ length l
+pub records-decoded : (f : Frame) (sizes : List BlockSize) (l : List Float) → length (f .arrows) ≤ 65536 → 20 * length (records f sizes) ≤ length l
     → decodeRecords (length (records f sizes)) (put l 0 (flatMap fields (records f sizes))) ≡ records f sizes
 records-decoded f sizes l n room = decode-records l (records f sizes) room (records-small f sizes n)

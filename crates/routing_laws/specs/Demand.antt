@@ -27,7 +27,7 @@ use Rattle.label_spots.specs.Spots.{spotCount, spot-count}
 use Rattle.label_spots.specs.Labels.{labelled}
 use Rattle.scene.specs.Scene.{Scene}
 use Rattle.directions.specs.Lengths.{directions-some}
-use Rattle.routing.specs.Routing.{numberedAt, isTurn, itemFor, Frame, isLoop, joined, routeOf, numbered, isKeptIn, drawnFor, Numbered, records, Size, noSize, Item, loop, label, edgeOf, Route, Step, stepOf, order, steps, listedBy, rim, more, cost, drawnStep, drawnBy, sceneAfter, firstScene, placesTaken, sceneAt, drawing, noItem}
+use Rattle.routing.specs.Routing.{numberedAt, isTurn, itemFor, Frame, isLoop, joined, routeOf, numbered, isKeptIn, drawnFor, Numbered, records, BlockSize, noSize, Item, loop, label, edgeOf, Route, Step, stepOf, order, steps, listedBy, rim, more, cost, drawnStep, drawnBy, sceneAfter, firstScene, placesTaken, sceneAt, drawing, noItem}
 use Rattle.routing_laws.specs.Numbers.{isNumber, number-one}
 use Rattle.routing_laws.specs.Slots.{isEdge, own-turn, own-none, edges-drawn, drawn-edge, drawn-once, records-each}
 
@@ -44,10 +44,10 @@ listed-some f (label r) = subst (λ (n : ℕ). 0 < n) (sym (spot-count (r .route
 
 -- ---- (1) at every turn none of the listed costs less and none before it costs the same
 
-abbrev pub stepIn : Frame → List Size → Step → ℕ → Step
+abbrev pub stepIn : Frame → List BlockSize → Step → ℕ → Step
 stepIn f sizes d k = getD (steps f sizes) k d
 
-pub cheapest : (f : Frame) (sizes : List Size) (d : Step) (k : ℕ) → k < length (steps f sizes)
+pub cheapest : (f : Frame) (sizes : List BlockSize) (d : Step) (k : ℕ) → k < length (steps f sizes)
     → FirstLeast (cost f (sceneAt f sizes k) (stepIn f sizes d k)) (listedBy f (stepIn f sizes d k .item)) (getD (placesTaken f sizes) k 0)
 cheapest f sizes d k h =
     let s : 0 < listedBy f (stepIn f sizes d k .item) = listed-some f (stepIn f sizes d k .item) in
@@ -58,14 +58,14 @@ cheapest f sizes d k h =
 -- ---- (2) the drawings of the first turns come from the labels of those turns alone
 
 -- a turn with this size
-abbrev pub stepWith : Item → Size → Step
+abbrev pub stepWith : Item → BlockSize → Step
 stepWith i z = record { item = i; size = z }
 
 -- the size of the label at turn j
-abbrev pub sizeAt : Frame → List Size → Item → ℕ → Size
+abbrev pub sizeAt : Frame → List BlockSize → Item → ℕ → BlockSize
 sizeAt f sizes d j = getD sizes (edgeOf (getD (order f) j d)) noSize
 
-pub prefix : (f : Frame) (sizes sizes′ : List Size) (d : Item) (k : ℕ) → ((j : ℕ) → j < k → sizeAt f sizes d j ≡ sizeAt f sizes′ d j)
+pub prefix : (f : Frame) (sizes sizes′ : List BlockSize) (d : Item) (k : ℕ) → ((j : ℕ) → j < k → sizeAt f sizes d j ≡ sizeAt f sizes′ d j)
     → take k (drawing f sizes) ≡ take k (drawing f sizes′)
 unfolding drawing
 prefix f sizes sizes′ d k h =
@@ -78,7 +78,7 @@ prefix f sizes sizes′ d k h =
 -- ---- the records by arrow number
 
 -- the record of arrow k, or none
-abbrev pub recordFor : Frame → List Size → ℕ → List Geometry
+abbrev pub recordFor : Frame → List BlockSize → ℕ → List Geometry
 recordFor f sizes k = filterBy (isEdge k) (records f sizes)
 
 own-drawn : (k e : ℕ) (gs : List Geometry) → filterBy (isEdge k) (filterBy (isEdge e) gs) ≡ cond (eqb e k) (filterBy (isEdge e) gs) []
@@ -103,7 +103,7 @@ own-drawn k e gs = by-bool (eqb e k) (λ c. rw c (same c gs)) (λ c. rw c (other
         (λ u. rw (filter-no (isEdge e) g l u) (other c l))
 
 -- the record of a kept arrow is its drawing
-pub record-drawn : (f : Frame) (sizes : List Size) (k : ℕ) → k < length (f .arrows)
+pub record-drawn : (f : Frame) (sizes : List BlockSize) (k : ℕ) → k < length (f .arrows)
     → recordFor f sizes k ≡ cond (isKeptIn f (numberedAt f k)) (filterBy (isEdge k) (drawing f sizes)) []
 unfolding flatMap filterBy
 record-drawn f sizes k h =
@@ -128,17 +128,17 @@ turnAt f t = getD (order f) t noItem
 abbrev pub edgeAt : Frame → ℕ → ℕ
 edgeAt f t = edgeOf (turnAt f t)
 
-abbrev pub placeAt : Frame → List Size → ℕ → ℕ
+abbrev pub placeAt : Frame → List BlockSize → ℕ → ℕ
 placeAt f sizes t = getD (placesTaken f sizes) t 0
 
 -- what is drawn at turn t with its label at place j
-abbrev pub drawnPlace : Frame → List Size → ℕ → ℕ → Geometry
+abbrev pub drawnPlace : Frame → List BlockSize → ℕ → ℕ → Geometry
 drawnPlace f sizes t j = drawnBy f (turnAt f t) (sizeAt f sizes noItem t) j
 
-step-is : (f : Frame) (sizes : List Size) (t : ℕ) → stepIn f sizes (stepOf sizes noItem) t ≡ stepOf sizes (turnAt f t)
+step-is : (f : Frame) (sizes : List BlockSize) (t : ℕ) → stepIn f sizes (stepOf sizes noItem) t ≡ stepOf sizes (turnAt f t)
 step-is f sizes t = List·getD-map (stepOf sizes) (order f) t noItem
 
-steps-length : (f : Frame) (sizes : List Size) → length (steps f sizes) ≡ length (order f)
+steps-length : (f : Frame) (sizes : List BlockSize) → length (steps f sizes) ≡ length (order f)
 steps-length f sizes = length-map (order f) (stepOf sizes)
 
 run-length : (f : Frame) (s : Scene) (ts : List Step) → length (Run.run (more f) (cost f) (sceneAfter f) s ts) ≡ length ts
@@ -146,13 +146,13 @@ unfolding Run.run
 run-length f s [] = refl
 run-length f s (t ∷ ts) = ap suc (run-length f (sceneAfter f s t (Run.takenBy (more f) (cost f) (sceneAfter f) s t)) ts)
 
-drawn-at : (f : Frame) (sizes : List Size) (t : ℕ) (d : Geometry) → t < length (order f) → getD (drawing f sizes) t d ≡ drawnPlace f sizes t (placeAt f sizes t)
+drawn-at : (f : Frame) (sizes : List BlockSize) (t : ℕ) (d : Geometry) → t < length (order f) → getD (drawing f sizes) t d ≡ drawnPlace f sizes t (placeAt f sizes t)
 unfolding drawing
 drawn-at f sizes t d h =
     zip-at (drawnStep f) (steps f sizes) (placesTaken f sizes) t (stepOf sizes noItem) 0 d (run-length f (firstScene f) (steps f sizes)) (omega (arith, steps-length f sizes))
     ∙ ap (λ (s : Step). drawnStep f s (placeAt f sizes t)) (step-is f sizes t)
 
-drawing-length : (f : Frame) (sizes : List Size) → length (drawing f sizes) ≡ length (order f)
+drawing-length : (f : Frame) (sizes : List BlockSize) → length (drawing f sizes) ≡ length (order f)
 drawing-length f sizes = sym (length-map (drawing f sizes) (λ g. g .edge)) ∙ ap length (edges-drawn f sizes) ∙ length-map (order f) edgeOf
 
 module _ (f : Frame) where
@@ -174,7 +174,7 @@ module _ (f : Frame) where
   kept-turn k h e = find (isTurn k) (order f) noItem (itemFor f (numberedAt f k)) [] (rw e at (own-turn f k h))
 
   -- the record of a turn's arrow is what is drawn at that turn
-  record-turn : (sizes : List Size) (t : ℕ) (d : Geometry) → t < length (order f) → recordFor f sizes (edgeAt f t) ≡ getD (drawing f sizes) t d ∷ []
+  record-turn : (sizes : List BlockSize) (t : ℕ) (d : Geometry) → t < length (order f) → recordFor f sizes (edgeAt f t) ≡ getD (drawing f sizes) t d ∷ []
   record-turn sizes t d h =
       let k : ℕ = edgeAt f t in
       let n : k < length (f .arrows) = turn-number t h in
@@ -187,7 +187,7 @@ module _ (f : Frame) where
       (omega (arith, length-map (filterBy (isEdge k) (drawing f sizes)) (λ g. g .edge), ap length once))
       (omega (arith, drawing-length f sizes)) own
 
-  pub record-held : (sizes : List Size) (t : ℕ) → t < length (order f) → recordFor f sizes (edgeAt f t) ≡ drawnPlace f sizes t (placeAt f sizes t) ∷ []
+  pub record-held : (sizes : List BlockSize) (t : ℕ) → t < length (order f) → recordFor f sizes (edgeAt f t) ≡ drawnPlace f sizes t (placeAt f sizes t) ∷ []
   record-held sizes t h =
       let d : Geometry = drawnPlace f sizes t (placeAt f sizes t) in
       record-turn sizes t d h ∙ ap (λ (g : Geometry). g ∷ []) (drawn-at f sizes t d h)
@@ -195,7 +195,7 @@ module _ (f : Frame) where
 -- ---- the three claims, over the records
 
 -- (1) the record of turn t's arrow holds a listed place or direction: none of the listed costs less and none before it costs the same
-pub record TurnCheapest (f : Frame) (sizes : List Size) (t : ℕ) : Type 0 where
+pub record TurnCheapest (f : Frame) (sizes : List BlockSize) (t : ℕ) : Type 0 where
   pub place : ℕ
   pub least : FirstLeast (cost f (sceneAt f sizes t) (stepOf sizes (turnAt f t))) (listedBy f (turnAt f t)) place
   pub held : recordFor f sizes (edgeAt f t) ≡ drawnPlace f sizes t place ∷ []
@@ -213,12 +213,12 @@ abbrev pub strokeBy : Routed → Stroke
 strokeBy r = record { curve = r .curve; tip = end (r .curve); angle = r .«tip_angle» }
 
 -- an arrow between different states has that of its route, wherever its label stands
-pub label-stroke : (f : Frame) (r : Route) (size : Size) (j : ℕ) → strokeOf (drawnBy f (label r) size j) ≡ strokeBy (r .routed)
+pub label-stroke : (f : Frame) (r : Route) (size : BlockSize) (j : ℕ) → strokeOf (drawnBy f (label r) size j) ≡ strokeBy (r .routed)
 unfolding labelled
 label-stroke f r size j = refl
 
 module _ (f : Frame) where
-  pub records-cheapest : (sizes : List Size) (t : ℕ) → t < length (order f) → TurnCheapest f sizes t
+  pub records-cheapest : (sizes : List BlockSize) (t : ℕ) → t < length (order f) → TurnCheapest f sizes t
   records-cheapest sizes t h =
       record {
         place = placeAt f sizes t;
@@ -229,7 +229,7 @@ module _ (f : Frame) where
       }
 
   -- (2) where the sizes agree at a turn and at all before it, the record is the same
-  pub records-prefix : (sizes sizes′ : List Size) (t : ℕ) → t < length (order f) → ((j : ℕ) → j ≤ t → sizeAt f sizes noItem j ≡ sizeAt f sizes′ noItem j)
+  pub records-prefix : (sizes sizes′ : List BlockSize) (t : ℕ) → t < length (order f) → ((j : ℕ) → j ≤ t → sizeAt f sizes noItem j ≡ sizeAt f sizes′ noItem j)
       → recordFor f sizes (edgeAt f t) ≡ recordFor f sizes′ (edgeAt f t)
   records-prefix sizes sizes′ t h e =
       let d : Geometry = drawnPlace f sizes t 0 in
@@ -240,7 +240,7 @@ module _ (f : Frame) where
       ∙ sym (record-turn f sizes′ t d h)
 
   -- (3) whatever the sizes, an arrow between different states has the curve, tip and tip angle of its route
-  pub records-stroke : (sizes : List Size) (k : ℕ) → k < length (f .arrows) → isLoop (numberedAt f k) ≡ false
+  pub records-stroke : (sizes : List BlockSize) (k : ℕ) → k < length (f .arrows) → isLoop (numberedAt f k) ≡ false
       → map strokeOf (recordFor f sizes k) ≡ cond (isKeptIn f (numberedAt f k)) (strokeBy (joined f (numberedAt f k)) ∷ []) []
   records-stroke sizes k h e =
       by-bool (isKeptIn f (numberedAt f k))
@@ -257,6 +257,6 @@ module _ (f : Frame) where
       let none : recordFor f sizes k ≡ [] = rw c at (record-drawn f sizes k h) in
       rw c (ap (map strokeOf) none))
 
-  pub strokes-same : (sizes sizes′ : List Size) (k : ℕ) → k < length (f .arrows) → isLoop (numberedAt f k) ≡ false
+  pub strokes-same : (sizes sizes′ : List BlockSize) (k : ℕ) → k < length (f .arrows) → isLoop (numberedAt f k) ≡ false
       → map strokeOf (recordFor f sizes k) ≡ map strokeOf (recordFor f sizes′ k)
   strokes-same sizes sizes′ k h e = records-stroke sizes k h e ∙ sym (records-stroke sizes′ k h e)

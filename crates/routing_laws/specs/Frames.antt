@@ -13,7 +13,7 @@ use Rattle.shape.specs.Plane.{vec}
 use Rattle.shape.specs.Centres.{centres}
 use Rattle.sheet.specs.Sheet.{Arrow, Graph, flagsOf}
 use Rattle.label.specs.Label.{blockWidth, blockHeight}
-use Rattle.routing.specs.Routing.{Ends, Size}
+use Rattle.routing.specs.Routing.{Ends, BlockSize}
 use Rattle.routing.specs.Sheets.{endsBy, frameBy, sizesBy, orZero, centreAt, endsOf, sizeOf, frameOf, sizesOf, frameWith, sizeHeld}
 
 -- ---- the centres
@@ -43,7 +43,7 @@ frame-sheet g xs ys =
 sizes-zip : (l : List Arrow) → zipBy sizeHeld (map (λ a. blockWidth (a .lines)) l) (map (λ a. blockHeight (length (a .lines))) l) ≡ map sizeOf l
 unfolding zipBy
 sizes-zip [] = refl
-sizes-zip (a ∷ l) = ap (λ (r : List Size). sizeOf a ∷ r) (sizes-zip l)
+sizes-zip (a ∷ l) = ap (λ (r : List BlockSize). sizeOf a ∷ r) (sizes-zip l)
 
 pub sizes-sheet : (g : Graph) → sizesBy (map (λ a. blockWidth (a .lines)) (g .arrows)) (map (λ a. blockHeight (length (a .lines))) (g .arrows)) ≡ sizesOf g
 sizes-sheet g = sizes-zip (g .arrows)

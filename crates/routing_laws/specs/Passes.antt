@@ -17,7 +17,7 @@ use Rattle.label_spots.specs.declared.Geometry.{Geometry}
 use Rattle.records.specs.Records.{fields}
 use Rattle.records.specs.Sorts.{sortLeftOut, sortLoop, sortArc, sortStraight}
 use Rattle.scene.specs.Scene.{Scene}
-use Rattle.routing.specs.Routing.{Frame, Size, Numbered, Item, loop, label, Step, numbered, isKeptIn, isLoop, joined, routeOf, isArc, routeTrace, stepOf, more, cost, sceneAfter, drawnStep}
+use Rattle.routing.specs.Routing.{Frame, BlockSize, Numbered, Item, loop, label, Step, numbered, isKeptIn, isLoop, joined, routeOf, isArc, routeTrace, stepOf, more, cost, sceneAfter, drawnStep}
 
 -- ---- what is known of an arrow before any label is placed
 
@@ -68,10 +68,10 @@ takenIn f s t = Run.takenBy (more f) (cost f) (sceneAfter f) s t
 unfoldable pub played : Frame → Drawn → Step → Drawn
 played f d t = let j = takenIn f (d .scene) t in drawnWith (sceneAfter f (d .scene) t j) (store (d .slots) (drawnStep f t j))
 
-unfoldable pub turned : Frame → List Size → ℕ → Drawn → Numbered → Drawn
+unfoldable pub turned : Frame → List BlockSize → ℕ → Drawn → Numbered → Drawn
 turned f sizes p d a = over (played f) d (map (stepOf sizes) (itemsOf f p a))
 
-unfoldable pub passed : Frame → List Size → ℕ → Drawn → Drawn
+unfoldable pub passed : Frame → List BlockSize → ℕ → Drawn → Drawn
 passed f sizes p d = over (turned f sizes p) d (numbered f)
 
 -- ---- the records, from the slots

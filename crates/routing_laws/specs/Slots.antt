@@ -22,20 +22,20 @@ use Rattle.label_spots.specs.Labels.{labelled}
 use Rattle.records.specs.Records.{fields}
 use Rattle.scene.specs.Scene.{Scene}
 use Rattle.self_loop.specs.Looped.{loopAt}
-use Rattle.routing.specs.Routing.{Frame, Size, Numbered, numbered, isKeptIn, isLoop, kept, routeOf, firstScene, Item, loop, label, edgeOf, isArc, order, Step, stepOf, steps, drawnBy, more, cost, sceneAfter, drawnStep, drawing, drawnFor, records, numberedAt, isTurn, itemFor}
+use Rattle.routing.specs.Routing.{Frame, BlockSize, Numbered, numbered, isKeptIn, isLoop, kept, routeOf, firstScene, Item, loop, label, edgeOf, isArc, order, Step, stepOf, steps, drawnBy, more, cost, sceneAfter, drawnStep, drawing, drawnFor, records, numberedAt, isTurn, itemFor}
 use Rattle.routing_laws.specs.Passes.{turnKind, itemsOf, Drawn, drawnWith, store, takenIn, played, turned, passed, slotsOf, gathered}
 use Rattle.routing_laws.specs.Numbers.{isNumber, number-one, number-none, flat-numbered}
 use Rattle.routing_laws.specs.Order.{order-passes}
 
 -- ---- the passes are the run
 
-pass-run : (f : Frame) (sizes : List Size) (p : ℕ) (d : Drawn) → passed f sizes p d ≡ over (played f) d (map (stepOf sizes) (flatMap (itemsOf f p) (numbered f)))
+pass-run : (f : Frame) (sizes : List BlockSize) (p : ℕ) (d : Drawn) → passed f sizes p d ≡ over (played f) d (map (stepOf sizes) (flatMap (itemsOf f p) (numbered f)))
 unfolding passed turned
 pass-run f sizes p d =
     sym (over-flat (played f) d (λ a. map (stepOf sizes) (itemsOf f p a)) (numbered f))
     ∙ ap (over (played f) d) (sym (map-flat (stepOf sizes) (itemsOf f p) (numbered f)))
 
-pub run-passes : (f : Frame) (sizes : List Size) (d : Drawn)
+pub run-passes : (f : Frame) (sizes : List BlockSize) (d : Drawn)
     → passed f sizes 3 (passed f sizes 2 (passed f sizes 1 d)) ≡ over (played f) d (steps f sizes)
 run-passes f sizes d =
     let turns : ℕ → List Step = λ p. map (stepOf sizes) (flatMap (itemsOf f p) (numbered f)) in
@@ -55,14 +55,14 @@ slots-run f s l [] = refl
 slots-run f s l (t ∷ ts) = slots-run f (sceneAfter f s t (takenIn f s t)) (store l (drawnStep f t (takenIn f s t))) ts
 
 -- after the three passes, each drawing is stored in its slot, in the order of the turns
-pub passes-store : (f : Frame) (sizes : List Size) (l : List Float)
+pub passes-store : (f : Frame) (sizes : List BlockSize) (l : List Float)
     → passed f sizes 3 (passed f sizes 2 (passed f sizes 1 (drawnWith (firstScene f) l))) .slots ≡ over store l (drawing f sizes)
 unfolding drawing
 passes-store f sizes l = ap (λ (d : Drawn). d .slots) (run-passes f sizes (drawnWith (firstScene f) l)) ∙ slots-run f (firstScene f) l (steps f sizes)
 
 -- ---- each kept arrow is drawn once
 
-pub drawn-edge : (f : Frame) (i : Item) (z : Size) (j : ℕ) → drawnBy f i z j .edge ≡ edgeOf i
+pub drawn-edge : (f : Frame) (i : Item) (z : BlockSize) (j : ℕ) → drawnBy f i z j .edge ≡ edgeOf i
 unfolding loopAt labelled
 drawn-edge f (loop a) z j = refl
 drawn-edge f (label r) z j = refl
@@ -74,7 +74,7 @@ edges-run f s [] = refl
 edges-run f s (t ∷ ts) = ap₂ (λ (x : ℕ) (y : List ℕ). x ∷ y) (drawn-edge f (t .item) (t .size) (takenIn f s t)) (edges-run f (sceneAfter f s t (takenIn f s t)) ts)
 
 -- the drawings have the numbers of the turns
-pub edges-drawn : (f : Frame) (sizes : List Size) → map (λ g. g .edge) (drawing f sizes) ≡ map edgeOf (order f)
+pub edges-drawn : (f : Frame) (sizes : List BlockSize) → map (λ g. g .edge) (drawing f sizes) ≡ map edgeOf (order f)
 unfolding drawing
 edges-drawn f sizes = edges-run f (firstScene f) (steps f sizes) ∙ map-map (λ t. edgeOf (t .item)) (stepOf sizes) (order f)
 
@@ -138,11 +138,11 @@ own-none f k l = own-passes f k ∙ ap₂ (λ (x y : List Item). x ++ y) (ap₂ 
     none p = own-pass f p k ∙ ap (flatMap (itemsOf f p)) (number-none f k l) ∙ unfold flatMap in refl
 
 -- the numbers of the drawings of arrow k, as of its turns
-pub edges-own : (f : Frame) (sizes : List Size) (k : ℕ) → map (λ g. g .edge) (filterBy (λ g. eqb (g .edge) k) (drawing f sizes)) ≡ map edgeOf (filterBy (isTurn k) (order f))
+pub edges-own : (f : Frame) (sizes : List BlockSize) (k : ℕ) → map (λ g. g .edge) (filterBy (λ g. eqb (g .edge) k) (drawing f sizes)) ≡ map edgeOf (filterBy (isTurn k) (order f))
 edges-own f sizes k =
     sym (filter-map (λ e. eqb e k) (λ g. g .edge) (drawing f sizes)) ∙ ap (filterBy (λ e. eqb e k)) (edges-drawn f sizes) ∙ filter-map (λ e. eqb e k) edgeOf (order f)
 
-pub drawn-once : (f : Frame) (sizes : List Size) (k : ℕ) → k < length (f .arrows)
+pub drawn-once : (f : Frame) (sizes : List BlockSize) (k : ℕ) → k < length (f .arrows)
     → map (λ g. g .edge) (drawnFor (drawing f sizes) (numberedAt f k)) ≡ cond (isKeptIn f (numberedAt f k)) (k ∷ []) []
 drawn-once f sizes k l =
     edges-own f sizes k ∙ ap (map edgeOf) (own-turn f k l) ∙ go (isKeptIn f (numberedAt f k)) (isLoop (numberedAt f k))
@@ -155,11 +155,11 @@ drawn-once f sizes k l =
 -- ---- a record for each kept arrow, in arrow order
 
 -- the records by all arrows
-pub records-each : (f : Frame) (sizes : List Size) → records f sizes ≡ flatMap (λ a. cond (isKeptIn f a) (drawnFor (drawing f sizes) a) []) (numbered f)
+pub records-each : (f : Frame) (sizes : List BlockSize) → records f sizes ≡ flatMap (λ a. cond (isKeptIn f a) (drawnFor (drawing f sizes) a) []) (numbered f)
 unfolding records kept
 records-each f sizes = flat-filter (drawnFor (drawing f sizes)) (isKeptIn f) (numbered f)
 
-pub records-edges : (f : Frame) (sizes : List Size) → map (λ g. g .edge) (records f sizes) ≡ map (λ a. a .edge) (kept f)
+pub records-edges : (f : Frame) (sizes : List BlockSize) → map (λ g. g .edge) (records f sizes) ≡ map (λ a. a .edge) (kept f)
 records-edges f sizes =
     ap (map (λ g. g .edge)) (records-each f sizes)
     ∙ map-flat (λ g. g .edge) (λ a. cond (isKeptIn f a) (drawnFor (drawing f sizes) a) []) (numbered f)
@@ -173,7 +173,7 @@ records-edges f sizes =
     go k true gs e = e
     go k false gs e = refl
 
-pub records-length : (f : Frame) (sizes : List Size) → length (records f sizes) ≡ length (kept f)
+pub records-length : (f : Frame) (sizes : List BlockSize) → length (records f sizes) ≡ length (kept f)
 records-length f sizes = sym (length-map (records f sizes) (λ g. g .edge)) ∙ ap length (records-edges f sizes) ∙ length-map (kept f) (λ a. a .edge)
 
 -- ---- the slots hold the records
@@ -205,7 +205,7 @@ slot-one k l [] e = absurd (omega (arith, ap length e))
 slot-one k l (g ∷ []) e = refl
 slot-one k l (g ∷ h ∷ gs) e = absurd (omega (arith, ap length e))
 
-pub slots-gathered : (f : Frame) (sizes : List Size) (l : List Float) → 20 * length (f .arrows) ≤ length l
+pub slots-gathered : (f : Frame) (sizes : List BlockSize) (l : List Float) → 20 * length (f .arrows) ≤ length l
     → gathered f (over store l (drawing f sizes)) ≡ flatMap fields (records f sizes)
 unfolding gathered slotsOf turnKind flatMap
 slots-gathered f sizes l room =
@@ -224,7 +224,7 @@ slots-gathered f sizes l room =
     go k false c d gs e n = refl
 
 -- what the three passes leave, gathered: the records
-pub passes-gathered : (f : Frame) (sizes : List Size) (l : List Float) → 20 * length (f .arrows) ≤ length l
+pub passes-gathered : (f : Frame) (sizes : List BlockSize) (l : List Float) → 20 * length (f .arrows) ≤ length l
     → gathered f (passed f sizes 3 (passed f sizes 2 (passed f sizes 1 (drawnWith (firstScene f) l))) .slots) ≡ flatMap fields (records f sizes)
 passes-gathered f sizes l room = ap (gathered f) (passes-store f sizes l) ∙ slots-gathered f sizes l room
 

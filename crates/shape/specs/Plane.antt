@@ -51,10 +51,11 @@ left a = vec (a .y) (minus (a .x))
 abbrev pub dist : «V» → «V» → Float
 dist a b = len (sub a b)
 
--- its square; 0 where it is NaN, since the root of NaN is 0 (`dist-root` of Squares)
+-- the sum of the squares, whose root is the length
 abbrev pub squares : «V» → Float
 squares a = a .x ⊗ a .x ⊕ a .y ⊗ a .y
 
+-- the same of a distance; 0 where it is NaN, since the root of NaN is 0 (`dist-root` of Squares)
 abbrev pub distSquared : «V» → «V» → Float
 distSquared a b = let q = squares (sub a b) in cond (ne q q) f0 q
 
@@ -83,7 +84,7 @@ grown r d = rect (r .x0 ⊖ d) (r .y0 ⊖ d) (r .x1 ⊕ d) (r .y1 ⊕ d)
 unfoldable pub outside : Float → Float → Float → Float
 outside low high v = max (max (low ⊖ v) (v ⊖ high)) f0
 
--- the distance from a point to a box, 0 inside, and its square
+-- the distance from a point to a box, 0 inside, and the sum whose root it is
 abbrev pub boxDist : Rect → «V» → Float
 boxDist r p = hypot (outside (r .x0) (r .x1) (p .x)) (outside (r .y0) (r .y1) (p .y))
 

@@ -9,7 +9,7 @@ use Rattle.float.specs.Ops.{rem}
 use Rattle.float.specs.Standins as F
 use Rattle.float.specs.declared.Ordering.{Ordering}
 use Rattle.float.specs.declared.Ordering.the-variants.{Less, Equal, Greater}
-use Rattle.cases.specs.Payload.{byteAt, floatAt, answerStands, kindRow, rowRight}
+use Rattle.cases.specs.Payload.{payloadByte, floatAt, answerStands, kindRow, rowRight}
 
 unfoldable pub oneAgrees : ℕ → List ℕ → Bool
 oneAgrees kind p =
@@ -32,7 +32,7 @@ number Equal = 1
 number Greater = 2
 
 unfoldable pub ordered : List ℕ → Ordering → Bool
-ordered p o = eqb (length p) 17 && eqb (byteAt p 16) (number o)
+ordered p o = eqb (length p) 17 && eqb (payloadByte p 16) (number o)
 
 unfoldable pub twoAgrees : ℕ → List ℕ → Bool
 twoAgrees kind p =

@@ -53,21 +53,21 @@ use Rattle.calls.specs.Calls.{values, onto, writeNum, writeNumAfter, layout, xs
 use Rattle.starred.specs.Answered.{lays, writes}
 
 -- what a drawing is given, and what it must give
-pub data Drawing : Type 0 where
-  laidOut : (sheet : List ℕ) (kind : ℕ) (xs ys : List Float) (width height : Float) → Drawing
-  written : (v : Float) (text : List ℕ) → Drawing
-  touching : Rect → Rect → Bool → Drawing
-  overlapping : Rect → Rect → Bool → Drawing
-  hitting : «V» → «V» → Rect → Bool → Drawing
-  pair : (distance bow : ℕ) → Drawing
-  arctangent : (y x angle : Float) → Drawing
+pub data StarredDrawing : Type 0 where
+  laidOut : (sheet : List ℕ) (kind : ℕ) (xs ys : List Float) (width height : Float) → StarredDrawing
+  written : (v : Float) (text : List ℕ) → StarredDrawing
+  touching : Rect → Rect → Bool → StarredDrawing
+  overlapping : Rect → Rect → Bool → StarredDrawing
+  hitting : «V» → «V» → Rect → Bool → StarredDrawing
+  pair : (distance bow : ℕ) → StarredDrawing
+  arctangent : (y x angle : Float) → StarredDrawing
 
 -- two states on a level, at this distance
 abbrev pub twoStates : ℕ → List «V»
 twoStates n = vec (whole 0) (whole 0) ∷ vec (whole n) (whole 0) ∷ []
 
 -- what the call answers, and what stands in each lent slice that is long enough: "Longer outputs keep their tail."
-abbrev pub drawingHolds : Drawing → Type 0
+abbrev pub drawingHolds : StarredDrawing → Type 0
 drawingHolds (laidOut s kind xs ys width height) =
     (x y : List Float) → length xs ≤ length x → length ys ≤ length y
     → (layout s kind (length x) (length y) ≡ values (length xs, width, height))
@@ -82,7 +82,7 @@ drawingHolds (hitting a b r t) = segmentHitsRect a b r ≡ t
 drawingHolds (pair n bow) = T (sameBits (bend (chord (twoStates n) 0 1) (twoStates n) true) (whole bow))
 drawingHolds (arctangent y x angle) = T (sameBits (atan2 y x) angle)
 
-abbrev pub allHold : List Drawing → Type 0
+abbrev pub allHold : List StarredDrawing → Type 0
 allHold [] = Unit
 allHold (d ∷ ds) = drawingHolds d × allHold ds
 
@@ -97,7 +97,7 @@ abbrev pub aloneSheet : ℕ → List ℕ
 aloneSheet flag = header 1 1 0 ++ stateBytes flag 0
 
 -- one state laid out by kind: its centre, and the drawing's size
-abbrev pub centred : (flag kind x y width height : ℕ) → Drawing
+abbrev pub centred : (flag kind x y width height : ℕ) → StarredDrawing
 centred flag kind x y width height = laidOut (aloneSheet flag) kind (whole x ∷ []) (whole y ∷ []) (whole width) (whole height)
 
 -- boxes 0..10 and 10..20 side by side
@@ -108,10 +108,10 @@ abbrev pub rightBox : Rect
 rightBox = rect (whole 10) (whole 0) (whole 20) (whole 10)
 
 -- the segment (0,0)-(10,0) and a box x..20, −5..5
-abbrev pub segmentAndBox : Float → Bool → Drawing
+abbrev pub segmentAndBox : Float → Bool → StarredDrawing
 segmentAndBox x = hitting (vec (whole 0) (whole 0)) (vec (whole 10) (whole 0)) (rect x (neg (whole 5)) (whole 20) (whole 5))
 
-abbrev pub drawings : List Drawing
+abbrev pub drawings : List StarredDrawing
 drawings =
     -- "No states: 32, 32. One state, no start: 38, 38, size 76, 76. One start: 66, 38, size 104, 76.": by each kind
     laidOut emptySheet 0 [] [] (whole 32) (whole 32)

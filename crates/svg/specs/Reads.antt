@@ -1,5 +1,5 @@
 -- What it is to be read by the SVG path grammar as some commands; and that every curve and every arrowhead is.
--- Here is what it says; `paths` of Reading proves it.
+-- Here is what it says; `svg-paths` of Reading proves it.
 use mathlib.Core.Path.{_≡_}
 use mathlib.Core.Bool.{true}
 use mathlib.Core.List.{List, [], _∷_, flatMap}

@@ -22,7 +22,7 @@ use Rattle.records.specs.Records.{fields}
 use Rattle.scene.specs.Scene.{Scene, decodeBoxes}
 use Rattle.scene.specs.Turn.{placedArrow}
 use Rattle.self_loop.specs.Looped.{Loop, loopAt, looped}
-use Rattle.routing.specs.Routing.{Size, noSize}
+use Rattle.routing.specs.Routing.{BlockSize, noSize}
 use Rattle.routing_laws.specs.Passes.{Drawn}
 use Rattle.routing.specs.Sheets.{sizeHeld, sizesBy}
 use Rattle.routing_laws.specs.Turns.{withLoop, withLabel}
@@ -55,7 +55,7 @@ label-left xs ys i nb nt nb′ bs ts ds bs′ ds′ g h e f d b = rw (d, b, e, �
 
 -- ---- an arrow in a pass
 
-module _ (rims : ℕ → List Float) (cs : List «V») (sources kinds : List ℕ) (sizes : List Size) (i : ℕ) (d : Drawn) where
+module _ (rims : ℕ → List Float) (cs : List «V») (sources kinds : List ℕ) (sizes : List BlockSize) (i : ℕ) (d : Drawn) where
   pub loop-step : getD kinds i 0 ≡ 1 → loopTurned rims cs sources sizes i d ≡ loopStep rims cs sources kinds sizes i d
   unfolding loopStep
   loop-step e = rw (eq-eqb _ _ e)
@@ -64,7 +64,7 @@ module _ (rims : ℕ → List Float) (cs : List «V») (sources kinds : List ℕ
   unfolding loopStep
   loop-skip e = rw (ne-eqb _ _ e)
 
-module _ (kind : ℕ) (slots : List Float) (kinds : List ℕ) (sizes : List Size) (i : ℕ) (d : Drawn) where
+module _ (kind : ℕ) (slots : List Float) (kinds : List ℕ) (sizes : List BlockSize) (i : ℕ) (d : Drawn) where
   pub label-step : getD kinds i 0 ≡ kind → labelTurned slots sizes i d ≡ labelStep kind slots kinds sizes i d
   unfolding labelStep
   label-step e = rw (eq-eqb _ _ e)

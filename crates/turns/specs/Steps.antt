@@ -18,7 +18,7 @@ use Rattle.directions.specs.Rims.{rimAngles, allEnds}
 use Rattle.self_loop.specs.Looped.{Loop, loopOf, looped}
 use Rattle.sheet.specs.Meaning.{isStart}
 use Rattle.records.specs.Sorts.{sortLeftOut, sortLoop, sortArc, sortStraight}
-use Rattle.routing.specs.Routing.{Size, noSize, turnOf}
+use Rattle.routing.specs.Routing.{BlockSize, noSize, turnOf}
 use Rattle.routing_laws.specs.Passes.{Drawn, drawnWith}
 use Rattle.routing_laws.specs.Turns.{withLoop, withLabel}
 
@@ -56,45 +56,45 @@ abbrev pub rimBy : List ℕ → List ℕ → List ℕ → List Float → List Fl
 rimBy flags sources targets leaves reaches k = rimAngles (length flags) k (isStart (getD flags k 0)) (allEnds sources targets leaves reaches)
 
 -- the turn of loop i: `rims` gives the angles of a state's rim
-abbrev pub loopFor : (ℕ → List Float) → List «V» → List ℕ → List Size → ℕ → Loop
+abbrev pub loopFor : (ℕ → List Float) → List «V» → List ℕ → List BlockSize → ℕ → Loop
 loopFor rims cs sources sizes i =
     let k = getD sources i 0 in
     let z = getD sizes i noSize in
     loopOf i k (centre cs k) (rims k) (z .width) (z .height)
 
 -- the turn of arrow i, whose curve stands in its slot
-abbrev pub labelFor : List Float → List Size → ℕ → Turn
+abbrev pub labelFor : List Float → List BlockSize → ℕ → Turn
 labelFor slots sizes i = turnOf i (decodeRouted (part 20 i slots)) (getD sizes i noSize)
 
 -- one turn
-abbrev pub loopTurned : (ℕ → List Float) → List «V» → List ℕ → List Size → ℕ → Drawn → Drawn
+abbrev pub loopTurned : (ℕ → List Float) → List «V» → List ℕ → List BlockSize → ℕ → Drawn → Drawn
 loopTurned rims cs sources sizes i d = withLoop d (looped (d .scene) (loopFor rims cs sources sizes i))
 
-abbrev pub labelTurned : List Float → List Size → ℕ → Drawn → Drawn
+abbrev pub labelTurned : List Float → List BlockSize → ℕ → Drawn → Drawn
 labelTurned slots sizes i d = withLabel d (placedArrow (d .scene) (labelFor slots sizes i))
 
 -- ---- an arrow in a pass; kinds are the arrows' sorts
 
-unfoldable pub loopStep : (ℕ → List Float) → List «V» → List ℕ → List ℕ → List Size → ℕ → Drawn → Drawn
+unfoldable pub loopStep : (ℕ → List Float) → List «V» → List ℕ → List ℕ → List BlockSize → ℕ → Drawn → Drawn
 loopStep rims cs sources kinds sizes i d =
     let next = loopTurned rims cs sources sizes i d in
     cond (eqb (getD kinds i 0) sortLoop) next d
 
-unfoldable pub labelStep : ℕ → List Float → List ℕ → List Size → ℕ → Drawn → Drawn
+unfoldable pub labelStep : ℕ → List Float → List ℕ → List BlockSize → ℕ → Drawn → Drawn
 labelStep kind slots kinds sizes i d =
     let next = labelTurned slots sizes i d in
     cond (eqb (getD kinds i 0) kind) next d
 
 -- ---- a pass over all arrows
 
-abbrev pub loopPass : (ℕ → List Float) → List «V» → List ℕ → List ℕ → List Size → Drawn → Drawn
+abbrev pub loopPass : (ℕ → List Float) → List «V» → List ℕ → List ℕ → List BlockSize → Drawn → Drawn
 loopPass rims cs sources kinds sizes d = up (loopStep rims cs sources kinds sizes) 0 (length kinds) d
 
-abbrev pub labelPass : ℕ → List Float → List ℕ → List Size → Drawn → Drawn
+abbrev pub labelPass : ℕ → List Float → List ℕ → List BlockSize → Drawn → Drawn
 labelPass kind slots kinds sizes d = up (labelStep kind slots kinds sizes) 0 (length kinds) d
 
 -- loops, then arcs, then straight arrows
-abbrev pub allPasses : (ℕ → List Float) → List «V» → List ℕ → List ℕ → List Float → List Size → Drawn → Drawn
+abbrev pub allPasses : (ℕ → List Float) → List «V» → List ℕ → List ℕ → List Float → List BlockSize → Drawn → Drawn
 allPasses rims cs sources kinds slots sizes d = labelPass sortStraight slots kinds sizes (labelPass sortArc slots kinds sizes (loopPass rims cs sources kinds sizes d))
 
 -- the states of the loops exist
@@ -112,5 +112,5 @@ abbrev pub slotsFor : List ℕ → List Float → ℕ → List Float
 slotsFor kinds drawn n = flatMap (slotFor kinds drawn) (table (λ i. i) 0 n)
 
 -- those of all, as the passes leave them
-abbrev pub gatheredFrom : (ℕ → List Float) → List «V» → List ℕ → List ℕ → List Float → List Size → Drawn → List Float
+abbrev pub gatheredFrom : (ℕ → List Float) → List «V» → List ℕ → List ℕ → List Float → List BlockSize → Drawn → List Float
 gatheredFrom rims cs sources kinds slots sizes d = slotsFor kinds (allPasses rims cs sources kinds slots sizes d .slots) (length kinds)

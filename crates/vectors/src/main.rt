@@ -89,7 +89,7 @@ fn tried(kind: u8, p: &[u8], cases: &mut [u64], differ: &mut [u64]) {
     }
 }
 
-// What ended the replay: 0 nothing yet; 1 the case that ends the stream, with the right number of
+// What ended the comparison: 0 nothing yet; 1 the case that ends the stream, with the right number of
 // cases; 2 that case with another number; 3 the input ended before it.
 fn turn(payload: &mut [u8], cases: &mut [u64], differ: &mut [u64], done: u64) -> u8 {
     let c = next(payload);
@@ -110,7 +110,7 @@ fn turn(payload: &mut [u8], cases: &mut [u64], differ: &mut [u64], done: u64) ->
     0
 }
 
-fn replay_all(cases: &mut [u64], differ: &mut [u64]) -> u8 {
+fn compare_all(cases: &mut [u64], differ: &mut [u64]) -> u8 {
     let mut payload = [0u8; 140000];
     let mut done: u32 = 0;
     while done < MOST {
@@ -221,7 +221,7 @@ fn ending(end: u8) {
 fn main() {
     let mut cases = [0u64; 256];
     let mut differ = [0u64; 256];
-    let end = replay_all(&mut cases, &mut differ);
+    let end = compare_all(&mut cases, &mut differ);
     report_all(&cases, &differ);
     ending(end);
 }

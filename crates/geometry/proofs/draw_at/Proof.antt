@@ -5,7 +5,7 @@ use native.Mathlib.Omega.{arith}
 use lib.ListN.{length}
 use denote.Ref.{now}
 use Rattle.laws.specs.Put.{put}
-use Rattle.routing.specs.Routing.{Frame, Size}
+use Rattle.routing.specs.Routing.{Frame, BlockSize}
 use Rattle.routing.specs.Sheets.{sizesBy}
 use Rattle.geometry.specs.Geometry.{recordCount, numbers}
 use Rattle.geometry.proofs.Laws.{centred-frame}
@@ -60,7 +60,7 @@ returns : tie.Need-returns
 returns c =
     let a = c .before .before .before .before .before .before .before .before .before .before .before .before .before .before .before .before .before .before .before .before .before .before .before .before .before .before .before .before .before .before .before .before .before .before .before .before .before .before .before .before .before .before .before .before .before .before .before .before .before .before .before .before .args in
     let p = c .before .before .before .before .before .before .before .before .before .before .before .before .before .before .before .before .before .before .before .before .before .before .before .before .before .before .before .before .before .before .before .before .before .before .before .before .before .before .before .before .before .before .before .before .before .before .before .before .before .before .before .before .pre in
-    let sizes : List Size = sizesBy (now (a .widths)) (now (a .heights)) in
+    let sizes : List BlockSize = sizesBy (now (a .widths)) (now (a .heights)) in
     let f = centred-frame (now (a .flags)) (now (a .xs)) (now (a .ys)) _ _ (now (a .sources)) (now (a .targets)) (length (now (a .cx))) (length (now (a .cy))) (omega arith) (omega arith) (c .before .before .before .before .before .before .before .before .before .before .before .before .before .before .before .before .before .before .before .before .before .before .before .before .before .before .before .before .before .before .before .before .before .centred .ensures) (c .before .before .before .before .before .before .before .before .before .before .before .before .before .before .before .before .before .before .before .before .before .before .before .before .before .before .before .before .before .centred2 .ensures) in
     (c .before .before .before .before .before .before .before .before .before .before .before .before .before .before .before .before .draw .ensures .0 ∙ ap (λ (g : Frame). recordCount g sizes) f, c .before .before .before .before .before .before .before .before .before .before .before .before .before .before .before .before .draw .ensures .1 ∙ ap (λ (g : Frame). put (now (a .records)) 0 (numbers g sizes)) f)
 

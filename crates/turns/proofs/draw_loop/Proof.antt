@@ -11,7 +11,7 @@ use Rattle.laws.specs.Filled.{front-is}
 use Rattle.shape.specs.Centres.{centre, centres}
 use Rattle.scene.specs.Scene.{Scene, sceneFrom}
 use Rattle.self_loop.specs.Looped.{loopOf, looped}
-use Rattle.routing.specs.Routing.{Size}
+use Rattle.routing.specs.Routing.{BlockSize}
 use Rattle.turns.specs.Steps.{rimBy}
 use Rattle.turns.proofs.Laws.{size-at}
 use borrow.Author.Needs.{needs}
@@ -66,7 +66,7 @@ returns c =
     let s : Scene = sceneFrom (now (a .xs)) (now (a .ys)) (a .c .nb) (now (a .boxes)) (a .c .nt) (now (a .traces)) in
     let r : List Float = rimBy (now (a .flags)) (now (a .sources)) (now (a .targets)) (now (a .leaves)) (now (a .reaches)) k in
     c .self-loop .ensures
-    ∙ ap₂ (λ (v : List Float) (z : Size). looped s (loopOf (a .i) k (centre (centres (now (a .xs)) (now (a .ys))) k) v (z .width) (z .height)))
+    ∙ ap₂ (λ (v : List Float) (z : BlockSize). looped s (loopOf (a .i) k (centre (centres (now (a .xs)) (now (a .ys))) k) v (z .width) (z .height)))
     (front-is _ r (c .before .before .before .before .before .rim-angles .result) _ (c .before .before .before .before .before .rim-angles .ensures .0) (omega arith) (c .before .before .before .before .before .rim-angles .ensures .2))
     (size-at (now (a .widths)) (now (a .heights)) (a .i) (omega arith) (omega arith))
 

@@ -5,7 +5,7 @@ use denote.Ref.{now}
 use Rattle.bend.specs.declared.Routed.{Routed}
 use Rattle.scene.specs.Scene.{Scene, sceneFrom}
 use Rattle.scene.specs.Turn.{placedArrow}
-use Rattle.routing.specs.Routing.{Size, turnOf}
+use Rattle.routing.specs.Routing.{BlockSize, turnOf}
 use Rattle.routing.specs.Sheets.{sizesBy}
 use Rattle.turns.specs.Steps.{labelFor}
 use Rattle.turns.proofs.Laws.{size-at, label-edge, label-left}
@@ -52,7 +52,7 @@ returns c =
     let s : Scene = sceneFrom (now (a .xs)) (now (a .ys)) (a .nb) (now (a .boxes)) (a .nt) (now (a .traces)) in (
       c .before .before .push-box .ensures .0,
       label-left (now (a .xs)) (now (a .ys)) (a .i) (a .nb) (a .nt) (c .before .before .push-box .result) (now (a .boxes)) (now (a .traces)) (now (a .drawn)) _ _ (c .before .before .before .before .before .before .before .before .take-place .result) (placedArrow s (labelFor (now (a .slots)) (sizesBy (now (a .widths)) (now (a .heights))) (a .i)))
-          (c .before .before .before .before .before .before .before .before .take-place .ensures ∙ ap₂ (λ (r : Routed) (z : Size). placedArrow s (turnOf (a .i) r z)) (c .before .before .before .before .before .before .before .before .before .before .before .before .routed-at .ensures) (size-at (now (a .widths)) (now (a .heights)) (a .i) (omega arith) (omega arith)))
+          (c .before .before .before .before .before .before .before .before .take-place .ensures ∙ ap₂ (λ (r : Routed) (z : BlockSize). placedArrow s (turnOf (a .i) r z)) (c .before .before .before .before .before .before .before .before .before .before .before .before .routed-at .ensures) (size-at (now (a .widths)) (now (a .heights)) (a .i) (omega arith) (omega arith)))
           (label-edge s _) (c .before .before .before .before .before .before .write-at .ensures) (c .before .before .push-box .ensures .1),
     )
 

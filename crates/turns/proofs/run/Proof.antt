@@ -7,7 +7,7 @@ use lib.ListN.{length}
 use lib.Ieee.{Float}
 use denote.Ref.{now}
 use Rattle.laws.specs.Put.{put}
-use Rattle.routing.specs.Routing.{Size}
+use Rattle.routing.specs.Routing.{BlockSize}
 use Rattle.routing_laws.specs.Passes.{Drawn}
 use Rattle.routing.specs.Sheets.{sizesBy}
 use Rattle.turns.specs.Steps.{labelPass, slotsFor}
@@ -64,7 +64,7 @@ returns : tie.Need-returns
 returns c =
     let a = c .before .before .before .before .before .before .before .before .before .before .before .before .before .before .before .before .before .before .before .before .before .before .before .before .before .before .before .before .before .before .before .before .before .before .before .before .before .before .before .before .before .before .before .before .before .before .args in
     let kinds : List ℕ = now (a .kinds) in
-    let sizes : List Size = sizesBy (now (a .widths)) (now (a .heights)) in
+    let sizes : List BlockSize = sizesBy (now (a .widths)) (now (a .heights)) in
     let s = ap (λ (d : Drawn). d .slots) (c .before .before .before .before .before .before .before .before .before .labels2 .ensures .1 ∙ ap (labelPass 3 (now (a .slots)) kinds sizes) (c .before .before .before .before .before .before .before .before .before .before .before .before .before .before .before .before .before .labels .ensures .1 ∙ ap (labelPass 2 (now (a .slots)) kinds sizes) (c .before .before .before .before .before .before .before .before .before .before .before .before .before .before .before .before .before .before .before .before .before .before .before .before .before .before .before .loops .ensures .2))) in
     (c .before .before .gather .ensures .0 ∙ ap (λ (l : List Float). length (slotsFor kinds l (length kinds))) s, c .before .before .gather .ensures .1 ∙ ap (λ (l : List Float). put (now (a .records)) 0 (slotsFor kinds l (length kinds))) s)
 

@@ -1,10 +1,10 @@
--- `vectors::replay_all` is safe and ends: the measure is the number of cases that it may still read. Assumes nothing.
+-- `vectors::compare_all` is safe and ends: the measure is the number of cases that it may still read. Assumes nothing.
 use Prim.Native.Nat.{_-_, _≤_}
 use mathlib.Core.Path.{_≡_}
 use lib.ListN.{length}
 use borrow.Author.Needs.{needs}
-use Rattle.vectors.proofs.replay_all.Statement.{statement}
-use Rattle.vectors.proofs.replay_all.Tie as tie
+use Rattle.vectors.proofs.compare_all.Statement.{statement}
+use Rattle.vectors.proofs.compare_all.Tie as tie
 
 abbrev Inv-loop : tie.InvT-loop
 Inv-loop cases₀ differ₀ payload₀ done₀ cases differ payload done =
@@ -52,8 +52,8 @@ same-length-4 c = search needs
 returns-2 : tie.Need-returns-2 Inv-loop μ-loop
 returns-2 c = tt
 
-pub replay-all-spec : {M : Type 1} → statement M
-replay-all-spec =
+pub compare-all-spec : {M : Type 1} → statement M
+compare-all-spec =
     tie.close
     (tie.spec
     Inv-loop
