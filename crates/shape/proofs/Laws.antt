@@ -7,6 +7,10 @@ use Rattle.float.specs.Ops.{lt, le}
 use Rattle.shape.specs.declared.Rect.{Rect}
 use Rattle.shape.specs.Plane.{overlaps, touches}
 
+-- the fourth of four tests, where the others hold
+pub last-of-four : {a b c : Bool} (d : Bool) → a ≡ true → b ≡ true → c ≡ true → d ≡ (a && b && c && d)
+last-of-four d p q r = rw (p, q, r)
+
 -- four tests, each counted as 1 or 0
 four-hold : (a b c d : Bool) → eqb (cond a 1 0 + cond b 1 0 + (cond c 1 0 + cond d 1 0)) 4 ≡ (a && b && c && d)
 four-hold false false false false = refl

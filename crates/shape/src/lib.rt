@@ -167,6 +167,13 @@ impl Rect {
     pub fn touches(self, o: Rect) -> bool
         ensures { λ r. ⌜ r ≡ S.touches self o ⌝ }
     {
+        self.x0 <= o.x1 && (o.x0 <= self.x1 && (self.y0 <= o.y1 && o.y0 <= self.y1))
+    }
+
+    // The same by a sum, for boxes of which each side may lie apart: a branch for each would often be guessed wrong.
+    pub fn reaches(self, o: Rect) -> bool
+        ensures { λ r. ⌜ r ≡ S.touches self o ⌝ }
+    {
         let across = at_most(self.x0, o.x1) + at_most(o.x0, self.x1);
         let along = at_most(self.y0, o.y1) + at_most(o.y0, self.y1);
         across + along == 4

@@ -224,7 +224,7 @@ pub fn reaches(t: &[f64], r: Rect) -> bool
     requires { ⌜ 40 ≤ length (now t) ⌝ }
     ensures { λ x. ⌜ x ≡ touches (F.boundsIn (now (t .entry))) r ⌝ }
 {
-    bounds_of(t).touches(r)
+    bounds_of(t).reaches(r)
 }
 
 // Whether the trace meets the box.

@@ -9,11 +9,11 @@ use Rattle.trace.proofs.reaches.Tie as tie
 bounds-of-requires : tie.Need-bounds-of-requires
 bounds-of-requires c κs = search needs
 
-touches-requires : tie.Need-touches-requires
-touches-requires c κs = search needs
+rect-requires : tie.Need-reaches-requires
+rect-requires c κs = search needs
 
 returns : tie.Need-returns
-returns c = c .touches .ensures ∙ ap (λ (b : Rect). touches b (c .before .before .before .args .r)) (c .before .bounds-of .ensures)
+returns c = c .reaches .ensures ∙ ap (λ (b : Rect). touches b (c .before .before .before .args .r)) (c .before .bounds-of .ensures)
 
 pub reaches-spec : {M : Type 1} → statement M
-reaches-spec = tie.close (tie.spec bounds-of-requires touches-requires returns)
+reaches-spec = tie.close (tie.spec bounds-of-requires rect-requires returns)
