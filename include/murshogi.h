@@ -7,8 +7,9 @@
  *
  * A pointer with a length is to that many elements. No pointer is null, each is aligned for its type, and what a call
  * may write overlaps nothing else that the call is lent. No heap is used, and nothing is kept between calls. The working
- * space is on the stack: at most about 452,000 bytes for murshogi_list, 411,000 for murshogi_layout, 366,000 for
- * murshogi_route and 5,400 for murshogi_check.
+ * space is on the stack: at most about 450,000 bytes for murshogi_list, 409,000 for murshogi_layout, 365,000 for
+ * murshogi_clutter, 364,000 for murshogi_route, 5,400 for murshogi_check, 1,500 for murshogi_write_num and 1,200 for
+ * murshogi_label_size.
  */
 #ifndef MURSHOGI_H
 #define MURSHOGI_H

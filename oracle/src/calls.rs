@@ -208,6 +208,10 @@ pub fn clutter(bytes: &[u8], xs: &[f64], ys: &[f64]) -> Result<usize, u8> {
     bowed(|| count(&sheet.graph(), xs, ys))
 }
 
+pub fn label_size(text: &[u8], lengths: &[usize]) -> Result<(f64, f64), u8> {
+    sheet::label_block(text, lengths)
+}
+
 pub fn write_num(v: f64, room: usize) -> Result<Vec<u8>, u8> {
     let text = probe::number(v)?.into_bytes();
     fits(room, text.len())?;

@@ -10,7 +10,6 @@ use crate::port::{
     murshogi_write_num,
 };
 use crate::random::Random;
-use crate::sheet::label_block;
 use crate::vectors::{damage, largest, unsound};
 
 /// What a lent f64, byte or number holds before a call: a NaN with a payload, whose every bit must stay.
@@ -301,7 +300,7 @@ fn numbered(runs: &mut Runs, rng: &mut Random) {
 
 fn measured(runs: &mut Runs, rng: &mut Random) {
     let (text, lengths) = crate::vectors::label_lines(rng);
-    let wanted = label_block(&text, &lengths);
+    let wanted = calls::label_size(&text, &lengths);
     let mut size = [BEFORE; 2];
     let got = unsafe {
         murshogi_label_size(

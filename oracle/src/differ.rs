@@ -1,4 +1,4 @@
-//! Differential runs: more cases of the vectors' form, which the proved program `vectors` replays.
+//! Differential runs: more cases of the vectors' form, which the proved program `vectors` compares.
 //! The program is `target/bin/vectors` below the working directory, or the command in the environment
 //! variable `MURSHOGI_VECTORS`, its words parted by blanks.
 
@@ -19,7 +19,7 @@ const RUN: usize = 500;
 
 /// The lines of the program's report on a stream: the name of each kind of case, how many cases
 /// there were and how many differ.
-fn replayed(stream: Vec<u8>) -> BTreeMap<String, (usize, usize)> {
+fn compared(stream: Vec<u8>) -> BTreeMap<String, (usize, usize)> {
     let path = std::env::var("MURSHOGI_VECTORS").unwrap_or("target/bin/vectors".to_string());
     let words: Vec<&str> = path.split_whitespace().collect();
     let mut program = Command::new(words[0])
@@ -60,14 +60,14 @@ impl Runs {
         *self.made.entry(name).or_default() += 1;
     }
 
-    fn replay(&mut self) {
-        for (name, (cases, differ)) in replayed(std::mem::take(&mut self.out).end()) {
+    fn compare(&mut self) {
+        for (name, (cases, differ)) in compared(std::mem::take(&mut self.out).end()) {
             let sum = self.found.entry(name).or_default();
             *sum = (sum.0 + cases, sum.1 + differ);
         }
     }
 
-    /// Prints the counts; ends the program where a case differs or was not replayed.
+    /// Prints the counts; ends the program where a case differs or was not compared.
     fn end(&self) {
         let starts: Vec<String> = SORTS.iter().zip(self.starts).map(|(sort, n)| format!("{sort} {n}")).collect();
         println!("graphs by starts: {}", starts.join(", "));
@@ -109,7 +109,7 @@ pub fn routings(count: usize, seed: u64) {
         runs.made("route");
         runs.made("clutter");
         if (i + 1) % RUN == 0 || i + 1 == count {
-            runs.replay();
+            runs.compare();
         }
     }
     let Turns { taken: [loops, arcs, straight], later } = all;
@@ -140,7 +140,7 @@ pub fn layouts(count: usize, seed: u64) {
             runs.made("layout");
         }
         if (i + 1) % RUN == 0 || i + 1 == count {
-            runs.replay();
+            runs.compare();
         }
     }
     println!("{count} graphs of {states} states and {arrows} arrows, each laid out by the three kinds");

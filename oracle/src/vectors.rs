@@ -1,4 +1,4 @@
-//! The stream that the program `vectors` replays.
+//! The stream that the program `vectors` compares.
 //!
 //! A case is its kind (one byte), the payload's length (three bytes, the least first) and the
 //! payload: the arguments and then the oracle's answer. A float is its eight bytes, the least

@@ -210,7 +210,7 @@ fn bend_past(xs: &[f64], ys: &[f64], c: Chord, lo: &[f64], hi: &[f64], both_ways
 }
 
 // The signed offset of the control point, to the left of the direction of travel, or 0 for a straight arrow.
-pub fn bend(xs: &[f64], ys: &[f64], c: Chord, both_ways: bool) -> f64
+fn bend(xs: &[f64], ys: &[f64], c: Chord, both_ways: bool) -> f64
     requires { ⌜ length (now ys) ≡ length (now xs) ⌝ }
     requires { ⌜ length (now xs) ≤ 64 ⌝ }
     ensures { λ r. ⌜ r ≡ B.bend c (centres (now (xs .entry)) (now (ys .entry))) «both_ways» ⌝ }
@@ -246,7 +246,7 @@ fn bowed(c: Chord, h: f64) -> Routed
     }
 }
 
-fn drawn(c: Chord, h: f64) -> Routed
+fn with_bow(c: Chord, h: f64) -> Routed
     ensures { λ r. ⌜ r ≡ W.withBow c h ⌝ }
 {
     if h == 0.0 {
@@ -265,7 +265,7 @@ pub fn between(xs: &[f64], ys: &[f64], from: usize, to: usize, both_ways: bool) 
 {
     let c = free::chord_of(xs, ys, from, to);
     let h = bend(xs, ys, c, both_ways);
-    drawn(c, h)
+    with_bow(c, h)
 }
 
 fn arrow_leads(source: usize, target: usize, a: usize, b: usize) -> bool

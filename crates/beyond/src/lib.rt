@@ -10,7 +10,7 @@ ghost use Rattle.curves.specs.Steps.{Ready, arrowBy};
 ghost use Rattle.beyond.specs.Beyond as S;
 
 // Whether the first free bow of a two-way pair along c exceeds 10^9.
-pub fn pair_beyond(xs: &[f64], ys: &[f64], c: Chord) -> bool
+fn pair_beyond(xs: &[f64], ys: &[f64], c: Chord) -> bool
     requires { ⌜ (length (now ys) ≡ length (now xs)) × (length (now xs) ≤ 64) ⌝ }
     ensures { λ r. ⌜ r ≡ S.pairBeyond c (centres (now (xs .entry)) (now (ys .entry))) ⌝ }
 {

@@ -13,11 +13,11 @@ ghost use Rattle.cases.specs.Payload.{wordAt, longAt};
 ghost use Rattle.call_cases.specs.Cases as S;
 use calls::Counted;
 use cases::byte;
-use cases::fill;
+use cases::fill_floats;
 use cases::fill_sizes;
 use cases::float;
+use cases::index;
 use cases::long;
-use cases::place;
 use cases::same;
 use cases::same_float;
 use label::Sized;
@@ -113,7 +113,7 @@ fn numbers_in(p: &[u8], at: usize, n: usize, out: &[f64]) -> bool
         return false;
     }
     let mut numbers = [0.0f64; 5120];
-    fill(p, at, &mut numbers);
+    fill_floats(p, at, &mut numbers);
     numbers_stand(out, &numbers[..n])
 }
 
@@ -150,7 +150,7 @@ fn sized_is(s: Sized, answer: u8, rest: &[u8]) -> bool
 fn label_agrees(answer: u8, text: &[u8], rest: &[u8]) -> bool
     ensures { λ r. ⌜ r ≡ S.labelAgrees answer (now (text .entry)) (now (rest .entry)) ⌝ }
 {
-    let lines = place(rest, 0);
+    let lines = index(rest, 0);
     if lines > 16 {
         return false;
     }
@@ -194,7 +194,7 @@ fn number_is(answer: u8, v: f64, room: usize, text: &[u8], out: &mut [u8]) -> bo
 fn number_agrees(answer: u8, rest: &[u8]) -> bool
     ensures { λ r. ⌜ r ≡ S.numberAgrees answer (now (rest .entry)) ⌝ }
 {
-    let room = place(rest, 8);
+    let room = index(rest, 8);
     if room > 64 {
         return false;
     }
@@ -233,7 +233,7 @@ fn list_is(answer: u8, by: u8, sheet: &[u8], room: usize, text: &[u8], out: &mut
 fn list_agrees(answer: u8, by: u8, sheet: &[u8], rest: &[u8]) -> bool
     ensures { λ r. ⌜ r ≡ S.listAgrees answer by (now (sheet .entry)) (now (rest .entry)) ⌝ }
 {
-    let room = place(rest, 0);
+    let room = index(rest, 0);
     if rest.len() < 2 {
         return false;
     }
@@ -260,7 +260,7 @@ fn layout_in(sheet: &[u8], by: u8, nx: usize, ny: usize, xs: &mut [f64], ys: &mu
 fn laid_is(rest: &[u8], n: usize, w: f64, h: f64) -> bool
     ensures { λ r. ⌜ r ≡ S.laidIs (now (rest .entry)) (n, w, h) ⌝ }
 {
-    if n != place(rest, 4) {
+    if n != index(rest, 4) {
         return false;
     }
     if !same_float(rest, 6, w) {
@@ -282,8 +282,8 @@ fn layout_is(answer: u8, by: u8, sheet: &[u8], rest: &[u8], xs: &mut [f64], ys: 
     requires { ⌜ (16 + wordAt (now rest) 0 ≤ length (now xs)) × (16 + wordAt (now rest) 2 ≤ length (now ys)) ⌝ }
     ensures { λ r. ⌜ r ≡ S.layoutIs answer by (now (sheet .entry)) (now (rest .entry)) (now (xs .entry)) (now (ys .entry)) ⌝ }
 {
-    let n = place(rest, 4);
-    let l = layout_in(sheet, by, place(rest, 0), place(rest, 2), xs, ys);
+    let n = index(rest, 4);
+    let l = layout_in(sheet, by, index(rest, 0), index(rest, 2), xs, ys);
     if !laid_out_is(l, answer, rest) {
         return false;
     }
@@ -296,10 +296,10 @@ fn layout_is(answer: u8, by: u8, sheet: &[u8], rest: &[u8], xs: &mut [f64], ys: 
 fn layout_agrees(answer: u8, by: u8, sheet: &[u8], rest: &[u8]) -> bool
     ensures { λ r. ⌜ r ≡ S.layoutAgrees answer by (now (sheet .entry)) (now (rest .entry)) ⌝ }
 {
-    if place(rest, 0) > 128 {
+    if index(rest, 0) > 128 {
         return false;
     }
-    if place(rest, 2) > 128 {
+    if index(rest, 2) > 128 {
         return false;
     }
     let mut xs = [UNSET; 160];
@@ -365,8 +365,8 @@ fn route_is(
         (now (text .entry)) (now (records .entry)) (now (out .entry))
         ⌝ }
 {
-    let n = place(rest, 4);
-    let r = route_in(sheet, xs, ys, place(rest, 0), place(rest, 2), records, out);
+    let n = index(rest, 4);
+    let r = route_in(sheet, xs, ys, index(rest, 0), index(rest, 2), records, out);
     if !routed_is(r, answer, n, text) {
         return false;
     }
@@ -379,11 +379,11 @@ fn route_is(
 fn route_agrees(answer: u8, sheet: &[u8], xs: &[f64], ys: &[f64], rest: &[u8]) -> bool
     ensures { λ r. ⌜ r ≡ S.routeAgrees answer (now (sheet .entry)) (now (xs .entry)) (now (ys .entry)) (now (rest .entry)) ⌝ }
 {
-    let end = 6 + 8 * place(rest, 4);
-    if place(rest, 0) > 5200 {
+    let end = 6 + 8 * index(rest, 4);
+    if index(rest, 0) > 5200 {
         return false;
     }
-    if place(rest, 2) > 25700 {
+    if index(rest, 2) > 25700 {
         return false;
     }
     if rest.len() < end {
@@ -438,8 +438,8 @@ fn drawn_agrees(kind: u8, answer: u8, sheet: &[u8], xs: &[f64], ys: &[f64], rest
 fn at_centres(kind: u8, answer: u8, sheet: &[u8], rest: &[u8]) -> bool
     ensures { λ r. ⌜ r ≡ S.atCentres kind answer (now (sheet .entry)) (now (rest .entry)) ⌝ }
 {
-    let nx = place(rest, 0);
-    let ny = place(rest, 2);
+    let nx = index(rest, 0);
+    let ny = index(rest, 2);
     let end = 4 + 8 * nx + 8 * ny;
     if nx > 80 {
         return false;
@@ -452,8 +452,8 @@ fn at_centres(kind: u8, answer: u8, sheet: &[u8], rest: &[u8]) -> bool
     }
     let mut xs = [0.0f64; 80];
     let mut ys = [0.0f64; 80];
-    fill(rest, 4, &mut xs);
-    fill(rest, 4 + 8 * nx, &mut ys);
+    fill_floats(rest, 4, &mut xs);
+    fill_floats(rest, 4 + 8 * nx, &mut ys);
     drawn_agrees(kind, answer, sheet, &xs[..nx], &ys[..ny], &rest[end..])
 }
 

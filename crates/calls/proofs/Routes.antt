@@ -34,8 +34,8 @@ module _ (s : List ℕ) (xs ys : List Float) where
 
   module _ (records : List Float) (text : List ℕ) where
     -- r is answered, and a and b stand in the lent slices
-    abbrev pub Routes : RouteAnswer → List Float → List ℕ → Type 0
-    Routes r a b =
+    abbrev pub RouteLeaves : RouteAnswer → List Float → List ℕ → Type 0
+    RouteLeaves r a b =
         (routedAs r ≡ route s xs ys (length records) (length text))
         × (a ≡ recordsAfter s xs ys records (length text))
         × (b ≡ textAfter s xs ys (length records) text)
@@ -43,16 +43,16 @@ module _ (s : List ℕ) (xs ys : List Float) where
     abbrev filling : List Refusal
     filling = fillRefusals (numbersOf (drawnOf s xs ys)) (drawnOf s xs ys) (length records) (length text)
 
-    pub route-refused : (n : ℕ) → P.Refused n ≡ drawOf mainScreen s xs ys → Routes (D.Refused n) records text
+    pub call-refused : (n : ℕ) → P.Refused n ≡ drawOf mainScreen s xs ys → RouteLeaves (D.Refused n) records text
     unfolding route recordsAfter textAfter
-    route-refused n e =
+    call-refused n e =
         let f : First drawing n = draw-stopped drawing (length (drawnOf s xs ys)) n e in
         (sym (first-joined number _ drawing filling n f), sym (first-joined (λ m. records) _ drawing filling n f), sym (first-joined (λ m. text) _ drawing filling n f))
 
-    pub route-drawn : (count : ℕ) (slice : List Float) → DrawingHeld s xs ys count slice → (r : RouteAnswer) (a : List Float) (b : List ℕ)
-        → FilledInto (take (20 * count) slice) (decodeRecords count slice) records text r a b → Routes r a b
+    pub call-drawn : (count : ℕ) (slice : List Float) → DrawingHeld s xs ys count slice → (r : RouteAnswer) (a : List Float) (b : List ℕ)
+        → FilledInto (take (20 * count) slice) (decodeRecords count slice) records text r a b → RouteLeaves r a b
     unfolding route recordsAfter textAfter
-    route-drawn count slice h r a b f =
+    call-drawn count slice h r a b f =
         let gs = drawnOf s xs ys in
         let g : FilledInto (numbersOf gs) gs records text r a b = rw (h .numbers, h .decoded) at f in (
           ap routedAs (g .0) ∙ decide-map routedAs filling D.Refused (D.Lengths (length (numbersOf gs)) (length (pathsText gs))) ∙ sym (clear-joined number _ drawing filling (h .clear)),

@@ -19,19 +19,19 @@ module _ {A : Type 0} where
 
   module _ (rs : List Refusal) (a : A) where
     -- Each number is given under its cause only, and whenever no earlier cause holds.
-    pub given-exactly : (n : ℕ) → (decide rs number (values a) ≡ number n → First rs n) × (First rs n → decide rs number (values a) ≡ number n)
-    given-exactly n = Refusals.given-exactly number (values a) numbers (apart a) rs n
+    pub number-exactly : (n : ℕ) → (decide rs number (values a) ≡ number n → First rs n) × (First rs n → decide rs number (values a) ≡ number n)
+    number-exactly n = Refusals.given-exactly number (values a) numbers (apart a) rs n
 
     -- The values are given exactly where no cause holds.
-    pub answered-exactly : (decide rs number (values a) ≡ values a → Clear rs) × (Clear rs → decide rs number (values a) ≡ values a)
-    answered-exactly = Refusals.answered-exactly number (values a) numbers (apart a) rs
+    pub values-exactly : (decide rs number (values a) ≡ values a → Clear rs) × (Clear rs → decide rs number (values a) ≡ values a)
+    values-exactly = Refusals.answered-exactly number (values a) numbers (apart a) rs
 
     -- Refused, everything is as it was.
     pub refused-keeps : {B : Type 0} (n : ℕ) (kept new : B) → decide rs number (values a) ≡ number n → decide rs (λ m. kept) new ≡ kept
-    refused-keeps n kept new e = first-decides (λ m. kept) new rs n (given-exactly n .0 e)
+    refused-keeps n kept new e = first-decides (λ m. kept) new rs n (number-exactly n .0 e)
 
     pub refused-first : (n : ℕ) → number n ≡ decide rs number (values a) → First rs n
-    refused-first n e = given-exactly n .0 (sym e)
+    refused-first n e = number-exactly n .0 (sym e)
 
     -- no other values than those
     pub answered-clear : (b : A) → values b ≡ decide rs number (values a) → Clear rs × (b ≡ a)

@@ -16,7 +16,7 @@ use Rattle.clutter.specs.Clutter.{clutterOf}
 use Rattle.drawing_text.specs.Lines.{pathsText}
 use Rattle.draw.specs.Drawn.{drawRefusals}
 use Rattle.calls.specs.Calls.{Outcome, values, number, mainScreen, check, labelSize, numRefusals, writeNum, writeNumAfter, drawnOf, numbersOf, routeRefusals, route, recordsAfter, textAfter, clutter, layoutFor, layoutRefusals, layout, xsAfter, ysAfter, listing, listRefusals, list, listAfter}
-use Rattle.calls.specs.Decided.{given-exactly, answered-exactly, refused-keeps}
+use Rattle.calls.specs.Decided.{number-exactly, values-exactly, refused-keeps}
 
 -- ---- "Order: 11, 1, 2, 4, 3, 5, 6, 8, 9, 10, 7": of these a call has those that it can meet, each with its cause
 
@@ -53,7 +53,7 @@ pub record GivenExactly {A : Type 0} (rs : List Refusal) (a : A) (r : Outcome A)
   pub answer : (r ≡ values a → Clear rs) × (Clear rs → r ≡ values a)
 
 answered : {A : Type 0} (rs : List Refusal) (a : A) → GivenExactly rs a (decide rs number (values a))
-answered rs a = record { numbers = given-exactly rs a; answer = answered-exactly rs a }
+answered rs a = record { numbers = number-exactly rs a; answer = values-exactly rs a }
 
 pub check-answered : (s : List ℕ) → GivenExactly (refusals mainScreen s) tt (check s)
 unfolding check

@@ -4,6 +4,7 @@ use number::Written;
 pub use outputs::LaidOut;
 pub use outputs::RouteAnswer;
 use plan::Planned;
+use records::RECORD_NUMBERS;
 ghost use mathlib.Core.Path.{_≡_};
 ghost use lib.ListN.{length};
 ghost use Rattle.sheet.specs.Sheet.{statesOf};
@@ -60,11 +61,11 @@ pub fn route(
         × (now (records .exit) ≡ S.recordsAfter s x y (now (records .entry)) textRoom)
         × (now (text .exit) ≡ S.textAfter s x y recordRoom (now (text .entry))) ⌝ }
 {
-    let mut drawing = [0.0f64; 5120];
+    let mut drawing = [0.0f64; RECORD_NUMBERS * 256];
     let drawn = draw::draw(sheet, xs, ys, &mut drawing);
     match drawn {
         Drawing::Refused(n) => RouteAnswer::Refused(n),
-        Drawing::Records(count) => outputs::fill(&drawing, count, records, text),
+        Drawing::Records(count) => outputs::write_route(&drawing, count, records, text),
     }
 }
 
@@ -74,7 +75,7 @@ pub fn route(
 pub fn clutter(sheet: &[u8], xs: &[f64], ys: &[f64]) -> Counted
     ensures { λ r. ⌜ S.countedAs r ≡ S.clutter (now (sheet .entry)) (now (xs .entry)) (now (ys .entry)) ⌝ }
 {
-    let mut drawing = [0.0f64; 5120];
+    let mut drawing = [0.0f64; RECORD_NUMBERS * 256];
     let drawn = draw::draw(sheet, xs, ys, &mut drawing);
     match drawn {
         Drawing::Refused(n) => Counted::Refused(n),
@@ -101,7 +102,7 @@ pub fn layout(sheet: &[u8], kind: u8, xs: &mut [f64], ys: &mut [f64]) -> LaidOut
     let planned = plan::plan(sheet, kind, &mut across, &mut down);
     match planned {
         Planned::Refused(n) => LaidOut::Refused(n),
-        Planned::Size(n, width, height) => outputs::place(
+        Planned::Size(n, width, height) => outputs::write_layout(
             &across[..n],
             &down[..n],
             width,
@@ -136,7 +137,7 @@ fn list_by(
         × (now (out .exit) ≡ F.listedAfter s width height x y (now (out .entry))) ⌝ }
 {
     meaning::flags_into(sheet, flags);
-    let mut drawing = [0.0f64; 5120];
+    let mut drawing = [0.0f64; RECORD_NUMBERS * 256];
     let drawn = draw::draw(sheet, xs, ys, &mut drawing);
     match drawn {
         Drawing::Refused(n) => Written::Refused(n),

@@ -57,7 +57,7 @@ module _ {A : Type 0} (w : ℕ) (read : ℕ → A) where
   each-length at zero = refl
   each-length at (suc n) = ap suc (each-length (after at w) n)
 
-  -- a loop that has read k of n: its start, a turn, and its end
+  -- a loop that has read k of n: its start, a step, and its end
   pub each-start : (from n : ℕ) → each w read from (n - 0) ≡ each w read from n
   each-start from n = let e : n - 0 ≡ n = omega arith in rw e
 

@@ -1,6 +1,7 @@
 // Reading the cases that the program `vectors` compares. A case's payload is a slice of bytes; a
 // read past its end gives 0, so a payload that is too short is found by its length, not here.
-
+use root::INFINITY_BITS;
+use root::SIGN;
 ghost use mathlib.Core.Path.{_≡_};
 ghost use Prim.Native.Nat.{_<_};
 ghost use lib.Ieee.{binary64, ofBits};
@@ -55,7 +56,7 @@ pub fn bits(p: &[u8], at: usize) -> u64
 }
 
 // The number in the two bytes from a place on, for a place in a slice.
-pub fn place(p: &[u8], at: usize) -> usize
+pub fn index(p: &[u8], at: usize) -> usize
     ensures { λ r. ⌜ (r ≡ S.wordAt (now (p .entry)) at) × (r < 65536) ⌝ }
 {
     low(byte(p, at)) + 256 * low(byte(p, after(at, 1)))
@@ -72,7 +73,7 @@ fn size(p: &[u8], at: usize) -> usize
 fn of_bits(b: u64) -> f64
     ensures { λ r. ⌜ r ≡ ofBits binary64 b ⌝ }
 {
-    if b % 9223372036854775808 > 9218868437227405312 {
+    if b % SIGN > INFINITY_BITS {
         return 0.0 / 0.0;
     }
     f64::from_bits(b)
@@ -86,7 +87,7 @@ pub fn float(p: &[u8], at: usize) -> f64
 }
 
 // The floats from a place on, as many as `out` holds.
-pub fn fill(p: &[u8], at: usize, out: &mut [f64])
+pub fn fill_floats(p: &[u8], at: usize, out: &mut [f64])
     ensures { λ _. ⌜ now (out .exit) ≡ S.floatsAt (now (p .entry)) at (length (now (out .entry))) ⌝ }
 {
     let mut k = 0;

@@ -35,7 +35,7 @@ fn radius(n: usize, label: f64) -> f64
 }
 
 // The place of state i, counted from the start state.
-fn place(n: usize, start: usize, i: usize) -> usize
+fn ring_place(n: usize, start: usize, i: usize) -> usize
     requires { ⌜ (n ≤ 64) × (start < n) × (i < n) ⌝ }
     ensures { λ r. ⌜ (r ≡ S.ringPlace n start i) × (r < n) ⌝ }
 {
@@ -43,7 +43,7 @@ fn place(n: usize, start: usize, i: usize) -> usize
 }
 
 // The direction of place k.
-fn angle(n: usize, k: usize) -> f64
+fn place_angle(n: usize, k: usize) -> f64
     requires { ⌜ (n ≤ 64) × (k < n) ⌝ }
     ensures { λ r. ⌜ r ≡ S.placeAngle n k ⌝ }
 {
@@ -61,7 +61,7 @@ fn fill(start: usize, r: f64, xs: &mut [f64], ys: &mut [f64])
     let n = xs.len();
     let mut i: usize = 0;
     while i < n {
-        let a = angle(n, place(n, start, i));
+        let a = place_angle(n, ring_place(n, start, i));
         xs[i] = r * float::cos(a);
         ys[i] = r * float::sin(a);
         i += 1;

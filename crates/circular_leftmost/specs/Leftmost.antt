@@ -16,11 +16,12 @@ use Rattle.laws.specs.Cases.{by-bool, by-lt}
 use Rattle.laws.specs.Tables.{table-at}
 use Rattle.float.specs.Constants.{f1, f2, f20, f24, π, nodeRadius, circleGap}
 use Rattle.float.specs.Ops.{_⊕_, _⊗_, _⊘_, neg, lt, ofNat, sameBits}
-use Rattle.float.specs.Standins.{negative, clamp, sin, cos}
+use Rattle.float.specs.Standins.{negative, clamp, reduced, cosineDivisor, series, sin, cos}
 use Rattle.float.specs.Sizes.{round-form, sizes-ordered, signs-apart, form-unsigned}
 use Rattle.circular.specs.Ring.{ringChord, radius, ringPlace, placeAngle, cosAt, aroundRing, ringed, circularXs}
 use Rattle.circular.specs.Places.{place-below, start-left}
-use Rattle.circular_leftmost.specs.Tests.{allBelow, allFrom, notLeft, oddRing, oddPlaces, evenPlaces, radiusUpward, sines, odd-ring-0, odd-ring-14, odd-ring-19, odd-ring-23, odd-ring-27, odd-ring-30, odd-places-0, odd-places-20, odd-places-28, even-places-0, even-places-25}
+use Rattle.circular_leftmost.specs.Bound.{gentle, gentle-above}
+use Rattle.circular_leftmost.specs.Tests.{allBelow, allFrom, keepsRight, notLeft, oddRing, oddPlaces, evenPlaces, radiusUpward, sines, odd-ring-0, odd-ring-20, odd-ring-27, odd-places-0, odd-places-27, even-places-0, even-places-25}
 
 -- ---- a factor that is not negative keeps what is not below -1 at or above its product with -1
 
@@ -108,18 +109,14 @@ from-at p n a m t h k = let e : a + (n - a) ≡ n = omega arith in subst (λ (j 
 
 odd-ring : (h : ℕ) → h < 32 → T (oddRing h)
 odd-ring h l =
-    by-lt h 14 (λ (u : h < 14). from-at oddRing h 0 14 odd-ring-0 (omega arith) (omega arith)) (λ (g14 : 14 ≤ h).
-    by-lt h 19 (λ (u : h < 19). from-at oddRing h 14 5 odd-ring-14 (omega arith) (omega arith)) (λ (g19 : 19 ≤ h).
-    by-lt h 23 (λ (u : h < 23). from-at oddRing h 19 4 odd-ring-19 (omega arith) (omega arith)) (λ (g23 : 23 ≤ h).
-    by-lt h 27 (λ (u : h < 27). from-at oddRing h 23 4 odd-ring-23 (omega arith) (omega arith)) (λ (g27 : 27 ≤ h).
-    by-lt h 30 (λ (u : h < 30). from-at oddRing h 27 3 odd-ring-27 (omega arith) (omega arith)) (λ (g30 : 30 ≤ h).
-    from-at oddRing h 30 2 odd-ring-30 (omega arith) (omega arith))))))
+    by-lt h 20 (λ (u : h < 20). from-at oddRing h 0 20 odd-ring-0 (omega arith) (omega arith)) (λ (g20 : 20 ≤ h).
+    by-lt h 27 (λ (u : h < 27). from-at oddRing h 20 7 odd-ring-20 (omega arith) (omega arith)) (λ (g27 : 27 ≤ h).
+    from-at oddRing h 27 5 odd-ring-27 (omega arith) (omega arith)))
 
 odd-places : (h : ℕ) → h ≤ 32 → T (oddPlaces h)
 odd-places h l =
-    by-lt h 20 (λ (u : h < 20). from-at oddPlaces h 0 20 odd-places-0 (omega arith) (omega arith)) (λ (g20 : 20 ≤ h).
-    by-lt h 28 (λ (u : h < 28). from-at oddPlaces h 20 8 odd-places-20 (omega arith) (omega arith)) (λ (g28 : 28 ≤ h).
-    from-at oddPlaces h 28 5 odd-places-28 (omega arith) (omega arith)))
+    by-lt h 27 (λ (u : h < 27). from-at oddPlaces h 0 27 odd-places-0 (omega arith) (omega arith)) (λ (g27 : 27 ≤ h).
+    from-at oddPlaces h 27 6 odd-places-27 (omega arith) (omega arith))
 
 even-places : (h : ℕ) → h ≤ 32 → T (evenPlaces h)
 even-places h l =
@@ -144,8 +141,8 @@ not-left (suc fuel) n k f l h =
     by-lt (k % 2) 1
     (λ (o : k % 2 < 1).
     let b : 2 * (k / 2) ≡ k = omega arith in
-    let p : cosAt (2 * (n / 2)) (2 * (k / 2)) ≡ cosAt (n / 2) (k / 2) = ap cos (even-angle (n / 2) (k / 2) (omega arith) (omega arith)) in
-    let q : T (notLeft (2 * (n / 2)) (2 * (k / 2))) = subst (λ (c : Float). T (not (lt c (neg f1)))) (sym p) (not-left fuel (n / 2) (k / 2) (omega arith) (omega arith) (omega arith)) in
+    let p : placeAngle (2 * (n / 2)) (2 * (k / 2)) ≡ placeAngle (n / 2) (k / 2) = even-angle (n / 2) (k / 2) (omega arith) (omega arith) in
+    let q : T (notLeft (2 * (n / 2)) (2 * (k / 2))) = subst (λ (a : Float). T (keepsRight a)) (sym p) (not-left fuel (n / 2) (k / 2) (omega arith) (omega arith) (omega arith)) in
     subst (λ (j : ℕ). T (notLeft n j)) b (subst (λ (i : ℕ). T (notLeft i (2 * (k / 2)))) a q))
     (λ (o : 1 ≤ k % 2).
     let b : 2 * (k / 2) + 1 ≡ k = omega arith in
@@ -155,9 +152,16 @@ not-left (suc fuel) n k f l h =
     let a : 2 * (n / 2) + 1 ≡ n = omega arith in
     subst (λ (i : ℕ). T (notLeft i k)) a (below-at (notLeft (2 * (n / 2) + 1)) (2 * (n / 2) + 1) (odd-ring (n / 2) (omega arith)) k (omega arith)))
 
+-- what the tests say of an angle
+angle-above : (a : Float) → T (keepsRight a) → lt (cos a) (neg f1) ≡ false
+unfolding cos
+angle-above a t =
+    let r = reduced a in
+    by-bool (gentle (r ⊗ r)) (λ g. gentle-above (r ⊗ r) g) (λ g. denied (lt (series cosineDivisor (r ⊗ r)) (neg f1)) (rw g at t))
+
 -- no cosine on the ring is below -1
 pub cos-above : (n k : ℕ) → n ≤ 64 → k < n → lt (cosAt n k) (neg f1) ≡ false
-cos-above n k l h = denied (lt (cosAt n k) (neg f1)) (not-left n n k (omega arith) l h)
+cos-above n k l h = angle-above (placeAngle n k) (not-left n n k (omega arith) l h)
 
 pub radius-unsigned : (n : ℕ) (label : Float) → n ≤ 64 → negative (radius n label) ≡ false
 radius-unsigned n label l =

@@ -8,11 +8,10 @@ use Rattle.laws.specs.Counting.{worth}
 use Rattle.laws.specs.Flat.{table, table-more}
 use Rattle.laws.specs.Any.{anyOf, any-join}
 use Rattle.shape.specs.declared.«V».{«V»}
-use Rattle.trace.specs.Traces.{Owner, Trace, ownerOf, traceOf}
+use Rattle.trace.specs.Traces.{Owner, Trace, ownerOf, traceOf, struck}
 use Rattle.trace.specs.Forms.{owner-arrow}
 use Rattle.label_spots.specs.declared.Geometry.{Geometry}
 use Rattle.records.specs.Back.{Small}
-use Rattle.scene.specs.Scene.{struck}
 use Rattle.clutter.specs.Clutter.{recordTrace, crossings, near24, labelOver, collides, collisions, clutterOf}
 use Rattle.clutter.specs.Steps.{small-at}
 

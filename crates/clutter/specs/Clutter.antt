@@ -11,11 +11,11 @@ use Rattle.float.specs.Constants.{f2, nodeRadius}
 use Rattle.shape.specs.declared.«V».{«V»}
 use Rattle.shape.specs.declared.Rect.{Rect}
 use Rattle.shape.specs.Plane.{boxDist}
-use Rattle.trace.specs.Traces.{Trace, arrow, traceOf, crosses}
+use Rattle.trace.specs.Traces.{Trace, arrow, traceOf, crosses, struck}
 use Rattle.trace.specs.Form.{decodeTrace}
 use Rattle.label_spots.specs.declared.Geometry.{Geometry}
 use Rattle.records.specs.Records.{decodeGeometry}
-use Rattle.scene.specs.Scene.{overlapping, struck}
+use Rattle.scene.specs.Scene.{overlapping}
 
 -- ---- pairs of arrows
 

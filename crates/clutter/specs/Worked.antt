@@ -16,10 +16,9 @@ use Rattle.shape.specs.declared.Rect.{Rect}
 use Rattle.shape.specs.declared.Curve.the-variants.{Line}
 use Rattle.shape.specs.Plane.{vec, rect, overlaps, touches, spanning, outside, extended}
 use Rattle.shape.specs.Clipping.{test, side, meets, segmentHitsRect, segmentsCross}
-use Rattle.trace.specs.Traces.{traceOf, samples, boundsOf, foreign, anySegment, hitsRect, pairCross, segmentCrosses, crosses}
+use Rattle.trace.specs.Traces.{traceOf, samples, boundsOf, foreign, anySegment, hitsRect, pairCross, segmentCrosses, crosses, struck}
 use Rattle.label_spots.specs.declared.Anchor.the-variants.{Start}
 use Rattle.label_spots.specs.declared.Geometry.{Geometry}
-use Rattle.scene.specs.Scene.{struck}
 use Rattle.clutter.specs.Clutter.{crossings, near24, collides, collisions, clutterOf}
 
 abbrev point : ℕ → ℕ → «V»

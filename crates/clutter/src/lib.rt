@@ -3,6 +3,7 @@
 use shape::NODE_RADIUS;
 use shape::Rect;
 use shape::V;
+use trace::TRACE_NUMBERS;
 ghost use mathlib.Core.Path.{_≡_};
 ghost use mathlib.Core.List.{[], _++_, map};
 ghost use Prim.Native.Nat.{_+_, _-_, _*_, _≤_, _<_};
@@ -11,15 +12,14 @@ ghost use Rattle.laws.specs.Counting.{howMany, worth};
 ghost use Rattle.laws.specs.Flat.{part};
 ghost use Rattle.laws.specs.Any.{anyOf};
 ghost use Rattle.shape.specs.Centres.{centres};
-ghost use Rattle.trace.specs.Traces.{crosses};
+ghost use Rattle.trace.specs.Traces.{crosses, struck};
 ghost use Rattle.trace.specs.Form.{decodeTrace, decodeTraces};
 ghost use Rattle.records.specs.Records.{decodeGeometry, decodeRecords};
 ghost use Rattle.records.specs.Back.{Small};
-ghost use Rattle.scene.specs.Scene.{struck};
 ghost use Rattle.clutter.specs.Clutter as S;
 
-// The square of the distance below which a state is too near to a label.
-const NEAR_SQUARED: f64 = (NODE_RADIUS + 2.0) * (NODE_RADIUS + 2.0);
+// The square of the distance below which a state is too near to a label that is drawn.
+const NEAR24_SQUARED: f64 = (NODE_RADIUS + 2.0) * (NODE_RADIUS + 2.0);
 
 // ---- traces
 
@@ -50,11 +50,7 @@ fn cross_add(traces: &[f64], i: usize, j: usize) -> usize
         let other = decodeTrace (part 40 j (now (traces .entry))) in
         ⌜ (r ≡ worth (crosses one) 1 other) × (r ≤ 1) ⌝ }
 {
-    let a = 40 * i;
-    let b = 40 * j;
-    let a_end = a + 40;
-    let b_end = b + 40;
-    if trace::crosses(&traces[a..a_end], &traces[b..b_end]) {
+    if trace::crosses_at(traces, i, j) {
         return 1;
     }
     0
@@ -100,7 +96,7 @@ fn crossings(traces: &[f64], n: usize) -> usize
 fn near24(b: Rect, c: V) -> bool
     ensures { λ r. ⌜ r ≡ S.near24 b c ⌝ }
 {
-    b.dist_squared(c) < NEAR_SQUARED
+    b.dist_squared(c) < NEAR24_SQUARED
 }
 
 fn any_state(xs: &[f64], ys: &[f64], b: Rect) -> bool
@@ -109,7 +105,7 @@ fn any_state(xs: &[f64], ys: &[f64], b: Rect) -> bool
 {
     let mut k: usize = 0;
     while k < xs.len() {
-        if near24(b, V { x: xs[k], y: ys[k] }) {
+        if near24(b, shape::centre(xs, ys, k)) {
             return true;
         }
         k += 1;
@@ -117,26 +113,11 @@ fn any_state(xs: &[f64], ys: &[f64], b: Rect) -> bool
     false
 }
 
-// The label's box of the record in twenty numbers.
-fn label_of(part: &[f64]) -> Rect
-    requires { ⌜ 20 ≤ length (now part) ⌝ }
-    ensures { λ r. ⌜ r ≡ decodeGeometry (now (part .entry)) .«label_box» ⌝ }
-{
-    Rect {
-        x0: part[16],
-        y0: part[17],
-        x1: part[18],
-        y1: part[19],
-    }
-}
-
 fn label_over(records: &[f64], k: usize, b: Rect) -> bool
     requires { ⌜ 20 * k + 20 ≤ length (now records) ⌝ }
     ensures { λ r. ⌜ r ≡ S.labelOver b (decodeGeometry (part 20 k (now (records .entry)))) ⌝ }
 {
-    let at = 20 * k;
-    let end = at + 20;
-    let o = label_of(&records[at..end]);
+    let o = records::label_box_at(records, k);
     o.overlaps(b)
 }
 
@@ -157,26 +138,15 @@ fn any_label(records: &[f64], from: usize, n: usize, b: Rect) -> bool
     false
 }
 
-// Whether the trace is not the arrow's own and hits the box.
-fn strikes(t: &[f64], own: usize, b: Rect) -> bool
-    requires { ⌜ 40 ≤ length (now t) ⌝ }
-    ensures { λ r. ⌜ r ≡ struck own b (decodeTrace (now (t .entry))) ⌝ }
-{
-    if trace::reaches(t, b) {
-        if trace::foreign(t, own) {
-            return trace::hits_rect(t, b);
-        }
-    }
-    false
-}
-
-fn strikes_at(traces: &[f64], k: usize, own: usize, b: Rect) -> bool
+// Whether trace k is foreign and meets the box; its bounds are tested first.
+fn strikes(traces: &[f64], k: usize, own: usize, b: Rect) -> bool
     requires { ⌜ 40 * k + 40 ≤ length (now traces) ⌝ }
     ensures { λ r. ⌜ r ≡ struck own b (decodeTrace (part 40 k (now (traces .entry)))) ⌝ }
 {
-    let at = 40 * k;
-    let end = at + 40;
-    strikes(&traces[at..end], own, b)
+    if trace::reaches_at(traces, k, b) {
+        return trace::strikes_at(traces, k, own, b);
+    }
+    false
 }
 
 fn any_trace(traces: &[f64], n: usize, own: usize, b: Rect) -> bool
@@ -186,7 +156,7 @@ fn any_trace(traces: &[f64], n: usize, own: usize, b: Rect) -> bool
     let mut k: usize = 0;
     let mut left = n;
     while 0 < left {
-        if strikes_at(traces, k, own, b) {
+        if strikes(traces, k, own, b) {
             return true;
         }
         k += 1;
@@ -265,7 +235,7 @@ pub fn clutter(xs: &[f64], ys: &[f64], records: &[f64], count: usize) -> usize
         let nodes = centres (now (xs .entry)) (now (ys .entry)) in
         ⌜ r ≡ S.clutterOf nodes drawn ⌝ }
 {
-    let mut traces = [0.0f64; 10240];
+    let mut traces = [0.0f64; 256 * TRACE_NUMBERS];
     fill_traces(records, count, &mut traces);
     let pairs = crossings(&traces, count);
     let labels = collisions(xs, ys, records, &traces, count);

@@ -123,9 +123,9 @@ module _ (n : ℕ) (arrows : List EndPair) (start : ℕ) where
   times-all v = ap (times v) all-states ∙ times-join v (concat (reached n arrows start)) (unreached n (concat (reached n arrows start)))
 
   -- each of the states stands in the columns exactly once
-  pub once : (v : ℕ) → v < n → times v (concat (columns n arrows start)) ≡ 1
+  pub column-once : (v : ℕ) → v < n → times v (concat (columns n arrows start)) ≡ 1
   unfolding unreached
-  once v h =
+  column-once v h =
       let f : List ℕ = concat (reached n arrows start) in
       by-bool (elem v f)
       (λ t. omega (arith, times-all v, reached-single n arrows start v, times-some v f t, none-of (isNew f) v (ap not t) 0 n))

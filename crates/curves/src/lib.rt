@@ -61,8 +61,9 @@ pub fn centred(v: &[f64], out: &mut [f64])
 
 // ---- arrows
 
-// Of an arrow between different states: an arc, or straight.
-fn kind_of(shape: Shape) -> usize
+// Of an arrow between different states: an arc, or straight. No such arrow has the shape of a loop; the match wants an
+// answer for it too.
+fn kind_of(shape: Shape) -> u8
     ensures { λ r. ⌜ r ≡ cond (arcShape shape) sortArc sortStraight ⌝ }
 {
     match shape {
@@ -73,7 +74,7 @@ fn kind_of(shape: Shape) -> usize
 }
 
 // The sort of an arrow that does not join two different states.
-fn other_kind(n: usize, a: usize, b: usize) -> usize
+fn other_kind(n: usize, a: usize, b: usize) -> u8
     ensures { λ r. ⌜ r ≡ O.otherKind n a b ⌝ }
 {
     if a < n {
@@ -93,7 +94,7 @@ fn lay_routed(
     b: usize,
     i: usize,
     r: Routed,
-    kinds: &mut [usize],
+    kinds: &mut [u8],
     leaves: &mut [f64],
     reaches: &mut [f64],
     slots: &mut [f64],
@@ -131,7 +132,7 @@ fn lay_crossing(
     a: usize,
     b: usize,
     i: usize,
-    kinds: &mut [usize],
+    kinds: &mut [u8],
     leaves: &mut [f64],
     reaches: &mut [f64],
     slots: &mut [f64],
@@ -183,7 +184,7 @@ fn lay_arrow(
     sources: &[usize],
     targets: &[usize],
     i: usize,
-    kinds: &mut [usize],
+    kinds: &mut [u8],
     leaves: &mut [f64],
     reaches: &mut [f64],
     slots: &mut [f64],
@@ -241,7 +242,7 @@ fn lay_arrows(
     flags: &[u8],
     sources: &[usize],
     targets: &[usize],
-    kinds: &mut [usize],
+    kinds: &mut [u8],
     leaves: &mut [f64],
     reaches: &mut [f64],
     slots: &mut [f64],
@@ -338,7 +339,7 @@ pub fn lay(
     flags: &[u8],
     sources: &[usize],
     targets: &[usize],
-    kinds: &mut [usize],
+    kinds: &mut [u8],
     leaves: &mut [f64],
     reaches: &mut [f64],
     slots: &mut [f64],

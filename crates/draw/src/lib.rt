@@ -88,7 +88,7 @@ fn draw_read(
         ⌜ (r ≡ S.drawAnswer refusals graph (now (xs .entry)) (now (ys .entry)))
         × (now (buf .exit) ≡ S.leftBy refusals graph (now (xs .entry)) (now (ys .entry)) (now (buf .entry))) ⌝ }
 {
-    graph::read(s, flags, sources, targets, widths, heights);
+    graph::read_graph(s, flags, sources, targets, widths, heights);
     if beyond::beyond(flags, sources, targets, xs, ys) {
         return Drawing::Refused(9);
     }

@@ -5,24 +5,25 @@ use mathlib.Core.List.{List, [], _∷_, _++_, append-assoc, append-nil, map, fla
 use Prim.Native.Nat.{ℕ, _+_, _-_, _≤_, _<_}
 use native.Mathlib.Numerals.{add-one}
 use borrow.Author.Tests.{not-true, not-false}
-use lib.Ieee.{Float, nan}
-use lib.ListN.{length, getD, drop}
+use lib.Ieee.{Float}
+use lib.ListN.{length, drop}
 use Rattle.laws.specs.Writers.{Wrote, wrote-as, wrote-more}
-use Rattle.laws.specs.Zip.{zip-drop, zip-past}
+use Rattle.laws.specs.Zip.{zip-past}
 use Rattle.laws.specs.Every.{every, every-join}
 use Rattle.laws.specs.Joined.{flat-join}
 use Rattle.laws.specs.Bools.{and-no, and-yes}
 use Rattle.shape.specs.declared.«V».{«V»}
 use Rattle.shape.specs.Plane.{vec}
-use Rattle.shape.specs.Centres.{centres}
+use Rattle.shape.specs.Centres.{centres, centre}
+use Rattle.shape.specs.CentresFrom.{centres-from}
 use Rattle.label_spots.specs.declared.Geometry.{Geometry}
 use Rattle.drawing_text.specs.Lines.{Field, TextLine, named, listedState, statesFrom, starts, fieldText, fieldsText, bodyText, lineText, linesText, fieldWritable, fieldsWritable, lineWritable, linesWritable, sizeLine, stateLine, startLine, recordLines, listLines, listWritable}
 
 -- ---- the states from state k on
-pub states-front : (xs ys : List Float) (k : ℕ) → length ys ≡ length xs → k < length xs
-    → statesFrom k (drop k (centres xs ys)) ≡ listedState k (vec (getD xs k nan) (getD ys k nan)) ∷ statesFrom (k + 1) (drop (k + 1) (centres xs ys))
+pub states-front : (xs ys : List Float) (k : ℕ) (v : «V») → v ≡ centre (centres xs ys) k → length ys ≡ length xs → k < length xs
+    → statesFrom k (drop k (centres xs ys)) ≡ listedState k v ∷ statesFrom (k + 1) (drop (k + 1) (centres xs ys))
 unfolding statesFrom
-states-front xs ys k h i = rw (zip-drop vec xs ys k nan nan h i, add-one)
+states-front xs ys k v e h i = rw (centres-from xs ys k v e h i, add-one)
 
 pub states-none : (xs ys : List Float) (k : ℕ) → length ys ≡ length xs → length xs ≤ k → statesFrom k (drop k (centres xs ys)) ≡ []
 unfolding statesFrom

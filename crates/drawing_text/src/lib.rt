@@ -225,7 +225,7 @@ fn put_states(out: &mut [u8], at: usize, xs: &[f64], ys: &[f64]) -> usize
 {
     let mut next = at;
     for k in 0..xs.len() {
-        next = put_state_line(out, next, k, V { x: xs[k], y: ys[k] });
+        next = put_state_line(out, next, k, shape::centre(xs, ys, k));
     }
     next
 }
@@ -253,7 +253,7 @@ fn put_starts(out: &mut [u8], at: usize, xs: &[f64], ys: &[f64], flags: &[u8]) -
 {
     let mut next = at;
     for k in 0..xs.len() {
-        next = put_start(out, next, flags[k], k, V { x: xs[k], y: ys[k] });
+        next = put_start(out, next, flags[k], k, shape::centre(xs, ys, k));
     }
     next
 }
@@ -348,7 +348,7 @@ fn states_ok(xs: &[f64], ys: &[f64]) -> bool
         ⌜ r ≡ S.linesWritable (map S.stateLine (S.statesFrom 0 nodes)) ⌝ }
 {
     for k in 0..xs.len() {
-        if !point_ok(V { x: xs[k], y: ys[k] }) {
+        if !point_ok(shape::centre(xs, ys, k)) {
             return false;
         }
     }
@@ -375,7 +375,7 @@ fn starts_ok(xs: &[f64], ys: &[f64], flags: &[u8]) -> bool
         ⌜ r ≡ S.linesWritable (map S.startLine (S.starts (now (flags .entry)) states)) ⌝ }
 {
     for k in 0..xs.len() {
-        if !start_ok(flags[k], k, V { x: xs[k], y: ys[k] }) {
+        if !start_ok(flags[k], k, shape::centre(xs, ys, k)) {
             return false;
         }
     }

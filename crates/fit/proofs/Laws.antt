@@ -7,17 +7,17 @@ use native.Mathlib.Numerals.{add-one}
 use native.Mathlib.Omega.{arith}
 use lib.ListN.{length, getD, drop, drop-of-length-le}
 use lib.Seq.{drop-cons}
-use lib.Ieee.{Float, nan}
+use lib.Ieee.{Float}
 use Rattle.laws.specs.Loops.{over, over-join}
 use Rattle.laws.specs.Flat.{table}
-use Rattle.laws.specs.Zip.{zip-drop}
 use Rattle.float.specs.Constants.{nodeRadius, startArrowLength}
 use Rattle.float.specs.Ops.{_⊕_, _⊖_}
 use Rattle.shape.specs.declared.«V».{«V»}
 use Rattle.shape.specs.declared.Rect.{Rect}
 use Rattle.shape.specs.Plane.{vec, noBounds, extended}
 use Rattle.trace.specs.Traces.{sample, boundsOf}
-use Rattle.shape.specs.Centres.{centres}
+use Rattle.shape.specs.Centres.{centres, centre}
+use Rattle.shape.specs.CentresFrom.{centres-from}
 use Rattle.label_spots.specs.declared.Geometry.{Geometry}
 use Rattle.sheet.specs.Meaning.{isStart}
 use Rattle.fit.specs.Fit.{statePoints, statesPoints, drawnPoints, covered, drawingBounds}
@@ -35,12 +35,12 @@ module _ (b low around r : Rect) (flag : ℕ) (c p q : «V») (ep : p ≡ vec (c
   state-other s = rw (s, f, e, eq, ep)
 
 module _ (flags : List ℕ) (xs ys : List Float) (i : ℕ) (b : Rect) (h : length xs ≡ length flags) (k : length ys ≡ length flags) where
-  pub states-step : (b′ : Rect) → i < length flags → b′ ≡ over extended b (statePoints (getD flags i 0) (vec (getD xs i nan) (getD ys i nan)))
+  pub states-step : (v : «V») (b′ : Rect) → v ≡ centre (centres xs ys) i → i < length flags → b′ ≡ over extended b (statePoints (getD flags i 0) v)
       → over extended b′ (statesPoints (drop (i + 1) flags) (drop (i + 1) (centres xs ys))) ≡ over extended b (statesPoints (drop i flags) (drop i (centres xs ys)))
   unfolding statesPoints
-  states-step b′ l e =
-      rw (zip-drop vec xs ys i nan nan (omega arith) (omega arith), drop-cons flags i 0 l, add-one, e)
-      (sym (over-join extended b (statePoints (getD flags i 0) (vec (getD xs i nan) (getD ys i nan))) (statesPoints (drop (suc i) flags) (drop (suc i) (centres xs ys)))))
+  states-step v b′ w l e =
+      rw (centres-from xs ys i v w (omega arith) (omega arith), drop-cons flags i 0 l, add-one, e)
+      (sym (over-join extended b (statePoints (getD flags i 0) v) (statesPoints (drop (suc i) flags) (drop (suc i) (centres xs ys)))))
 
   pub states-end : length flags ≤ i → b ≡ over extended b (statesPoints (drop i flags) (drop i (centres xs ys)))
   unfolding statesPoints over

@@ -48,7 +48,7 @@ fn cover_states(from: Rect, flags: &[u8], xs: &[f64], ys: &[f64]) -> Rect
 {
     let mut b = from;
     for i in 0..flags.len() {
-        b = cover_state(b, flags[i], V { x: xs[i], y: ys[i] });
+        b = cover_state(b, flags[i], shape::centre(xs, ys, i));
     }
     b
 }
@@ -97,7 +97,7 @@ fn cover_records(from: Rect, records: &[f64], count: usize) -> Rect
 // ---- the shift
 
 // Moves the centres so that what is at `low` comes to the margin.
-fn shift(l: &mut [f64], low: f64)
+fn to_margin(l: &mut [f64], low: f64)
     ensures { λ _. ⌜ now (l .exit) ≡ S.shifted low (now (l .entry)) ⌝ }
 {
     let d = MARGIN - low;
@@ -122,8 +122,8 @@ pub fn fit(flags: &[u8], records: &[f64], count: usize, xs: &mut [f64], ys: &mut
 {
     let states = cover_states(Rect::empty(), flags, xs, ys);
     let b = cover_records(states, records, count);
-    shift(xs, b.x0);
-    shift(ys, b.y0);
+    to_margin(xs, b.x0);
+    to_margin(ys, b.y0);
     Size {
         width: b.x1 - b.x0 + 2.0 * MARGIN,
         height: b.y1 - b.y0 + 2.0 * MARGIN,

@@ -7,9 +7,9 @@ use lib.Dec.{eqb}
 use borrow.Author.Tests.{eqb-true, eqb-false, le-ltb, le-leb, lt-leb, ne-eqb}
 use lib.Ieee.{Float, binary64, isNan, ofBits, toBits}
 use lib.Ieee.Bits.{toBits-ofBits, nanBits-is, nanBits-above}
-use Rattle.root.specs.Plain.{rootPlain, IsRoot, Plain, plain-itself, root-plain, root-le, root-min, root-max}
+use Rattle.root.specs.Plain.{rootPlain, IsRoot, Plain, plain-itself, root-plain, root-le, root-min}
 use Rattle.float.specs.Ops.{le}
-use Rattle.float.specs.Standins.{rootOf, root, min, max}
+use Rattle.float.specs.Standins.{rootOf, root, min}
 
 not-nan : (b : ℕ) → b ≤ 2047 * 2 ^ 52 → isNan (ofBits binary64 b) ≡ false
 not-nan b h = sym (nanBits-is binary64 b) ∙ nanBits-above binary64 b ∙ le-ltb (2047 * 2 ^ 52) (b % 2 ^ 63) (omega arith)
@@ -43,9 +43,6 @@ root-is = record { at = at }
 pub root-rises : (x y : Float) → Plain x → Plain y → le x y ≡ true → le (root x) (root y) ≡ true
 root-rises x y p q h = root-le root root-is x y p q h
 
--- the lesser of two roots is the root of the lesser, and so the greater
+-- the lesser of two roots is the root of the lesser
 pub min-roots : (x y : Float) → Plain x → Plain y → min (root x) (root y) ≡ root (min x y)
 min-roots x y p q = rw (plain-itself x p, plain-itself (root x) (root-plain root root-is x p)) (root-min root root-is x y p q)
-
-pub max-roots : (x y : Float) → Plain x → Plain y → max (root x) (root y) ≡ root (max x y)
-max-roots x y p q = rw (plain-itself x p, plain-itself (root x) (root-plain root root-is x p)) (root-max root root-is x y p q)

@@ -237,7 +237,7 @@ fn arc_series(z: f64) -> f64
 }
 
 // The arctangent of w, from 0 to 1.
-fn arc(w: f64) -> f64
+fn arctangent_of(w: f64) -> f64
     ensures { λ r. ⌜ r ≡ S.arctangentOf w ⌝ }
 {
     let u = halved(halved(w));
@@ -254,7 +254,7 @@ fn share(b: f64, a: f64) -> f64
 fn quarter(y: f64, x: f64) -> f64
     ensures { λ r. ⌜ r ≡ S.quarter y x ⌝ }
 {
-    let angle = arc(share(min(x, y), max(x, y)));
+    let angle = arctangent_of(share(min(x, y), max(x, y)));
     if x < y {
         return PI / 2.0 - angle;
     }
@@ -265,11 +265,11 @@ pub fn atan2(y: f64, x: f64) -> f64
     ensures { λ r. ⌜ r ≡ S.atan2 y x ⌝ }
 {
     let first = quarter(abs(y), abs(x));
-    let half = turned(negative(x), first);
+    let half = turned_back(negative(x), first);
     if negative(y) { -half } else { half }
 }
 
-fn turned(back: bool, angle: f64) -> f64
+fn turned_back(back: bool, angle: f64) -> f64
     ensures { λ r. ⌜ r ≡ S.turnedBack back angle ⌝ }
 {
     if back { PI - angle } else { angle }

@@ -59,7 +59,7 @@ pub fn is_end(c: Chord, k: usize) -> bool
 }
 
 // Whether a state at p does not lie beside the chord.
-fn passed(c: Chord, p: V) -> bool
+fn off_chord(c: Chord, p: V) -> bool
     ensures { λ r. ⌜ r ≡ B.offChord c p ⌝ }
 {
     let distance = p.sub(c.a).dot(c.along);
@@ -93,7 +93,7 @@ fn block(c: Chord, k: usize, p: V, n: usize, lo: &mut [f64], hi: &mut [f64]) -> 
     if is_end(c, k) {
         return n;
     }
-    if passed(c, p) {
+    if off_chord(c, p) {
         return n;
     }
     let s = span_of(c, p);

@@ -1,12 +1,18 @@
 // `geometry`: the drawing of a graph at given centres, from its flags, arrow ends and label sizes.
+use records::RECORD_NUMBERS;
+use scene::BOX_NUMBERS;
+use trace::TRACE_NUMBERS;
 ghost use mathlib.Core.Path.{_≡_};
-ghost use Prim.Native.Nat.{_+_, _*_, _≤_};
+ghost use Prim.Native.Nat.{_*_, _≤_};
 ghost use lib.ListN.{length};
 ghost use Rattle.shape.specs.Centres.{centres};
 ghost use Rattle.laws.specs.Put.{put};
 ghost use Rattle.routing.specs.Sheets.{frameBy, sizesBy};
-ghost use Rattle.turns.specs.Steps as S;
 ghost use Rattle.geometry.specs.Geometry as G;
+ghost use Rattle.geometry.specs.Slices as L;
+
+// A small sheet has at most so many states and so many arrows.
+const FEW: usize = 32;
 
 // The drawing at these centres, in slices to work in; how many records it has.
 fn draw(
@@ -17,7 +23,7 @@ fn draw(
     heights: &[f64],
     xs: &[f64],
     ys: &[f64],
-    kinds: &mut [usize],
+    kinds: &mut [u8],
     leaves: &mut [f64],
     reaches: &mut [f64],
     slots: &mut [f64],
@@ -26,14 +32,10 @@ fn draw(
     drawn: &mut [f64],
     records: &mut [f64],
 ) -> usize
-    requires { let arrows = length (now sources) in
-        ⌜ S.States (now flags) (now xs) (now ys)
-        × S.Arrows (now sources) (now targets) (now leaves) (now reaches)
-        × S.Turns arrows (now kinds) (now widths) (now heights) (now drawn)
-        × (20 * arrows ≤ length (now slots))
-        × (12 * arrows ≤ length (now boxes))
-        × (40 * (2 * arrows + length (now xs)) ≤ length (now traces))
-        × (20 * arrows ≤ length (now records)) ⌝ }
+    requires { ⌜
+        L.DrawSlices (now flags) (now sources) (now targets) (now widths) (now heights) (now xs) (now ys) (now kinds)
+        (now leaves) (now reaches) (now slots) (now boxes) (now traces) (now drawn) (now records)
+        ⌝ }
     ensures { λ r.
         let sizes = sizesBy (now (widths .entry)) (now (heights .entry)) in
         let frame = frameBy (now (flags .entry)) (centres (now (xs .entry)) (now (ys .entry)))
@@ -84,7 +86,7 @@ fn draw_at(
     ys: &[f64],
     cx: &mut [f64],
     cy: &mut [f64],
-    kinds: &mut [usize],
+    kinds: &mut [u8],
     leaves: &mut [f64],
     reaches: &mut [f64],
     slots: &mut [f64],
@@ -93,14 +95,10 @@ fn draw_at(
     drawn: &mut [f64],
     records: &mut [f64],
 ) -> usize
-    requires { let arrows = length (now sources) in
-        ⌜ S.States (now flags) (now cx) (now cy)
-        × S.Arrows (now sources) (now targets) (now leaves) (now reaches)
-        × S.Turns arrows (now kinds) (now widths) (now heights) (now drawn)
-        × (20 * arrows ≤ length (now slots))
-        × (12 * arrows ≤ length (now boxes))
-        × (40 * (2 * arrows + length (now cx)) ≤ length (now traces))
-        × (20 * arrows ≤ length (now records)) ⌝ }
+    requires { ⌜
+        L.DrawSlices (now flags) (now sources) (now targets) (now widths) (now heights) (now cx) (now cy) (now kinds)
+        (now leaves) (now reaches) (now slots) (now boxes) (now traces) (now drawn) (now records)
+        ⌝ }
     ensures { λ r.
         let sizes = sizesBy (now (widths .entry)) (now (heights .entry)) in
         let frame = G.frameFrom (now (flags .entry)) (now (xs .entry)) (now (ys .entry))
@@ -131,7 +129,7 @@ fn draw_at(
 
 // ---- the space that a drawing needs: setting it to 0 is a large part of drawing a small sheet
 
-// In space for 32 states and 32 arrows.
+// In space for a small sheet.
 fn draw_little(
     flags: &[u8],
     sources: &[usize],
@@ -142,20 +140,17 @@ fn draw_little(
     ys: &[f64],
     cx: &mut [f64],
     cy: &mut [f64],
-    kinds: &mut [usize],
+    kinds: &mut [u8],
     leaves: &mut [f64],
     reaches: &mut [f64],
     records: &mut [f64],
 ) -> usize
-    requires { let arrows = length (now sources) in
-        ⌜ S.States (now flags) (now cx) (now cy)
-        × S.Arrows (now sources) (now targets) (now leaves) (now reaches)
-        × (length (now kinds) ≡ arrows)
-        × (length (now widths) ≡ arrows)
-        × (length (now heights) ≡ arrows)
-        × (20 * arrows ≤ length (now records))
+    requires { ⌜
+        L.RecordSlices (now flags) (now sources) (now targets) (now widths) (now heights) (now cx) (now cy) (now kinds)
+        (now leaves) (now reaches) (now records)
         × (length (now flags) ≤ 32)
-        × (arrows ≤ 32) ⌝ }
+        × (length (now sources) ≤ 32)
+        ⌝ }
     ensures { λ r.
         let sizes = sizesBy (now (widths .entry)) (now (heights .entry)) in
         let frame = G.frameFrom (now (flags .entry)) (now (xs .entry)) (now (ys .entry))
@@ -163,10 +158,10 @@ fn draw_little(
         ⌜ (r ≡ G.recordCount frame sizes)
         × (now (records .exit) ≡ put (now (records .entry)) 0 (G.numbers frame sizes)) ⌝ }
 {
-    let mut slots = [0.0f64; 640];
-    let mut boxes = [0.0f64; 384];
-    let mut traces = [0.0f64; 3840];
-    let mut drawn = [0.0f64; 640];
+    let mut slots = [0.0f64; RECORD_NUMBERS * FEW];
+    let mut boxes = [0.0f64; 3 * BOX_NUMBERS * FEW];
+    let mut traces = [0.0f64; TRACE_NUMBERS * (2 * FEW + FEW)];
+    let mut drawn = [0.0f64; RECORD_NUMBERS * FEW];
     draw_at(
         flags,
         sources,
@@ -199,18 +194,15 @@ fn draw_full(
     ys: &[f64],
     cx: &mut [f64],
     cy: &mut [f64],
-    kinds: &mut [usize],
+    kinds: &mut [u8],
     leaves: &mut [f64],
     reaches: &mut [f64],
     records: &mut [f64],
 ) -> usize
-    requires { let arrows = length (now sources) in
-        ⌜ S.States (now flags) (now cx) (now cy)
-        × S.Arrows (now sources) (now targets) (now leaves) (now reaches)
-        × (length (now kinds) ≡ arrows)
-        × (length (now widths) ≡ arrows)
-        × (length (now heights) ≡ arrows)
-        × (20 * arrows ≤ length (now records)) ⌝ }
+    requires { ⌜
+        L.RecordSlices (now flags) (now sources) (now targets) (now widths) (now heights) (now cx) (now cy) (now kinds)
+        (now leaves) (now reaches) (now records)
+        ⌝ }
     ensures { λ r.
         let sizes = sizesBy (now (widths .entry)) (now (heights .entry)) in
         let frame = G.frameFrom (now (flags .entry)) (now (xs .entry)) (now (ys .entry))
@@ -218,10 +210,10 @@ fn draw_full(
         ⌜ (r ≡ G.recordCount frame sizes)
         × (now (records .exit) ≡ put (now (records .entry)) 0 (G.numbers frame sizes)) ⌝ }
 {
-    let mut slots = [0.0f64; 5120];
-    let mut boxes = [0.0f64; 3072];
-    let mut traces = [0.0f64; 23040];
-    let mut drawn = [0.0f64; 5120];
+    let mut slots = [0.0f64; RECORD_NUMBERS * 256];
+    let mut boxes = [0.0f64; 3 * BOX_NUMBERS * 256];
+    let mut traces = [0.0f64; TRACE_NUMBERS * (2 * 256 + 64)];
+    let mut drawn = [0.0f64; RECORD_NUMBERS * 256];
     draw_at(
         flags,
         sources,
@@ -254,18 +246,15 @@ fn draw_sized(
     ys: &[f64],
     cx: &mut [f64],
     cy: &mut [f64],
-    kinds: &mut [usize],
+    kinds: &mut [u8],
     leaves: &mut [f64],
     reaches: &mut [f64],
     records: &mut [f64],
 ) -> usize
-    requires { let arrows = length (now sources) in
-        ⌜ S.States (now flags) (now cx) (now cy)
-        × S.Arrows (now sources) (now targets) (now leaves) (now reaches)
-        × (length (now kinds) ≡ arrows)
-        × (length (now widths) ≡ arrows)
-        × (length (now heights) ≡ arrows)
-        × (20 * arrows ≤ length (now records)) ⌝ }
+    requires { ⌜
+        L.RecordSlices (now flags) (now sources) (now targets) (now widths) (now heights) (now cx) (now cy) (now kinds)
+        (now leaves) (now reaches) (now records)
+        ⌝ }
     ensures { λ r.
         let sizes = sizesBy (now (widths .entry)) (now (heights .entry)) in
         let frame = G.frameFrom (now (flags .entry)) (now (xs .entry)) (now (ys .entry))
@@ -273,8 +262,8 @@ fn draw_sized(
         ⌜ (r ≡ G.recordCount frame sizes)
         × (now (records .exit) ≡ put (now (records .entry)) 0 (G.numbers frame sizes)) ⌝ }
 {
-    if flags.len() <= 32 {
-        if sources.len() <= 32 {
+    if flags.len() <= FEW {
+        if sources.len() <= FEW {
             return draw_little(
                 flags,
                 sources,
@@ -337,7 +326,7 @@ pub fn geometry(
 {
     let mut cx = [0.0f64; 64];
     let mut cy = [0.0f64; 64];
-    let mut kinds = [0usize; 256];
+    let mut kinds = [0u8; 256];
     let mut leaves = [0.0f64; 256];
     let mut reaches = [0.0f64; 256];
     let n = flags.len();

@@ -54,7 +54,7 @@ fn sizes_into(s: &[u8], widths: &mut [f64], heights: &mut [f64])
 }
 
 // The states' flag bytes, the arrows' ends and the sizes of their labels.
-pub fn read(
+pub fn read_graph(
     s: &[u8],
     flags: &mut [u8],
     sources: &mut [usize],

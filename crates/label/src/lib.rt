@@ -38,7 +38,7 @@ pub enum Sized {
 }
 
 // The width of a code point.
-pub fn char_width(c: u32) -> f64
+fn char_width(c: u32) -> f64
     ensures { λ r. ⌜ r ≡ S.charWidth c ⌝ }
 {
     if c < 0x80 {
@@ -48,7 +48,7 @@ pub fn char_width(c: u32) -> f64
 }
 
 // Before the first byte of a line.
-pub fn start() -> Measure
+fn measure_start() -> Measure
     ensures { λ r. ⌜ r ≡ M.measureStart ⌝ }
 {
     Measure {
@@ -59,7 +59,7 @@ pub fn start() -> Measure
 }
 
 // One byte of a line.
-pub fn measure_byte(m: Measure, b: u8) -> Measure
+fn measure_byte(m: Measure, b: u8) -> Measure
     ensures { λ r. ⌜ r ≡ M.measureOf m b ⌝ }
 {
     let st = text::feed(m.st, b);
@@ -76,7 +76,7 @@ pub fn measure_byte(m: Measure, b: u8) -> Measure
 }
 
 // The n bytes of s from a on, or as many as there are.
-pub fn measure_part(s: &[u8], a: usize, n: usize, m: Measure) -> Measure
+fn measure_part(s: &[u8], a: usize, n: usize, m: Measure) -> Measure
     ensures { λ r. ⌜ r ≡ M.measureAll m (take n (drop a (now (s .entry)))) ⌝ }
 {
     let mut t = m;
@@ -94,7 +94,7 @@ pub fn measure_part(s: &[u8], a: usize, n: usize, m: Measure) -> Measure
 }
 
 // The height of so many lines.
-pub fn height(lines: usize) -> f64
+fn block_height(lines: usize) -> f64
     ensures { λ r. ⌜ r ≡ S.blockHeight lines ⌝ }
 {
     std::num::nearest_u64_to_f64(lines as u64) * LABEL_LINE_HEIGHT
@@ -105,7 +105,7 @@ fn measure_line(s: &[u8], k: usize) -> Measure
     requires { ⌜ k < 65536 ⌝ }
     ensures { λ r. ⌜ r ≡ M.measureAll M.measureStart (lineOf (now (s .entry)) k) ⌝ }
 {
-    let mut m = start();
+    let mut m = measure_start();
     let d = record_of(s, k);
     let mut i = d.word4;
     let mut left = sheet::word_at(s, 2) + 1;
@@ -147,7 +147,7 @@ pub fn block_at(s: &[u8], first: usize) -> Block
     ensures { λ r. ⌜ r ≡ S.block (linesFrom (now (s .entry)) first) ⌝ }
 {
     let width = widest(s, first);
-    let height = height(meaning::chain_length(s, first));
+    let height = block_height(meaning::chain_length(s, first));
     Block { width, height }
 }
 
@@ -180,14 +180,14 @@ fn lines_size(text: &[u8], lengths: &[usize]) -> Sized
     let mut width = 0.0;
     for i in 0..lengths.len() {
         let n = lengths[i];
-        let m = measure_part(text, at, n, start());
+        let m = measure_part(text, at, n, measure_start());
         if m.st != 0 {
             return Sized::Refused(6);
         }
         width = float::max(width, m.width);
         at += n;
     }
-    Sized::Size(width, height(lengths.len()))
+    Sized::Size(width, block_height(lengths.len()))
 }
 
 // The size of a label block within the limits m.

@@ -174,7 +174,7 @@ fn side_of(dir: V) -> Anchor
 
 // The anchor and alignment of a block that lies beyond `apex` in direction `dir`, at least LABEL_GAP away from the line through `apex`
 // normal to `dir`.
-pub fn place_label(apex: V, dir: V, width: f64, height: f64) -> Placed
+fn place_label(apex: V, dir: V, width: f64, height: f64) -> Placed
     ensures { λ r. ⌜ r ≡ L.placeLabel apex dir width height ⌝ }
 {
     let across = float::abs(dir.x);

@@ -7,8 +7,8 @@ use native.Mathlib.Nat.{mul-suc, mul-zero, add-comm, zero-add, mul-le-mul-left, 
 use native.Mathlib.Omega.{arith}
 use lib.ListN.{length, getD, set, take, drop, length-append, List·getD-append}
 use lib.Seq.{getD-append-add, take-at, drop-at, drop-drop, drop-set-lt}
-use Rattle.laws.specs.Flat.{table, part, decodeFlat, part-before, part-new}
-use Rattle.laws.specs.Tables.{table-at, table-next, table-set}
+use Rattle.laws.specs.Flat.{table, part, decodeFlat, part-before}
+use Rattle.laws.specs.Tables.{table-at, table-next}
 use Rattle.laws.specs.Put.{put, put-eq, put-put}
 use Rattle.laws.specs.Joined.{flat-snoc}
 
@@ -36,13 +36,6 @@ module _ {A : Type 0} where
       (λ h. part-before w (w * j) xs (w * k) vs (omega (arith, mul-suc w j, mul-le-mul-left w h)))
       (λ h. ap (take w) (part-after (w * j) xs (w * k) vs (omega (arith, mul-suc w k, mul-le-mul-left w h))))
       (apart j k o)
-
--- record k anew, wherever it stands: the list of records has that one anew
-pub records-set : {A B : Type 0} (decode : List A → B) (w n k : ℕ) (xs vs : List A) → length vs ≡ w → w * k + w ≤ length xs
-    → decodeFlat decode w n (put xs (w * k) vs) ≡ set (decodeFlat decode w n xs) k (decode vs)
-records-set decode w n k xs vs e room =
-    table-set (λ j. decode (part w j xs)) (λ j. decode (part w j (put xs (w * k) vs))) 0 n k (λ j o. ap decode (part-kept w j k xs vs e (λ q. o (q ∙ sym (zero-add k)))))
-    ∙ ap (set (decodeFlat decode w n xs) k) (ap (λ (m : ℕ). decode (part w m (put xs (w * k) vs))) (zero-add k) ∙ ap decode (part-new w (w * k) xs vs e room))
 
 module _ {A B : Type 0} (encode : B → List A) (w : ℕ) (width : (b : B) → length (encode b) ≡ w) where
   pub length-flat : (bs : List B) → length (flatMap encode bs) ≡ w * length bs

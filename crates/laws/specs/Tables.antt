@@ -2,10 +2,10 @@
 use mathlib.Core.Path.{_≡_, refl, sym, ap, ap₂, _∙_}
 use mathlib.Core.List.{List, [], _∷_, map, flatMap}
 use Prim.Native.Nat.{ℕ, zero, suc, _+_, _-_, _≤_, _<_}
-use native.Mathlib.Nat.{not-suc-le-zero, le-of-suc-le-suc, add-zero, sub-zero, lt-irrefl}
+use native.Mathlib.Nat.{not-suc-le-zero, le-of-suc-le-suc, add-zero, sub-zero}
 use native.Mathlib.Numerals.{add-one}
 use native.Mathlib.Omega.{arith}
-use lib.ListN.{getD, take, set}
+use lib.ListN.{getD, take}
 use Rattle.laws.specs.Flat.{table}
 use Rattle.laws.specs.Loops.{over, over-join}
 use Rattle.laws.specs.Zip.{zipBy}
@@ -27,16 +27,6 @@ module _ {A : Type 0} where
   unfolding table
   table-same f g k zero h = refl
   table-same f g k (suc n) h = ap₂ (λ (x : A) (l : List A). x ∷ l) (h k (omega arith)) (table-same f g (suc k) n (λ j i. h j (omega arith)))
-
-  -- another thing at one place
-  pub table-set : (f g : ℕ → A) (k n i : ℕ) → ((j : ℕ) → (j ≡ k + i → ⊥) → g j ≡ f j) → table g k n ≡ set (table f k n) i (g (k + i))
-  unfolding table
-  table-set f g k zero i h = refl
-  table-set f g k (suc n) zero h = rw add-zero (ap (λ (l : List A). g k ∷ l) (table-same g f (suc k) n (λ j i. h j (λ e. lt-irrefl k (omega arith)))))
-  table-set f g k (suc n) (suc i) h =
-      ap₂ (λ (x : A) (l : List A). x ∷ l)
-      (h k (λ e. lt-irrefl k (omega arith)))
-      (table-set f g (suc k) n i (λ j e. h j (λ o. e (omega arith))) ∙ ap (λ (m : ℕ). set (table f (suc k) n) i (g m)) (omega arith))
 
   pub table-take : (f : ℕ → A) (k m n : ℕ) → m ≤ n → take m (table f k n) ≡ table f k m
   unfolding table
@@ -76,7 +66,7 @@ unfolding zipBy table
 zip-tables f g h k zero = refl
 zip-tables {C = C} f g h k (suc n) = ap (λ (l : List C). f (g k) (h k) ∷ l) (zip-tables f g h (suc k) n)
 
--- ---- a fold over n things from k on: one turn, and the end
+-- ---- a fold over n things from k on: one step, and the end
 module _ {B S : Type 0} (g : S → B → S) where
   pub table-step : (t : ℕ → B) (s s′ : S) (k n : ℕ) → 0 < n → s′ ≡ g s (t k) → over g s′ (table t (k + 1) (n - 1)) ≡ over g s (table t k n)
   unfolding over

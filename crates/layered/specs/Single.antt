@@ -8,7 +8,7 @@ use Rattle.laws.specs.Cases.{by-lt}
 use Rattle.laws.specs.Counting.{howMany}
 use Rattle.columns.specs.Columns.{EndPair, concat, columns}
 use Rattle.columns.specs.Elements.{times, times-join, concat-cons}
-use Rattle.columns.specs.Once.{once, nothing-else}
+use Rattle.columns.specs.Once.{column-once, nothing-else}
 
 times-column : (v : ℕ) (cs : List (List ℕ)) (l : ℕ) → times v (getD cs l []) ≤ times v (concat cs)
 unfolding howMany
@@ -27,7 +27,7 @@ two-columns v (c ∷ cs) (suc l) (suc r) h p q = omega (arith, two-columns v cs 
 
 module _ (n : ℕ) (arrows : List EndPair) (start : ℕ) (s : start < n) where
   at-most-once : (v : ℕ) → times v (concat (columns n arrows start)) ≤ 1
-  at-most-once v = by-lt v n (λ (h : v < n). omega (arith, once n arrows start v h)) (λ (h : n ≤ v). omega (arith, nothing-else n arrows start s v h))
+  at-most-once v = by-lt v n (λ (h : v < n). omega (arith, column-once n arrows start v h)) (λ (h : n ≤ v). omega (arith, nothing-else n arrows start s v h))
 
   -- once at most in a column
   pub column-single : (v l : ℕ) → times v (getD (columns n arrows start) l []) ≤ 1

@@ -1,4 +1,4 @@
--- The y of a state, by its place in its column after the sweeps; every column keeps its states. How many centres there are. Assumes nothing.
+-- The y of a state, by its place in its column after the sweeps. How many centres there are. Assumes nothing.
 use mathlib.Core.Path.{_≡_, sym, ap, _∙_}
 use mathlib.Core.List.{List, []}
 use Prim.Native.Nat.{ℕ, _<_}
@@ -6,14 +6,12 @@ use native.Mathlib.Omega.{arith}
 use lib.ListN.{length, getD, length-map}
 use lib.Ieee.{Float}
 use Rattle.laws.specs.Counting.{table-length}
-use Rattle.laws.specs.Same.{Moved}
 use Rattle.laws.specs.Lists.{map-at}
 use Rattle.float.specs.Constants.{f0}
 use Rattle.float.specs.Ops.{_⊖_, _⊗_, ofNat}
 use Rattle.columns.specs.Columns.{EndPair, columns, stateNumbers}
 use Rattle.layered.specs.Single.{column-single, one-column, column-in}
 use Rattle.sweep.specs.Sweeps.{middlePlace, swept}
-use Rattle.sweep.specs.Sorted.{swept-same}
 use Rattle.sweep.specs.Centred.{swept-centred, placed-in}
 use Rattle.sweep.specs.Lengths.{swept-length}
 use Rattle.layered.specs.Layered.{row, columnGap, columnOf, layeredXs, layeredYs}
@@ -30,10 +28,6 @@ module _ (n start : ℕ) (arrows : List EndPair) where
   -- the columns after the sweeps
   abbrev pub finally : List (List ℕ)
   finally = swept n arrows (columns n arrows start) .columns
-
-  -- each has the states that the search put there
-  pub column-kept : (l : ℕ) → Moved (getD (columns n arrows start) l []) (getD (swept n arrows (columns n arrows start) .columns) l [])
-  column-kept l = swept-same n arrows (columns n arrows start) l
 
   module _ (s : start < n) where
     -- the state at place i of a column of k states stands i rows below its top, the column's middle at 0

@@ -1,6 +1,7 @@
 // The layout of a graph by kind: layers or ring, the choice between them, and the fit.
 use fit::MARGIN;
 use fit::Size;
+use records::RECORD_NUMBERS;
 ghost use mathlib.Core.Path.{_≡_};
 ghost use Prim.Native.Nat.{_<_, _≤_};
 ghost use lib.ListN.{length};
@@ -27,10 +28,7 @@ pub fn layers_at(
     xs: &mut [f64],
     ys: &mut [f64],
 )
-    requires { ⌜
-        C.StateSlices (now flags) (now xs) (now ys)
-        × C.ArrowSlices (now sources) (now targets) (now widths) (now heights)
-        ⌝ }
+    requires { ⌜ C.GraphSlices (now flags) (now sources) (now targets) (now widths) (now heights) (now xs) (now ys) ⌝ }
     ensures { λ _.
         let plan = S.planBy (now (flags .entry)) (now (sources .entry)) (now (targets .entry))
         (now (widths .entry)) (now (heights .entry)) in
@@ -67,16 +65,13 @@ fn clutter_by(
     px: &mut [f64],
     py: &mut [f64],
 ) -> usize
-    requires { ⌜
-        C.StateSlices (now flags) (now px) (now py)
-        × C.ArrowSlices (now sources) (now targets) (now widths) (now heights)
-        ⌝ }
+    requires { ⌜ C.GraphSlices (now flags) (now sources) (now targets) (now widths) (now heights) (now px) (now py) ⌝ }
     ensures { λ r.
         let plan = S.planBy (now (flags .entry)) (now (sources .entry)) (now (targets .entry))
         (now (widths .entry)) (now (heights .entry)) in
         ⌜ r ≡ S.clutterAt plan (S.placing (now (xs .entry)) (now (ys .entry))) ⌝ }
 {
-    let mut records = [0.0f64; 5120];
+    let mut records = [0.0f64; RECORD_NUMBERS * 256];
     let count = geometry::geometry(
         flags,
         sources,
@@ -138,10 +133,7 @@ fn layers_clutter(
     xs: &mut [f64],
     ys: &mut [f64],
 ) -> usize
-    requires { ⌜
-        C.StateSlices (now flags) (now xs) (now ys)
-        × C.ArrowSlices (now sources) (now targets) (now widths) (now heights)
-        ⌝ }
+    requires { ⌜ C.GraphSlices (now flags) (now sources) (now targets) (now widths) (now heights) (now xs) (now ys) ⌝ }
     ensures { λ r.
         let plan = S.planBy (now (flags .entry)) (now (sources .entry)) (now (targets .entry))
         (now (widths .entry)) (now (heights .entry)) in
@@ -161,10 +153,7 @@ fn ring_clutter(
     xs: &mut [f64],
     ys: &mut [f64],
 ) -> usize
-    requires { ⌜
-        C.StateSlices (now flags) (now xs) (now ys)
-        × C.ArrowSlices (now sources) (now targets) (now widths) (now heights)
-        ⌝ }
+    requires { ⌜ C.GraphSlices (now flags) (now sources) (now targets) (now widths) (now heights) (now xs) (now ys) ⌝ }
     ensures { λ r.
         let plan = S.planBy (now (flags .entry)) (now (sources .entry)) (now (targets .entry))
         (now (widths .entry)) (now (heights .entry)) in
@@ -194,10 +183,7 @@ fn takes_ring(
     xs: &mut [f64],
     ys: &mut [f64],
 ) -> bool
-    requires { ⌜
-        C.StateSlices (now flags) (now xs) (now ys)
-        × C.ArrowSlices (now sources) (now targets) (now widths) (now heights)
-        ⌝ }
+    requires { ⌜ C.GraphSlices (now flags) (now sources) (now targets) (now widths) (now heights) (now xs) (now ys) ⌝ }
     ensures { λ r.
         let plan = S.planBy (now (flags .entry)) (now (sources .entry)) (now (targets .entry))
         (now (widths .entry)) (now (heights .entry)) in
@@ -221,10 +207,7 @@ fn auto_at(
     xs: &mut [f64],
     ys: &mut [f64],
 )
-    requires { ⌜
-        C.StateSlices (now flags) (now xs) (now ys)
-        × C.ArrowSlices (now sources) (now targets) (now widths) (now heights)
-        ⌝ }
+    requires { ⌜ C.GraphSlices (now flags) (now sources) (now targets) (now widths) (now heights) (now xs) (now ys) ⌝ }
     ensures { λ _.
         let plan = S.planBy (now (flags .entry)) (now (sources .entry)) (now (targets .entry))
         (now (widths .entry)) (now (heights .entry)) in
@@ -250,8 +233,7 @@ fn choose(
 )
     requires { ⌜
         (kind ≤ S.lastKind)
-        × C.StateSlices (now flags) (now xs) (now ys)
-        × C.ArrowSlices (now sources) (now targets) (now widths) (now heights)
+        × C.GraphSlices (now flags) (now sources) (now targets) (now widths) (now heights) (now xs) (now ys)
         ⌝ }
     ensures { λ _.
         let plan = S.planBy (now (flags .entry)) (now (sources .entry)) (now (targets .entry))
@@ -278,16 +260,13 @@ fn fit_at(
     xs: &mut [f64],
     ys: &mut [f64],
 ) -> Size
-    requires { ⌜
-        C.StateSlices (now flags) (now xs) (now ys)
-        × C.ArrowSlices (now sources) (now targets) (now widths) (now heights)
-        ⌝ }
+    requires { ⌜ C.GraphSlices (now flags) (now sources) (now targets) (now widths) (now heights) (now xs) (now ys) ⌝ }
     ensures { λ r.
         let plan = S.planBy (now (flags .entry)) (now (sources .entry)) (now (targets .entry))
         (now (widths .entry)) (now (heights .entry)) in
         ⌜ C.Left (S.fitted plan (S.placing (now (xs .entry)) (now (ys .entry)))) r (now (xs .exit)) (now (ys .exit)) ⌝ }
 {
-    let mut records = [0.0f64; 5120];
+    let mut records = [0.0f64; RECORD_NUMBERS * 256];
     let count = geometry::geometry(
         flags,
         sources,
@@ -312,16 +291,9 @@ pub fn layout(
     xs: &mut [f64],
     ys: &mut [f64],
 ) -> Size
-    requires { let states = length (now flags) in
-        let arrows = length (now sources) in
-        ⌜ (kind ≤ S.lastKind)
-        × (states ≤ 64)
-        × (length (now xs) ≡ states)
-        × (length (now ys) ≡ states)
-        × (arrows ≤ 256)
-        × (length (now targets) ≡ arrows)
-        × (length (now widths) ≡ arrows)
-        × (length (now heights) ≡ arrows) ⌝ }
+    requires { ⌜
+        C.LayoutSlices kind (now flags) (now sources) (now targets) (now widths) (now heights) (now xs) (now ys)
+        ⌝ }
     ensures { λ r.
         let plan = S.planBy (now (flags .entry)) (now (sources .entry)) (now (targets .entry))
         (now (widths .entry)) (now (heights .entry)) in

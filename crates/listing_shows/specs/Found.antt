@@ -160,8 +160,8 @@ module _ (w h : Float) (cs : List «V») (flags : List ℕ) (gs : List Geometry)
 
   -- line j of record k, and the line of start j, among them
   module _ (k j : ℕ) (g : Geometry) (i : k < length gs) (l : j < 4) where
-    pub record-inside : recordLine (length cs) k + j < length its
-    record-inside = omega (arith, its-many)
+    pub record-line-inside : recordLine (length cs) k + j < length its
+    record-line-inside = omega (arith, its-many)
 
     pub record-in : getD its (recordLine (length cs) k + j) d ≡ getD (recordLines (getD gs k g)) j d
     record-in =
@@ -173,7 +173,7 @@ module _ (w h : Float) (cs : List «V») (flags : List ℕ) (gs : List Geometry)
 
     pub record-at : textLineAt (recordLine (length cs) k + j) (listText w h cs flags gs ++ tail) ≡ bodyText (getD (recordLines (getD gs k g)) j d)
     unfolding listText
-    record-at = line-at its tail (recordLine (length cs) k + j) d all-single record-inside ∙ ap bodyText record-in
+    record-at = line-at its tail (recordLine (length cs) k + j) d all-single record-line-inside ∙ ap bodyText record-in
 
   module _ (j : ℕ) (s : ListedState) (i : j < length (starts flags (statesFrom 0 cs))) where
     pub start-inside : recordLine (length cs) (length gs) + j < length its

@@ -109,7 +109,7 @@ NoDigit (b ∷ l) = isDigit b ≡ false
 
 abbrev pub NumberEnds : List ℕ → Type 0
 NumberEnds [] = Unit {0}
-NumberEnds (b ∷ l) = (isDigit b ≡ false) × (eqb b 46 ≡ false)
+NumberEnds (b ∷ l) = (isDigit b ≡ false) × (eqb b (code ".") ≡ false)
 
 stops : (l : List ℕ) → NoDigit l → (leading l ≡ []) × (following l ≡ l)
 unfolding leading following
@@ -201,7 +201,7 @@ num-back v rest h = decimal-back (hundredths v) rest h
 -- ---- a written number begins with a byte from `-` on: no white space
 abbrev pub Begins : List ℕ → Type 0
 Begins [] = ⊥
-Begins (b ∷ l) = leb 45 b ≡ true
+Begins (b ∷ l) = leb (code "-") b ≡ true
 
 digit-low : (b : ℕ) → isDigit b ≡ true → 48 ≤ b
 digit-low b h = by-bool (leb 48 b) (λ (e : leb 48 b ≡ true). leb-true 48 b e) (λ (e : leb 48 b ≡ false). absurd (true≢false (sym h ∙ rw e)))
@@ -228,13 +228,13 @@ num-begins v rest =
 -- ---- what stands after the first point: nothing, as there is none; or one or two digits of which the last is not `0`
 unfoldable pub afterPoint : List ℕ → Option (List ℕ)
 afterPoint [] = none
-afterPoint (b ∷ l) = let later = afterPoint l in cond (eqb b 46) (some l) later
+afterPoint (b ∷ l) = let later = afterPoint l in cond (eqb b (code ".")) (some l) later
 
 abbrev pub tidy : Option (List ℕ) → Bool
 tidy none = true
 tidy (some []) = false
-tidy (some (a ∷ [])) = isDigit a && not (eqb a 48)
-tidy (some (a ∷ b ∷ [])) = isDigit a && (isDigit b && not (eqb b 48))
+tidy (some (a ∷ [])) = isDigit a && not (eqb a (code "0"))
+tidy (some (a ∷ b ∷ [])) = isDigit a && (isDigit b && not (eqb b (code "0")))
 tidy (some (a ∷ b ∷ c ∷ l)) = false
 
 skip : (ds l : List ℕ) → AllDigits ds → afterPoint (ds ++ l) ≡ afterPoint l

@@ -1,6 +1,7 @@
 // Answers that a drawing or a layout has ready: put whole into what is lent, or refused by 10 or 7 with nothing
 // touched.
 use number::Written;
+use records::RECORD_NUMBERS;
 ghost use mathlib.Core.Path.{_≡_};
 ghost use mathlib.Core.List.{flatMap};
 ghost use Prim.Native.Nat.{_*_, _≤_};
@@ -43,7 +44,12 @@ fn write_records(drawing: &[f64], count: usize, records: &mut [f64])
 }
 
 // The first `count` records of a drawing and their paths, where every number may be written and there is room for both.
-pub fn fill(drawing: &[f64], count: usize, records: &mut [f64], text: &mut [u8]) -> RouteAnswer
+pub fn write_route(
+    drawing: &[f64],
+    count: usize,
+    records: &mut [f64],
+    text: &mut [u8],
+) -> RouteAnswer
     requires { ⌜ (20 * count ≤ length (now drawing)) × F.AsWritten count (now drawing) ⌝ }
     ensures { λ r.
         let numbers = take (20 * count) (now (drawing .entry)) in
@@ -57,7 +63,7 @@ pub fn fill(drawing: &[f64], count: usize, records: &mut [f64], text: &mut [u8])
     if !drawing_text::paths_writable(drawing, count) {
         return RouteAnswer::Refused(10);
     }
-    let n = 20 * count;
+    let n = RECORD_NUMBERS * count;
     if records.len() < n {
         return RouteAnswer::Refused(7);
     }
@@ -117,7 +123,7 @@ pub fn clutter_at(xs: &[f64], ys: &[f64], n: usize, drawing: &[f64], count: usiz
 // ---- centres
 
 // The centres, where there is room for both coordinates.
-pub fn place(
+pub fn write_layout(
     across: &[f64],
     down: &[f64],
     width: f64,

@@ -24,7 +24,7 @@ use Rattle.demand3.specs.Demand.{Call, Answered, pathAt, textLineAt}
 use Rattle.demand3.specs.Proof.{callRecords, stands, path-is}
 use Rattle.listing_shows.specs.Shown.{Lent, ListAnswered, LayoutAnswered, xsLeft, ysLeft, routeCall, recordsRead, outLeft, recordLine, arrowNumber}
 use Rattle.listing_shows.specs.Shown as Shown
-use Rattle.listing_shows.specs.Found.{record-in, record-inside, record-at, start-in, start-inside, start-at}
+use Rattle.listing_shows.specs.Found.{record-in, record-line-inside, record-at, start-in, start-inside, start-at}
 use Rattle.listing_shows.specs.Proof.{numbers-many, read-back, record-read, centres-many, all-writable, listing-shows}
 use Rattle.paths_read.specs.Read.{Path, PathLine, recordIn, curveIn, headIn, startStates, Starts, PathsRead}
 
@@ -114,7 +114,7 @@ module _ (c : Lent) (a : ListAnswered c) (l : LayoutAnswered c) (r : Answered (r
     test-of j i =
         sym (ap (λ (g : Geometry). lineWritable (getD (recordLines g) j past)) it)
         ∙ sym (ap lineWritable (record-in (l .width) (l .height) cs flags gs tail past k j other inside i))
-        ∙ writable-at (recordLine (length cs) k + j) (record-inside (l .width) (l .height) cs flags gs tail past k j other inside i)
+        ∙ writable-at (recordLine (length cs) k + j) (record-line-inside (l .width) (l .height) cs flags gs tail past k j other inside i)
 
     pub edge : PathLine (textLineAt (recordLine (l .states) k) (outLeft c)) "edge" (arrowNumber (routeCall c l) k) (curveIn (routeCall c l) k)
     unfolding decodeGeometry curveText
@@ -123,9 +123,9 @@ module _ (c : Lent) (a : ListAnswered c) (l : LayoutAnswered c) (r : Answered (r
         path-line "edge" (g .edge) (curvePath (g .curve)) _
         (ap (λ (n : ℕ). textLineAt n (outLeft c)) (sym (add-zero (recordLine (l .states) k))) ∙ text-of 0 (omega arith)) (test-of 0 (omega arith)) (svg-paths .curves (g .curve))
 
-    pub head : PathLine (textLineAt (recordLine (l .states) k + 2) (outLeft c)) "head" (arrowNumber (routeCall c l) k) (headIn (routeCall c l) k)
+    pub head-path : PathLine (textLineAt (recordLine (l .states) k + 2) (outLeft c)) "head" (arrowNumber (routeCall c l) k) (headIn (routeCall c l) k)
     unfolding decodeGeometry headText
-    head =
+    head-path =
         let g : Geometry = recordIn (routeCall c l) k in
         path-line "head" (g .edge) (headPath (headOf (g .tip) (g .«tip_angle»))) _ (text-of 2 (omega arith)) (test-of 2 (omega arith)) (svg-paths .heads (g .tip) (g .«tip_angle»))
 
@@ -142,4 +142,4 @@ module _ (c : Lent) (a : ListAnswered c) (l : LayoutAnswered c) (r : Answered (r
       (svg-paths .heads (startTip (b .centre)) f0)
 
 pub paths-read : PathsRead
-paths-read = record { routes = route-paths; edges = edge; heads = head; starts = start-paths }
+paths-read = record { routes = route-paths; edges = edge; heads = head-path; starts = start-paths }

@@ -41,8 +41,6 @@ pub plan-read : (g : Graph) (flags from to : List ℕ) (ws hs : List Float) → 
     → planBy flags from to ws hs ≡ planOf g
 plan-read g flags from to ws hs a b c d e = rw (a, b, c, d, e) (plan-sheet g)
 
--- ---- a copy, step by step
-
 -- ---- what is answered and left under a list of refusals
 
 abbrev Left : List Refusal → ℕ → Graph → Planned → List Float → List Float → List Float → List Float → Type 0

@@ -29,10 +29,7 @@ fn layers_beyond(
     px: &mut [f64],
     py: &mut [f64],
 ) -> bool
-    requires { ⌜
-        C.StateSlices (now flags) (now px) (now py)
-        × C.ArrowSlices (now sources) (now targets) (now widths) (now heights)
-        ⌝ }
+    requires { ⌜ C.GraphSlices (now flags) (now sources) (now targets) (now widths) (now heights) (now px) (now py) ⌝ }
     ensures { λ r.
         let plan = L.planBy (now (flags .entry)) (now (sources .entry)) (now (targets .entry))
         (now (widths .entry)) (now (heights .entry)) in
@@ -52,10 +49,7 @@ fn ring_beyond(
     px: &mut [f64],
     py: &mut [f64],
 ) -> bool
-    requires { ⌜
-        C.StateSlices (now flags) (now px) (now py)
-        × C.ArrowSlices (now sources) (now targets) (now widths) (now heights)
-        ⌝ }
+    requires { ⌜ C.GraphSlices (now flags) (now sources) (now targets) (now widths) (now heights) (now px) (now py) ⌝ }
     ensures { λ r.
         let plan = L.planBy (now (flags .entry)) (now (sources .entry)) (now (targets .entry))
         (now (widths .entry)) (now (heights .entry)) in
@@ -75,10 +69,7 @@ fn auto_beyond(
     px: &mut [f64],
     py: &mut [f64],
 ) -> bool
-    requires { ⌜
-        C.StateSlices (now flags) (now px) (now py)
-        × C.ArrowSlices (now sources) (now targets) (now widths) (now heights)
-        ⌝ }
+    requires { ⌜ C.GraphSlices (now flags) (now sources) (now targets) (now widths) (now heights) (now px) (now py) ⌝ }
     ensures { λ r.
         let plan = L.planBy (now (flags .entry)) (now (sources .entry)) (now (targets .entry))
         (now (widths .entry)) (now (heights .entry)) in
@@ -106,8 +97,7 @@ fn kind_beyond(
 ) -> bool
     requires { ⌜
         (kind ≤ L.lastKind)
-        × C.StateSlices (now flags) (now px) (now py)
-        × C.ArrowSlices (now sources) (now targets) (now widths) (now heights)
+        × C.GraphSlices (now flags) (now sources) (now targets) (now widths) (now heights) (now px) (now py)
         ⌝ }
     ensures { λ r.
         let plan = L.planBy (now (flags .entry)) (now (sources .entry)) (now (targets .entry))
@@ -124,7 +114,7 @@ fn kind_beyond(
 
 // Whether a drawing that the layout measures is refused; without states nothing is drawn. Nothing is said of the
 // room for centres afterwards.
-pub fn layout_beyond(
+fn layout_beyond(
     kind: u8,
     flags: &[u8],
     sources: &[usize],
@@ -134,16 +124,9 @@ pub fn layout_beyond(
     px: &mut [f64],
     py: &mut [f64],
 ) -> bool
-    requires { let states = length (now flags) in
-        let arrows = length (now sources) in
-        ⌜ (kind ≤ L.lastKind)
-        × (states ≤ 64)
-        × (length (now px) ≡ states)
-        × (length (now py) ≡ states)
-        × (arrows ≤ 256)
-        × (length (now targets) ≡ arrows)
-        × (length (now widths) ≡ arrows)
-        × (length (now heights) ≡ arrows) ⌝ }
+    requires { ⌜
+        C.LayoutSlices kind (now flags) (now sources) (now targets) (now widths) (now heights) (now px) (now py)
+        ⌝ }
     ensures { λ r.
         let plan = L.planBy (now (flags .entry)) (now (sources .entry)) (now (targets .entry))
         (now (widths .entry)) (now (heights .entry)) in
@@ -192,7 +175,7 @@ fn plan_read(
         × (now (xs .exit) ≡ S.xsBy refusals kind graph (now (xs .entry)))
         × (now (ys .exit) ≡ S.ysBy refusals kind graph (now (ys .entry))) ⌝ }
 {
-    graph::read(s, flags, sources, targets, widths, heights);
+    graph::read_graph(s, flags, sources, targets, widths, heights);
     if layout_beyond(kind, flags, sources, targets, widths, heights, px, py) {
         return Planned::Refused(9);
     }

@@ -45,17 +45,17 @@ module _ {M : Type 1} (𝓤 : URA M) (H : Heap 𝓤) (A : Atoms 𝓤) (mem : Mem
   New = tripleOf 𝓤 H A new.signature (new.spec 𝓤 H A mem run)
 
   module _ (W : Given 𝓤 H A) (κ : Lft) (q : Share) (s : RefT (List ℕ)) (n : ℕ) where
-    abbrev pub passed : Vals new.signature (κ, tt)
-    passed = (val s ∷ [], (vint w64 n ∷ [], tt))
+    abbrev pub lent-new : Vals new.signature (κ, tt)
+    lent-new = (val s ∷ [], (vint w64 n ∷ [], tt))
 
     abbrev pub to-new : New .Ghost
-    to-new = (((κ, tt), (q, tt), tt, (s, (n, tt)), passed), tt)
+    to-new = (((κ, tt), (q, tt), tt, (s, (n, tt)), lent-new), tt)
 
-    pub goes-new : ent 𝓤 (onEntry 𝓤 H A new.signature (κ, tt) (q, tt) (s, (n, tt)) passed) (sep 𝓤 (New .pre to-new) (sem 𝓤 H A (OwnSlice κ s)))
+    pub goes-new : ent 𝓤 (onEntry 𝓤 H A new.signature (κ, tt) (q, tt) (s, (n, tt)) lent-new) (sep 𝓤 (New .pre to-new) (sem 𝓤 H A (OwnSlice κ s)))
     goes-new =
-        qed W ((‵ (flft κ q) ⊛ ‵ ftrue) ∷ ‵ (owns (ShrSlice (named 0) κ u8 ∷ usize ∷ []) (s, (n, tt)) passed) ∷ []) ∵
+        qed W ((‵ (flft κ q) ⊛ ‵ ftrue) ∷ ‵ (owns (ShrSlice (named 0) κ u8 ∷ usize ∷ []) (s, (n, tt)) lent-new) ∷ []) ∵
         move ! (1 ∷ []) $ fsplit ! $ use1 W (‵ (OwnSlice κ s) ⊛ ‵ (OwnSlice κ s)) (shr-slice-copy 𝓤 H A W (named 0) κ u8 .twice s (val s ∷ [])) $ split ! $
-        move ! (0 ∷ 2 ∷ []) $ fjoin ! $ move ! (2 ∷ 0 ∷ []) $ use2 W (raw (New .pre to-new)) (qed W ((‵ (flft κ q) ⊛ ‵ ftrue) ∷ ‵ (owns (ShrSlice (named 0) κ u8 ∷ usize ∷ []) (s, (n, tt)) passed) ∷ []) ∵ join ! $ frame ! $ done !) $ frame ! $ done !
+        move ! (0 ∷ 2 ∷ []) $ fjoin ! $ move ! (2 ∷ 0 ∷ []) $ use2 W (raw (New .pre to-new)) (qed W ((‵ (flft κ q) ⊛ ‵ ftrue) ∷ ‵ (owns (ShrSlice (named 0) κ u8 ∷ usize ∷ []) (s, (n, tt)) lent-new) ∷ []) ∵ join ! $ frame ! $ done !) $ frame ! $ done !
 
     pub new-said : (r : Reader) → ent 𝓤 (ensured 𝓤 H A new.ended (new.clauses 𝓤 H A mem run) (κ, tt) (s, (n, tt)) tt r) (fact 𝓤 (Stands s n r))
     new-said r = exE 𝓤 _ (λ ws. snd∗ 𝓤 (sem 𝓤 H A (lasts new.ended (κ, tt) (s, (n, tt)) ws)) (fact 𝓤 (Stands s n r)))

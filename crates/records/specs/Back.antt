@@ -6,7 +6,7 @@ use native.Mathlib.Omega.{arith}
 use lib.ListN.{length}
 use lib.Ieee.{Float, ofBits}
 use lib.Ieee as Ieee
-use Rattle.laws.specs.Flat.{part, records-push, part-new}
+use Rattle.laws.specs.Flat.{part, part-new}
 use Rattle.laws.specs.Put.{put}
 use Rattle.shape.specs.declared.Curve.{Curve}
 use Rattle.shape.specs.declared.Curve.the-variants.{Line, Quad, Cubic}
@@ -44,17 +44,6 @@ decode-fields g h =
     ap (λ (n : ℕ). geometry n (curveOf (cornersOf (g .curve))) (anchorOf (anchorNumber (g .anchor))) g) (whole-back (g .edge) (omega arith))
     ∙ ap (λ (c : Curve). geometry (g .edge) c (anchorOf (anchorNumber (g .anchor))) g) (curve-back (g .curve))
     ∙ ap (λ (a : Anchor). geometry (g .edge) (g .curve) a g) (anchor-back (g .anchor))
-
--- record k is read back
-pub record-back : (l : List Float) (k : ℕ) (g : Geometry) → g .edge < 65536 → 20 * k + 20 ≤ length l → decodeGeometry (part 20 k (put l (20 * k) (fields g))) ≡ g
-record-back l k g h room = ap decodeGeometry (part-new 20 (20 * k) l (fields g) refl room) ∙ decode-fields g h
-
--- one record more, after n
-pub record-push : (n : ℕ) (l : List Float) (g : Geometry) → g .edge < 65536 → 20 * n + 20 ≤ length l
-    → decodeRecords (n + 1) (put l (20 * n) (fields g)) ≡ decodeRecords n l ++ (g ∷ [])
-record-push n l g h room =
-    records-push decodeGeometry 20 n l (fields g) refl room
-    ∙ ap (λ (x : Geometry). decodeRecords n l ++ (x ∷ [])) (decode-fields g h)
 
 -- every arrow number is below 65,536
 abbrev pub Small : List Geometry → Type 0

@@ -3,10 +3,8 @@
 use mathlib.Core.Path.{_≡_, refl}
 use mathlib.Core.Bool.{cond}
 use mathlib.Core.List.{List, [], _∷_}
-use Prim.Native.Nat.{ℕ}
 use lib.ListN.{getD}
 use lib.Ieee.{Float, nan, ofBits, ofInt, round}
-use Rattle.laws.specs.Flat.{decodeFlat}
 use Rattle.float.specs.Ops.{eq, ofNat}
 use Rattle.float.specs.Constants.{f0, f1, f2, f3}
 use Rattle.shape.specs.declared.«V».{«V»}
@@ -51,7 +49,3 @@ shapeOf s = cond (eq (s .kind) f3) Shape.Line (cond (eq (s .kind) f2) (Shape.Arc
 
 unfoldable pub decodeRouted : List Float → Routed
 decodeRouted l = record { curve = curveOf (cornersIn l); «tip_angle» = getD l 12 nan; shape = shapeOf (shaped (getD l 0 nan) (pointIn l 13)) }
-
--- the first n slots
-abbrev pub decodeSlots : ℕ → List Float → List Routed
-decodeSlots n l = decodeFlat decodeRouted 20 n l

@@ -15,6 +15,9 @@ ghost use Rattle.laws.specs.Put.{put};
 ghost use Rattle.records.specs.Records as S;
 ghost use Rattle.records.specs.Slots as L;
 
+// The numbers of a record, and of a slot.
+pub const RECORD_NUMBERS: usize = 20;
+
 // ---- writing a record
 
 // The points of a curve: how many, and four of them, unused ones at 0, 0.
@@ -60,7 +63,7 @@ fn anchor_number(anchor: Anchor) -> f64
 }
 
 // The twenty numbers, at the front of `part`.
-pub fn write_record(part: &mut [f64], g: Geometry)
+fn write_record(part: &mut [f64], g: Geometry)
     requires { ⌜ 20 ≤ length (now part) ⌝ }
     ensures { λ _. ⌜ now (part .exit) ≡ put (now (part .entry)) 0 (S.fields g) ⌝ }
 {
@@ -95,7 +98,7 @@ pub fn write_at(records: &mut [f64], k: usize, g: Geometry)
     requires { ⌜ 20 * k + 20 ≤ length (now records) ⌝ }
     ensures { λ _. ⌜ now (records .exit) ≡ put (now (records .entry)) (20 * k) (S.fields g) ⌝ }
 {
-    let at = 20 * k;
+    let at = RECORD_NUMBERS * k;
     write_record(&mut records[at..], g);
 }
 
@@ -155,8 +158,21 @@ fn anchor_of(k: f64) -> Anchor
     Anchor::End
 }
 
+// The label's box of the record in the first twenty numbers.
+fn label_box_of(part: &[f64]) -> Rect
+    requires { ⌜ 20 ≤ length (now part) ⌝ }
+    ensures { λ r. ⌜ r ≡ S.decodeGeometry (now (part .entry)) .«label_box» ⌝ }
+{
+    Rect {
+        x0: part[16],
+        y0: part[17],
+        x1: part[18],
+        y1: part[19],
+    }
+}
+
 // The record in the first twenty numbers.
-pub fn geometry_of(part: &[f64]) -> Geometry
+fn geometry_of(part: &[f64]) -> Geometry
     requires { ⌜ 20 ≤ length (now part) ⌝ }
     ensures { λ g. ⌜ g ≡ S.decodeGeometry (now (part .entry)) ⌝ }
 {
@@ -176,12 +192,7 @@ pub fn geometry_of(part: &[f64]) -> Geometry
             y: part[14],
         },
         anchor,
-        label_box: Rect {
-            x0: part[16],
-            y0: part[17],
-            x1: part[18],
-            y1: part[19],
-        },
+        label_box: label_box_of(part),
     }
 }
 
@@ -190,23 +201,40 @@ pub fn geometry_at(records: &[f64], k: usize) -> Geometry
     requires { ⌜ 20 * k + 20 ≤ length (now records) ⌝ }
     ensures { λ g. ⌜ g ≡ S.decodeGeometry (part 20 k (now (records .entry))) ⌝ }
 {
-    let at = 20 * k;
-    let end = at + 20;
+    let at = RECORD_NUMBERS * k;
+    let end = at + RECORD_NUMBERS;
     geometry_of(&records[at..end])
+}
+
+// The label's box of record k.
+pub fn label_box_at(records: &[f64], k: usize) -> Rect
+    requires { ⌜ 20 * k + 20 ≤ length (now records) ⌝ }
+    ensures { λ r. ⌜ r ≡ S.decodeGeometry (part 20 k (now (records .entry))) .«label_box» ⌝ }
+{
+    let at = RECORD_NUMBERS * k;
+    let end = at + RECORD_NUMBERS;
+    label_box_of(&records[at..end])
 }
 
 // ---- slots
 
 // The sorts of arrows.
-pub const LEFT_OUT: usize = 0;
+pub const LEFT_OUT: u8 = 0;
 
-pub const LOOP: usize = 1;
+pub const LOOP: u8 = 1;
 
-pub const ARC: usize = 2;
+pub const ARC: u8 = 2;
 
-pub const STRAIGHT: usize = 3;
+pub const STRAIGHT: u8 = 3;
 
-// The sort as a float, LOOP, ARC or STRAIGHT, and the shape's numbers, unused ones 0.
+// The same as floats, as a slot holds them.
+const LOOP_KIND: f64 = LOOP as f64;
+
+const ARC_KIND: f64 = ARC as f64;
+
+const STRAIGHT_KIND: f64 = STRAIGHT as f64;
+
+// The sort as a float, and the shape's numbers, unused ones 0.
 pub struct Shaped {
     pub kind: f64,
     pub v: V,
@@ -217,14 +245,17 @@ fn shaped_of(shape: Shape) -> Shaped
 {
     match shape {
         Shape::Line => Shaped {
-            kind: 3.0,
+            kind: STRAIGHT_KIND,
             v: V { x: 0.0, y: 0.0 },
         },
         Shape::Arc(outer) => Shaped {
-            kind: 2.0,
+            kind: ARC_KIND,
             v: V { x: outer, y: 0.0 },
         },
-        Shape::Loop(out) => Shaped { kind: 1.0, v: out },
+        Shape::Loop(out) => Shaped {
+            kind: LOOP_KIND,
+            v: out,
+        },
     }
 }
 
@@ -263,7 +294,7 @@ pub fn put_routed(slots: &mut [f64], k: usize, r: Routed)
     requires { ⌜ 20 * k + 20 ≤ length (now slots) ⌝ }
     ensures { λ _. ⌜ now (slots .exit) ≡ put (now (slots .entry)) (20 * k) (L.routedFields r) ⌝ }
 {
-    let at = 20 * k;
+    let at = RECORD_NUMBERS * k;
     write_routed(&mut slots[at..], r);
 }
 
@@ -271,10 +302,10 @@ fn shape_of(s: Shaped) -> Shape
     ensures { λ r. ⌜ r ≡ L.shapeOf s ⌝ }
 {
     let v = s.v;
-    if s.kind == 3.0 {
+    if s.kind == STRAIGHT_KIND {
         return Shape::Line;
     }
-    if s.kind == 2.0 {
+    if s.kind == ARC_KIND {
         return Shape::Arc(v.x);
     }
     Shape::Loop(v)
@@ -304,7 +335,7 @@ pub fn routed_at(slots: &[f64], k: usize) -> Routed
     requires { ⌜ 20 * k + 20 ≤ length (now slots) ⌝ }
     ensures { λ r. ⌜ r ≡ L.decodeRouted (part 20 k (now (slots .entry))) ⌝ }
 {
-    let at = 20 * k;
-    let end = at + 20;
+    let at = RECORD_NUMBERS * k;
+    let end = at + RECORD_NUMBERS;
     routed_of(&slots[at..end])
 }

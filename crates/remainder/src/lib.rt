@@ -11,7 +11,12 @@ ghost use Rattle.remainder.specs.Tau.{τ, significand, tauBits, infinity
 // The circle's whole turn: SIGNIFICAND / 2^50.
 pub const TAU: f64 = 6.283185307179586;
 
-const SIGNIFICAND: u64 = 7074237752028440;
+// The bits of TAU; of 2 * TAU, whose exponent is one higher; and TAU's significand.
+const TAU_BITS: u64 = 4618760256179416344;
+
+const TWICE_BITS: u64 = TAU_BITS + LEADING;
+
+const SIGNIFICAND: u64 = LEADING + (TAU_BITS & FRACTION);
 
 // 2^50.
 const UNITS: f64 = 1125899906842624.0;
@@ -19,10 +24,8 @@ const UNITS: f64 = 1125899906842624.0;
 // All bits but the sign.
 const SIZE: u64 = SIGN - 1;
 
-// The bits of TAU and of 2 * TAU.
-const TAU_BITS: u64 = 4618760256179416344;
-
-const TWICE_BITS: u64 = 4623263855806786840;
+// An exponent e in a float's bits stands for significand * 2^(e - 1075), which is significand * 2^(e - 1025) / 2^50.
+const UNIT_EXPONENT: u64 = 1025;
 
 // m * 2^k modulo TAU's significand, eleven places at a time.
 fn reduce(m: u64, k: u64) -> u64
@@ -46,7 +49,7 @@ fn from_tau(size: u64) -> f64
     if size < TWICE_BITS {
         return f64::from_bits(size) - TAU;
     }
-    let r = reduce(LEADING + (size & FRACTION), (size >> 52) - 1025);
+    let r = reduce(LEADING + (size & FRACTION), (size >> 52) - UNIT_EXPONENT);
     r as f64 / UNITS
 }
 

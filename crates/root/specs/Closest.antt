@@ -8,6 +8,7 @@ use lib.Dec.{eqb, ltb}
 use lib.Pow.{pow-pos}
 use borrow.Author.Tests.{eqb-true, eqb-false, ltb-true, ltb-false, ne-eqb}
 use Rattle.root.specs.Root.{rootBits}
+use Rattle.root.specs.Nearest.{twice-less}
 use Rattle.root.specs.Rounded.{magnitude, NearestRoot, four-square, rootDigits, rootPower, root-bits-are, root-number, number-reaches, root-nearest, root-digits, magnitude-of}
 
 -- ---- magnitudes are in the order of their bits
@@ -128,9 +129,6 @@ is-under : (k p M : ℕ) → 2 ^ 52 ≤ p → p ≤ 2 ^ 53 → (2 * p - 1) * (2 
 is-under k zero M l u n m c h = absurd (omega arith)
 is-under k (suc q) M l u n m c h = go (ltb q (2 ^ 52)) refl
   where
-    twice : 2 * suc q - 1 ≡ 2 * q + 1
-    twice = omega arith
-
     go : (b : Bool) → ltb q (2 ^ 52) ≡ b → (magnitude (k * 2 ^ 52 + suc q) + magnitude c) * (magnitude (k * 2 ^ 52 + suc q) + magnitude c) < 4 * M
     go true x =
         let y : q < 2 ^ 52 = ltb-true q (2 ^ 52) x in
@@ -142,7 +140,7 @@ is-under k (suc q) M l u n m c h = go (ltb q (2 ^ 52)) refl
         let y : 2 ^ 52 ≤ q = ltb-false q (2 ^ 52) x in
         under-by q (2 ^ k) (magnitude (k * 2 ^ 52 + suc q)) (magnitude c) (4 * M) (magnitude-of k (suc q) l u)
         (subst (λ (n : ℕ). magnitude c ≤ n) (magnitude-of k q y (omega arith)) (magnitude-le c (k * 2 ^ 52 + q) (omega arith)))
-        (subst (λ (n : ℕ). (2 * q + 1) * (2 * q + 1) * n < 4 * M) (four-square k) (subst (λ (n : ℕ). n * n * 4 ^ k < 4 * M) twice n))
+        (subst (λ (n : ℕ). (2 * q + 1) * (2 * q + 1) * n < 4 * M) (four-square k) (subst (λ (n : ℕ). n * n * 4 ^ k < 4 * M) (twice-less q) n))
 
 -- The root's bits are those of the binary64 closest to the exact root.
 pub root-closest : (b : ℕ) → 0 < b → Closest b (rootBits b)

@@ -3,15 +3,12 @@ use mathlib.Core.Path.{_≡_}
 use Prim.Native.Nat.{ℕ, zero, suc, _+_, _-_, _*_, _^_, _≤_, _<_}
 use native.Mathlib.Omega.{arith}
 use Rattle.root.specs.Root.{nearestRoot}
-use Rattle.root.specs.Nearest.{Nearest, nearest-unique}
-
-twice : (p : ℕ) → 2 * suc p - 1 ≡ 2 * p + 1
-twice p = omega arith
+use Rattle.root.specs.Nearest.{Nearest, twice-less, nearest-unique}
 
 -- twice the midpoints squared, without the quarter that whole numbers never reach
 pub nearest-between : (n p : ℕ) → p * p < n + p → n ≤ p * p + p → Nearest n p
 nearest-between n zero a b = absurd (omega arith)
-nearest-between n (suc p) a b = record { above = rw twice (omega arith); below = omega arith }
+nearest-between n (suc p) a b = record { above = rw twice-less (omega arith); below = omega arith }
 
 -- with h and l the halves of p, a over h * h by d, and y what is left of n + p - p * p, over 2 ^ 26, before l and l * l
 pub halves : (a p h l d y : ℕ) → a < 2 ^ 54 → p ≡ h * 2 ^ 26 + l → a ≡ h * h + d → d * 2 ^ 26 + h ≡ y + 2 * h * l → l * l < y * 2 ^ 26 + l → y * 2 ^ 26 + l ≤ l * l + 2 * p

@@ -299,14 +299,6 @@ module _ (root : Float → Float) (is : IsRoot root) where
       go true e false f = rw (e, f) (sym (same-root y x q p e f))
       go false e t f = rw (e, not-less y x q p e)
 
-  pub root-max : (x y : Float) → Plain x → Plain y → cond (lt (root x) (root y)) (root y) (root x) ≡ root (cond (lt x y) y x)
-  root-max x y p q = go (lt x y) refl (lt (root x) (root y)) refl
-    where
-      go : (s : Bool) → lt x y ≡ s → (t : Bool) → lt (root x) (root y) ≡ t → cond (lt (root x) (root y)) (root y) (root x) ≡ root (cond (lt x y) y x)
-      go true e true f = rw (e, f)
-      go true e false f = rw (e, f) (same-root x y p q e f)
-      go false e t f = rw (e, not-less x y p q e)
-
   -- bounds: t is a constant's bits, and s those of the constant that bounds the number
   module _ (s t : ℕ) (x : Float) (p : Plain x) where
     against : t ≤ 2047 * 2 ^ 52 → SameOrder (rootPlain (bits x)) t × SameOrder t (rootPlain (bits x))

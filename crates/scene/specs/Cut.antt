@@ -7,8 +7,9 @@ use lib.ListN.{length}
 use Rattle.laws.specs.Best.{best, totalFrom, cut-total, cut-total-exact, Cuts, cuts-of, search-from, early-is-best}
 use Rattle.laws.specs.Counting.{howMany, worth, howMany-le, total-worth, total-append, cut-append}
 use Rattle.shape.specs.declared.Rect.{Rect}
+use Rattle.trace.specs.Traces.{struck}
 use Rattle.label_spots.specs.declared.Turn.{Turn}
-use Rattle.scene.specs.Scene.{Scene, near26, wide, apart, overlapping, struck, boxCost}
+use Rattle.scene.specs.Scene.{Scene, near26, wide, apart, overlapping, boxCost}
 use Rattle.scene.specs.Turn.{places, boxAt, placeCost, taken}
 
 abbrev pub statesCost : Scene → Rect → ℕ

@@ -1,4 +1,3 @@
 pub mod Scene
 pub mod Turn
 pub mod Cut
-pub mod Struck

@@ -1,5 +1,5 @@
 -- What is drawn already while labels are placed, and the full cost of a label box in it.
-use mathlib.Core.Bool.{Bool, _&&_}
+use mathlib.Core.Bool.{Bool}
 use mathlib.Core.List.{List, [], _∷_, _++_}
 use Prim.Native.Nat.{ℕ, _+_, _*_}
 use lib.Ieee.{Float}
@@ -11,8 +11,10 @@ use Rattle.shape.specs.declared.«V».{«V»}
 use Rattle.shape.specs.declared.Rect.{Rect}
 use Rattle.shape.specs.Plane.{rect, grown, overlaps, boxDist}
 use Rattle.shape.specs.Centres.{centres as centresOf}
-use Rattle.trace.specs.Traces.{Trace, foreign, hitsRect}
+use Rattle.trace.specs.Traces.{Trace}
 use Rattle.trace.specs.Form.{decodeRect, decodeTraces}
+-- a foreign trace that meets the box: "A foreign trace is one that the turn's arrow does not own."
+unfoldable pub use Rattle.trace.specs.Traces.{struck}
 
 -- "states and traces .. and what `geometry` adds": the labels placed so far, as boxes
 pub record Scene : Type 0 where
@@ -45,10 +47,6 @@ apart b = rect (b .x0 ⊖ labelCharWidth) (b .y0 ⊖ keep) (b .x1 ⊕ labelCharW
 
 abbrev pub overlapping : Rect → Rect → Bool
 overlapping b o = overlaps o b
-
--- "A foreign trace is one that the turn's arrow does not own."
-unfoldable pub struck : ℕ → Rect → Trace → Bool
-struck own b t = foreign own t && hitsRect t b
 
 -- "Full cost: 10 a state, 6 a label, 3 a foreign trace", "summed over the whole scene", "never cut"
 unfoldable pub boxCost : Scene → ℕ → Rect → ℕ

@@ -10,7 +10,7 @@ use Rattle.bend.specs.declared.Shape.the-variants.{Line, Arc, Loop}
 use Rattle.label_spots.specs.declared.Geometry.{Geometry}
 use Rattle.label_spots.specs.Spots.{labelSpots, spotAt, spotCount, spot-count}
 use Rattle.label_spots.specs.Labels.{labelled}
-use Rattle.scene.specs.Scene.{Scene, withBox, boxCost}
+use Rattle.scene.specs.Scene.{Scene, boxCost}
 
 -- how many places are listed
 abbrev pub places : Turn → ℕ
@@ -33,10 +33,6 @@ taken s t = best (placeCost s t) (places t)
 
 abbrev pub placedArrow : Scene → Turn → Geometry
 placedArrow s t = labelledAt t (taken s t)
-
--- the scene of the next turn
-abbrev pub afterLabel : Scene → Turn → Scene
-afterLabel s t = withBox s (placedArrow s t .«label_box»)
 
 -- ---- what holds of it
 

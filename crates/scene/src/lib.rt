@@ -18,6 +18,7 @@ ghost use Rattle.laws.specs.Flat.{part};
 ghost use Rattle.laws.specs.Put.{put};
 ghost use Rattle.shape.specs.Centres.{centres};
 ghost use Rattle.trace.specs.Form.{decodeRect, decodeTrace, decodeTraces};
+ghost use Rattle.trace.specs.Traces.{struck};
 ghost use Rattle.label_spots.specs.Spots.{upper, spotCount};
 ghost use Rattle.scene.specs.Scene as S;
 ghost use Rattle.scene.specs.Turn as T;
@@ -26,7 +27,14 @@ ghost use Rattle.scene.specs.Cut as C;
 // The distance that states and other arrows keep from a label.
 const KEEP: f64 = 4.0;
 
-const NEAR_SQUARED: f64 = (NODE_RADIUS + KEEP) * (NODE_RADIUS + KEEP);
+// The square of the distance below which a state is too near to a label that is placed.
+const NEAR26_SQUARED: f64 = (NODE_RADIUS + KEEP) * (NODE_RADIUS + KEEP);
+
+// Above every cost.
+pub const NO_LIMIT: usize = 18446744073709551615;
+
+// The numbers of a box.
+pub const BOX_NUMBERS: usize = 4;
 
 // ---- boxes
 
@@ -47,7 +55,7 @@ pub fn push_box(boxes: &mut [f64], n: usize, b: Rect) -> usize
         let placed = S.decodeBoxes n (now (boxes .entry)) in
         ⌜ (r ≡ n + 1) × (S.decodeBoxes r (now (boxes .exit)) ≡ placed ++ (b ∷ [])) ⌝ }
 {
-    let at = 4 * n;
+    let at = BOX_NUMBERS * n;
     put_rect(&mut boxes[at..], b);
     n + 1
 }
@@ -56,8 +64,8 @@ fn box_at(boxes: &[f64], k: usize) -> Rect
     requires { ⌜ 4 * k + 4 ≤ length (now boxes) ⌝ }
     ensures { λ r. ⌜ r ≡ decodeRect (part 4 k (now (boxes .entry))) ⌝ }
 {
-    let at = 4 * k;
-    let end = at + 4;
+    let at = BOX_NUMBERS * k;
+    let end = at + BOX_NUMBERS;
     trace::rect_of(&boxes[at..end])
 }
 
@@ -67,7 +75,7 @@ fn box_at(boxes: &[f64], k: usize) -> Rect
 fn state_add(b: Rect, c: V) -> usize
     ensures { λ r. ⌜ (r ≡ worth (S.near26 b) 10 c) × (r ≤ 10) ⌝ }
 {
-    if b.dist_squared(c) < NEAR_SQUARED {
+    if b.dist_squared(c) < NEAR26_SQUARED {
         return 10;
     }
     0
@@ -82,27 +90,17 @@ fn box_add(apart: Rect, o: Rect) -> usize
     0
 }
 
-fn trace_add(t: &[f64], own: usize, wide: Rect) -> usize
-    requires { ⌜ 40 ≤ length (now t) ⌝ }
-    ensures { λ r. ⌜ (r ≡ worth (S.struck own wide) 3 (decodeTrace (now (t .entry)))) × (r ≤ 3) ⌝ }
+// 3 for trace k where it is foreign and meets the box; its bounds are tested first.
+fn trace_add(traces: &[f64], k: usize, own: usize, wide: Rect) -> usize
+    requires { ⌜ 40 * k + 40 ≤ length (now traces) ⌝ }
+    ensures { λ r. ⌜ (r ≡ worth (struck own wide) 3 (decodeTrace (part 40 k (now (traces .entry))))) × (r ≤ 3) ⌝ }
 {
-    if trace::reaches(t, wide) {
-        if trace::foreign(t, own) {
-            if trace::hits_rect(t, wide) {
-                return 3;
-            }
+    if trace::reaches_at(traces, k, wide) {
+        if trace::strikes_at(traces, k, own, wide) {
+            return 3;
         }
     }
     0
-}
-
-fn trace_at_add(traces: &[f64], k: usize, own: usize, wide: Rect) -> usize
-    requires { ⌜ 40 * k + 40 ≤ length (now traces) ⌝ }
-    ensures { λ r. ⌜ (r ≡ worth (S.struck own wide) 3 (decodeTrace (part 40 k (now (traces .entry))))) × (r ≤ 3) ⌝ }
-{
-    let at = 40 * k;
-    let end = at + 40;
-    trace_add(&traces[at..end], own, wide)
 }
 
 // ---- sums over the slices
@@ -116,7 +114,7 @@ fn states_cost(xs: &[f64], ys: &[f64], b: Rect) -> usize
     let mut sum: usize = 0;
     let mut k: usize = 0;
     while k < xs.len() {
-        sum += state_add(b, V { x: xs[k], y: ys[k] });
+        sum += state_add(b, shape::centre(xs, ys, k));
         k += 1;
     }
     sum
@@ -153,7 +151,7 @@ fn traces_cost(
     requires { ⌜ (40 * n ≤ length (now traces)) × (start + 3 * n < 18446744073709551616) ⌝ }
     ensures { λ r.
         let traced = decodeTraces n (now (traces .entry)) in
-        ⌜ (r ≡ cut-total limit start (map (worth (S.struck own wide) 3) traced)) × (r ≤ start + 3 * n) ⌝ }
+        ⌜ (r ≡ cut-total limit start (map (worth (struck own wide) 3) traced)) × (r ≤ start + 3 * n) ⌝ }
 {
     let mut sum = start;
     let mut k: usize = 0;
@@ -162,7 +160,7 @@ fn traces_cost(
         if limit <= sum {
             return sum;
         }
-        sum += trace_at_add(traces, k, own, wide);
+        sum += trace_add(traces, k, own, wide);
         k += 1;
         left -= 1;
     }
@@ -182,7 +180,7 @@ fn apart(b: Rect) -> Rect
 }
 
 // The cost of a label in the box b, of arrow `own`, counted until it reaches the limit.
-pub fn box_cost(
+fn box_cost(
     xs: &[f64],
     ys: &[f64],
     boxes: &[f64],
@@ -229,7 +227,7 @@ pub fn full_cost(
         let scene = S.sceneFrom (now (xs .entry)) (now (ys .entry)) nb (now (boxes .entry)) nt (now (traces .entry)) in
         ⌜ (r ≡ S.boxCost scene own b) × (r ≤ 10 * length (now (xs .entry)) + 6 * nb + 3 * nt) ⌝ }
 {
-    box_cost(xs, ys, boxes, nb, traces, nt, own, b, 18446744073709551615)
+    box_cost(xs, ys, boxes, nb, traces, nt, own, b, NO_LIMIT)
 }
 
 // ---- the search for a place
@@ -263,7 +261,7 @@ fn labelled_at(t: Turn, up: V, j: usize) -> Geometry
 }
 
 // The place that the label takes: of those listed, the first that no other undercuts.
-pub fn take_spot(
+fn take_spot(
     xs: &[f64],
     ys: &[f64],
     boxes: &[f64],
@@ -284,7 +282,7 @@ pub fn take_spot(
         ⌜ j ≡ T.taken scene t ⌝ }
 {
     let mut f = Found {
-        limit: 18446744073709551615,
+        limit: NO_LIMIT,
         place: 0,
     };
     let arrow = t.arrow;

@@ -10,7 +10,6 @@ use borrow.Author.Tests.{ne-eqb, eq-eqb}
 use lib.Dec.{eqb}
 use lib.ListN.{length, getD}
 use lib.Ieee.{Float, nan}
-use Rattle.laws.specs.Cases.{by-bool}
 use Rattle.laws.specs.Best.{search-from}
 use Rattle.laws.specs.Flat.{part}
 use Rattle.laws.specs.Counting.{howMany, worth, howMany-step, howMany-le, table-length}
@@ -19,13 +18,11 @@ use Rattle.laws.specs.Lists.{getD-any}
 use Rattle.float.specs.Constants.{f0-5, f1, crampedRoom}
 use Rattle.float.specs.Ops.{lt}
 use Rattle.shape.specs.declared.«V».{«V»}
-use Rattle.shape.specs.declared.Rect.{Rect}
 use Rattle.shape.specs.declared.Curve.{Curve}
-use Rattle.shape.specs.Plane.{vec, touches, polar, angle}
+use Rattle.shape.specs.Plane.{vec, polar, angle}
 use Rattle.shape.specs.Curves.{at, tangent}
-use Rattle.trace.specs.Traces.{Trace, foreign, crosses, near25, arrow, traceOf}
-use Rattle.trace.specs.Form.{decodeRect, boundsIn, decodeTrace}
-use Rattle.trace.specs.Reach.{crosses-none}
+use Rattle.trace.specs.Traces.{Trace, crossed, near25, arrow, traceOf}
+use Rattle.trace.specs.Form.{decodeRect, decodeTrace}
 use Rattle.bend.specs.declared.Routed.{Routed}
 use Rattle.bend.specs.declared.Shape.the-variants as Shape
 use Rattle.label_spots.specs.declared.Geometry.{Geometry}
@@ -35,7 +32,7 @@ use Rattle.scene.specs.Scene.{Scene, boxCost, sceneFrom}
 use Rattle.scene.specs.Cut.{cost-le}
 use Rattle.directions.specs.Directions.{directions, room, upwards}
 use Rattle.directions.specs.Loop.{loopCurve}
-use Rattle.self_loop.specs.Looped.{Loop, loopRouted, loopAt, loopDrawn, statesBut, crossed, cramped, loopAdds, loopCost, directionCost, loopTaken, loop-least}
+use Rattle.self_loop.specs.Looped.{Loop, loopRouted, loopAt, loopDrawn, statesBut, cramped, loopAdds, loopCost, directionCost, loopTaken, loop-least}
 use Rattle.self_loop.specs.Early.{loop-early}
 
 -- ---- the drawing
@@ -105,24 +102,6 @@ module _ (p : «V» → Bool) (node k : ℕ) (x : «V») where
 
   pub other-is : (h b : Bool) → (k ≡ node → ⊥) → h ≡ p x → h ≡ b → cond b 10 0 ≡ cond (eqb k node) 0 (worth p 10 x)
   other-is h b n e f = rw (ne-eqb k node n, ← e, f)
-
--- ---- the traces crossed
-
-module _ (edge : ℕ) (looped t : Trace) (f : Bool) (e : f ≡ foreign edge t) where
-  pub crossed-is : (h b : Bool) → f ≡ true → h ≡ crosses t looped → h ≡ b → cond b 3 0 ≡ worth (crossed edge looped) 3 t
-  unfolding crossed
-  crossed-is h b x y z = rw (← e, x, ← y, z)
-
-  pub crossed-not : f ≡ false → 0 ≡ worth (crossed edge looped) 3 t
-  unfolding crossed
-  crossed-not x = rw (← e, x)
-
--- b is the loop's bounds as the code reads them
-pub crossed-none : (edge : ℕ) (m l : List Float) (b : Rect) (s : Bool) → b ≡ boundsIn m → s ≡ touches (boundsIn l) b → s ≡ false → 0 ≡ worth (crossed edge (decodeTrace m)) 3 (decodeTrace l)
-unfolding crossed
-crossed-none edge m l b s e f g =
-    let w : touches (boundsIn l) (boundsIn m) ≡ false = ap (touches (boundsIn l)) (sym e) ∙ sym f ∙ g in
-    rw (← crosses-none l m w) (by-bool (foreign edge (decodeTrace l)) (λ h. rw h) (λ h. rw h))
 
 -- ---- costs
 

@@ -1,6 +1,6 @@
 -- The turn of a self-loop: every direction of `self_loop` gets its full cost, and the first that no other undercuts is taken.
 use mathlib.Core.Path.{_≡_, subst}
-use mathlib.Core.Bool.{Bool, cond, _&&_}
+use mathlib.Core.Bool.{cond}
 use mathlib.Core.List.{List, [], _∷_}
 use Prim.Native.Nat.{ℕ, zero, suc, _+_, _-_, _*_, _<_}
 use native.Mathlib.Omega.{arith}
@@ -13,7 +13,7 @@ use Rattle.float.specs.Ops.{lt}
 use Rattle.shape.specs.declared.«V».{«V»}
 use Rattle.shape.specs.Plane.{polar, angle}
 use Rattle.shape.specs.Curves.{tangent}
-use Rattle.trace.specs.Traces.{Trace, arrow, traceOf, foreign, crosses, near25}
+use Rattle.trace.specs.Traces.{Trace, arrow, traceOf, near25}
 use Rattle.bend.specs.declared.Routed.{Routed}
 use Rattle.bend.specs.declared.Shape.the-variants as Shape
 use Rattle.label_spots.specs.declared.Turn.{Turn}
@@ -23,6 +23,8 @@ use Rattle.scene.specs.Turn.{labelledAt}
 use Rattle.directions.specs.Directions.{directions, room, upwards}
 use Rattle.directions.specs.Lengths.{directions-some}
 use Rattle.directions.specs.Loop.{loopCurve}
+-- a foreign trace that the loop crosses
+unfoldable pub use Rattle.trace.specs.Traces.{crossed}
 
 -- a loop: its arrow's number, its state's number and centre, the angles at which the rim of the state is taken, and the size of the label
 pub record Loop : Type 0 where
@@ -61,10 +63,6 @@ unfoldable pub statesBut : ℕ → List «V» → List «V»
 statesBut k [] = []
 statesBut zero (c ∷ cs) = cs
 statesBut (suc k) (c ∷ cs) = c ∷ statesBut k cs
-
--- a foreign trace that the loop crosses
-unfoldable pub crossed : ℕ → Trace → Trace → Bool
-crossed edge looped t = foreign edge t && crosses t looped
 
 -- 20 where another arrow or the start mark is nearer than 0.75
 unfoldable pub cramped : Float → List Float → ℕ

@@ -5,8 +5,10 @@ use label_spots::Geometry;
 use label_spots::Spot;
 use label_spots::Turn;
 use scene::Found;
+use scene::NO_LIMIT;
 use shape::Curve;
 use shape::V;
+use trace::TRACE_NUMBERS;
 ghost use mathlib.Core.Path.{_≡_};
 ghost use mathlib.Core.Bool.{cond};
 ghost use Prim.Native.Nat.{_+_, _*_, _≤_, _<_};
@@ -15,7 +17,7 @@ ghost use lib.ListN.{length};
 ghost use Rattle.laws.specs.Counting.{howMany, worth};
 ghost use Rattle.laws.specs.Flat.{part};
 ghost use Rattle.shape.specs.Centres.{centre, centres};
-ghost use Rattle.trace.specs.Traces.{near25, traceOf, arrow};
+ghost use Rattle.trace.specs.Traces.{crossed, near25, traceOf, arrow};
 ghost use Rattle.trace.specs.Form.{decodeTrace, decodeTraces};
 ghost use Rattle.scene.specs.Scene as S;
 ghost use Rattle.directions.specs.Directions.{directions};
@@ -82,39 +84,24 @@ fn states_add(looped: &[f64], node: usize, xs: &[f64], ys: &[f64]) -> usize
     let mut sum: usize = 0;
     let mut k: usize = 0;
     while k < xs.len() {
-        sum += state_add(looped, node, k, V { x: xs[k], y: ys[k] });
+        sum += state_add(looped, node, k, shape::centre(xs, ys, k));
         k += 1;
     }
     sum
 }
 
-// 3 for a foreign trace that the loop crosses.
-fn trace_add(t: &[f64], edge: usize, looped: &[f64]) -> usize
-    requires { ⌜ (40 ≤ length (now t)) × (40 ≤ length (now looped)) ⌝ }
-    ensures { λ r.
-        let own = decodeTrace (now (looped .entry)) in
-        ⌜ (r ≡ worth (L.crossed edge own) 3 (decodeTrace (now (t .entry)))) × (r ≤ 3) ⌝ }
-{
-    if trace::reaches(t, trace::bounds_of(looped)) {
-        if trace::foreign(t, edge) {
-            if trace::crosses(t, looped) {
-                return 3;
-            }
-        }
-    }
-    0
-}
-
-fn trace_at_add(traces: &[f64], k: usize, edge: usize, looped: &[f64]) -> usize
+// 3 for trace k where it is foreign and the loop crosses it.
+fn trace_add(traces: &[f64], k: usize, edge: usize, looped: &[f64]) -> usize
     requires { ⌜ (40 * k + 40 ≤ length (now traces)) × (40 ≤ length (now looped)) ⌝ }
     ensures { λ r.
         let own = decodeTrace (now (looped .entry)) in
         let met = decodeTrace (part 40 k (now (traces .entry))) in
-        ⌜ (r ≡ worth (L.crossed edge own) 3 met) × (r ≤ 3) ⌝ }
+        ⌜ (r ≡ worth (crossed edge own) 3 met) × (r ≤ 3) ⌝ }
 {
-    let at = 40 * k;
-    let end = at + 40;
-    trace_add(&traces[at..end], edge, looped)
+    if trace::crossed_at(traces, k, edge, looped) {
+        return 3;
+    }
+    0
 }
 
 fn traces_add(traces: &[f64], n: usize, edge: usize, looped: &[f64]) -> usize
@@ -122,13 +109,13 @@ fn traces_add(traces: &[f64], n: usize, edge: usize, looped: &[f64]) -> usize
     ensures { λ r.
         let own = decodeTrace (now (looped .entry)) in
         let traced = decodeTraces n (now (traces .entry)) in
-        ⌜ (r ≡ 3 * howMany (L.crossed edge own) traced) × (r ≤ 3 * n) ⌝ }
+        ⌜ (r ≡ 3 * howMany (crossed edge own) traced) × (r ≤ 3 * n) ⌝ }
 {
     let mut sum: usize = 0;
     let mut k: usize = 0;
     let mut left = n;
     while 0 < left {
-        sum += trace_at_add(traces, k, edge, looped);
+        sum += trace_add(traces, k, edge, looped);
         k += 1;
         left -= 1;
     }
@@ -163,7 +150,7 @@ fn loop_adds(
         ⌜ (r ≡ L.loopAdds nodes traced edge node (now (taken .entry)) phi (traceOf (arrow edge) curve))
         × (r ≤ 10 * length (now (xs .entry)) + 3 * nt + 20) ⌝ }
 {
-    let mut looped = [0.0f64; 40];
+    let mut looped = [0.0f64; TRACE_NUMBERS];
     trace::write_trace(&mut looped, edge + 1, curve);
     let states = states_add(&looped, node, xs, ys);
     let crossings = traces_add(traces, nt, edge, &looped);
@@ -236,7 +223,7 @@ fn take_direction(
         ⌜ j ≡ L.loopTaken scene turn ⌝ }
 {
     let mut f = Found {
-        limit: 18446744073709551615,
+        limit: NO_LIMIT,
         place: 0,
     };
     let mut j: usize = 0;
@@ -344,10 +331,7 @@ pub fn self_loop(
 {
     let mut listed = [0.0f64; 516];
     let n = directions::directions(taken, &mut listed);
-    let c = V {
-        x: xs[node],
-        y: ys[node],
-    };
+    let c = shape::centre(xs, ys, node);
     draw_taken(
         xs,
         ys,

@@ -326,7 +326,7 @@ fn settled(enter: f64, leave: f64) -> Clip
     }
 }
 
-fn step(towards: f64, room: f64, c: Clip) -> Clip
+fn clip_step(towards: f64, room: f64, c: Clip) -> Clip
     ensures { λ r. ⌜ r ≡ T.clipStep towards room c ⌝ }
 {
     if towards == 0.0 {
@@ -346,11 +346,11 @@ fn step(towards: f64, room: f64, c: Clip) -> Clip
     settled(c.enter, float::min(c.leave, at))
 }
 
-fn edge(towards: f64, room: f64, c: Clip) -> Clip
+fn edge_step(towards: f64, room: f64, c: Clip) -> Clip
     ensures { λ r. ⌜ r ≡ T.edgeStep towards room c ⌝ }
 {
     if c.ok {
-        return step(towards, room, c);
+        return clip_step(towards, room, c);
     }
     c
 }
@@ -363,10 +363,10 @@ fn clipped(from: V, d: V, r: Rect) -> bool
         leave: 1.0,
         ok: true,
     };
-    let c1 = edge(-d.x, from.x - r.x0, c0);
-    let c2 = edge(d.x, r.x1 - from.x, c1);
-    let c3 = edge(-d.y, from.y - r.y0, c2);
-    let c4 = edge(d.y, r.y1 - from.y, c3);
+    let c1 = edge_step(-d.x, from.x - r.x0, c0);
+    let c2 = edge_step(d.x, r.x1 - from.x, c1);
+    let c3 = edge_step(-d.y, from.y - r.y0, c2);
+    let c4 = edge_step(d.y, r.y1 - from.y, c3);
     c4.ok
 }
 

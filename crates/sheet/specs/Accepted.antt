@@ -5,15 +5,14 @@ use mathlib.Core.List.{List, []}
 use Prim.Native.Nat.{ℕ, _+_, _*_, _≤_, _<_}
 use native.Mathlib.Omega.{arith}
 use lib.Dec.{ltb, eqb}
-use lib.ListN.{length, getD, drop, length-take, length-drop}
-use Rattle.laws.specs.Loops.{anyUp}
+use lib.ListN.{length, getD}
 use Rattle.laws.specs.Refusals.{Clear}
-use Rattle.laws.specs.Any.{anyOf, none-at, none-all, none-up}
+use Rattle.laws.specs.Any.{anyOf, none-at, none-all}
 use Rattle.laws.specs.Bools.{or-false-left, or-false-right, or-none}
 use borrow.Author.Tests.{ltb-false, le-ltb, eqb-true, not-false}
 use Rattle.text.specs.Utf8.{wellFormed}
-use Rattle.sheet.specs.Sheet.{count, kindOf, byteOne, piece, Graph, meaning}
-use Rattle.sheet.specs.Refusals.{wrongLength, someSet, wrongRecord, wrongBytes, longLine, largeArrow, overLimits, illLine, illArrow, illFormed, refusals, mainScreen, checkOf}
+use Rattle.sheet.specs.Sheet.{count, Graph, meaning}
+use Rattle.sheet.specs.Refusals.{wrongLength, longLine, largeArrow, overLimits, illLine, illArrow, illFormed, refusals, mainScreen, checkOf}
 use Rattle.sheet.specs.Order.{accepted-exactly}
 use Rattle.sheet.specs.declared.Checked.the-variants.{Accepted}
 use Rattle.sheet.specs.declared.Limits.{Limits}
@@ -116,23 +115,3 @@ pub on-main-screen : (s : List ℕ) → checkOf mainScreen s ≡ Accepted → On
 on-main-screen s q =
     let w = within-limits mainScreen s q in
     record { states = w .states; arrows = w .arrows; lines = w .lines; bytes = w .bytes; formed = w .formed }
-
--- A text record of a sheet that passes 1 and 4 stands whole in it: its piece has as many bytes as its byte 1 says, 1 to 12.
-pub record Piece (s : List ℕ) (k : ℕ) : Type 0 where
-  pub some : 1 ≤ byteOne s k
-  pub few : byteOne s k ≤ 12
-  pub whole : length (piece s k) ≡ byteOne s k
-
-text-right : (s : List ℕ) (k : ℕ) → kindOf s k ≡ 4 → wrongRecord s k ≡ false → (ltb (byteOne s k) 1 || (ltb 12 (byteOne s k) || someSet s (16 * k + 4 + byteOne s k) (16 * k + 16))) ≡ false
-unfolding wrongRecord
-text-right s k q e = rw q at e
-
-pub piece-whole : (s : List ℕ) (k : ℕ) → wrongLength s ≡ false → wrongBytes s ≡ false → 1 ≤ k → k ≤ count s → kindOf s k ≡ 4 → Piece s k
-unfolding wrongBytes
-piece-whole s k l e a b q =
-    let r = text-right s k q (none-up (wrongRecord s) 1 (count s + 1) k (or-false-right (someSet s 8 16) (anyUp (wrongRecord s) 1 (count s + 1)) e) a (omega arith)) in
-    let rest = ltb 12 (byteOne s k) || someSet s (16 * k + 4 + byteOne s k) (16 * k + 16) in
-    let lo : 1 ≤ byteOne s k = ltb-false (byteOne s k) 1 (or-false-left (ltb (byteOne s k) 1) rest r) in
-    let hi : byteOne s k ≤ 12 = ltb-false 12 (byteOne s k) (or-false-left (ltb 12 (byteOne s k)) (someSet s (16 * k + 4 + byteOne s k) (16 * k + 16)) (or-false-right (ltb (byteOne s k) 1) rest r)) in
-    let n : length s ≡ 16 * (1 + count s) = right-length s l in
-    record { some = lo; few = hi; whole = rw (length-take (byteOne s k) (drop (16 * k + 4) s), length-drop (16 * k + 4) s) (omega arith) }

@@ -29,21 +29,21 @@ module _ (s : List ℕ) where
 
   -- ---- some thing of a chain: f makes it of a record
   module _ {A : Type 0} (f : ℕ → A) (p : A → Bool) where
-    pub any-end : (n i : ℕ) → i ≡ 0 → false ≡ anyOf p (map f (chainBy s n i))
+    pub along-end : (n i : ℕ) → i ≡ 0 → false ≡ anyOf p (map f (chainBy s n i))
     unfolding anyOf
-    any-end n i e = rw (chain-end n i e)
+    along-end n i e = rw (chain-end n i e)
 
-    pub any-cut : (n i : ℕ) → n ≡ 0 → false ≡ anyOf p (map f (chainBy s n i))
+    pub along-cut : (n i : ℕ) → n ≡ 0 → false ≡ anyOf p (map f (chainBy s n i))
     unfolding anyOf
-    any-cut n i e = rw (chain-cut n i e)
+    along-cut n i e = rw (chain-cut n i e)
 
-    pub any-hit : (n i : ℕ) → (n ≡ 0 → ⊥) → (i ≡ 0 → ⊥) → p (f i) ≡ true → true ≡ anyOf p (map f (chainBy s n i))
+    pub along-hit : (n i : ℕ) → (n ≡ 0 → ⊥) → (i ≡ 0 → ⊥) → p (f i) ≡ true → true ≡ anyOf p (map f (chainBy s n i))
     unfolding anyOf
-    any-hit n i h e b = rw (chain-step n i h e, b)
+    along-hit n i h e b = rw (chain-step n i h e, b)
 
-    pub any-miss : (n i : ℕ) → (n ≡ 0 → ⊥) → (i ≡ 0 → ⊥) → p (f i) ≡ false → anyOf p (map f (chainBy s (n - 1) (next s i))) ≡ anyOf p (map f (chainBy s n i))
+    pub along-miss : (n i : ℕ) → (n ≡ 0 → ⊥) → (i ≡ 0 → ⊥) → p (f i) ≡ false → anyOf p (map f (chainBy s (n - 1) (next s i))) ≡ anyOf p (map f (chainBy s n i))
     unfolding anyOf
-    any-miss n i h e b = rw (chain-step n i h e, b)
+    along-miss n i h e b = rw (chain-step n i h e, b)
 
   -- ---- a number for each record of a chain, stored in a list from place k on
   module _ {A : Type 0} (f : ℕ → A) where

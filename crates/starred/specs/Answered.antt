@@ -39,9 +39,9 @@ module _ (s : List ℕ) (kind : ℕ) (l : Layout)
   )
 
 -- a number that 10 does not stop, with this text
-pub writes : (v : Float) (text : List ℕ) → tooLarge v ≡ false → numText v ≡ text → (out : List ℕ) → length text ≤ length out
+pub number-written : (v : Float) (text : List ℕ) → tooLarge v ≡ false → numText v ≡ text → (out : List ℕ) → length text ≤ length out
     → (writeNum v out ≡ values (length text)) × (writeNumAfter v out ≡ onto text out)
 unfolding writeNum writeNumAfter decide
-writes v text small e out h =
+number-written v text small e out h =
     let enough = le-ltb (length out) (length text) h in
     (rw (small, e, enough), rw (small, e, enough))

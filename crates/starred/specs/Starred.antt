@@ -50,7 +50,7 @@ use Rattle.layout.specs.Layout as Layout
 use Rattle.beyond.specs.Beyond as Beyond
 use Rattle.plan.specs.Measured as Measured
 use Rattle.calls.specs.Calls.{values, onto, writeNum, writeNumAfter, layout, xsAfter, ysAfter}
-use Rattle.starred.specs.Answered.{lays, writes}
+use Rattle.starred.specs.Answered.{lays, number-written}
 
 -- what a drawing is given, and what it must give
 pub data StarredDrawing : Type 0 where
@@ -157,9 +157,9 @@ starred =
     also lays (aloneSheet 1) 0 _ (λ A refuse answer. refl) refl refl
     also lays (aloneSheet 1) 1 _ (λ A refuse answer. refl) refl refl
     also lays (aloneSheet 1) 2 _ (λ A refuse answer. refl) refl refl
-    also writes _ _ refl refl
-    also writes _ _ refl refl
-    also writes _ _ refl refl
+    also number-written _ _ refl refl
+    also number-written _ _ refl refl
+    also number-written _ _ refl refl
     also refl
     also refl
     also refl

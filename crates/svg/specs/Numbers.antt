@@ -5,6 +5,7 @@ use mathlib.Core.Bool.{Bool, true, false, cond, _||_, true≢false}
 use mathlib.Core.List.{List, [], _∷_, _++_, append-assoc}
 use mathlib.Core.Option.{none, some, bind}
 use Prim.Native.Nat.{ℕ, _+_, _*_, _/_, _%_, _^_, _<_}
+use Prim.Native.Char.{code}
 use native.Mathlib.Omega.{arith}
 use lib.Dec.{eqb}
 use lib.ListN.{length}
@@ -47,7 +48,7 @@ numeral-worth h =
 -- ---- a text that ends a number: it goes on with no digit, no point and no `e`
 abbrev pub Stops : List ℕ → Type 0
 Stops [] = Unit {0}
-Stops (b ∷ l) = (isDigit b ≡ false) × (eqb b 46 ≡ false) × ((eqb b 101 || eqb b 69) ≡ false)
+Stops (b ∷ l) = (isDigit b ≡ false) × (eqb b (code ".") ≡ false) × ((eqb b (code "e") || eqb b (code "E")) ≡ false)
 
 no-digit : (l : List ℕ) → Stops l → NoDigit l
 no-digit [] h = tt

@@ -22,7 +22,7 @@ pub struct Head {
 }
 
 // The arrowhead with its tip at `tip`, pointing in direction `angle`.
-pub fn arrowhead(tip: V, angle: f64) -> Head
+fn arrowhead(tip: V, angle: f64) -> Head
     ensures { λ r. ⌜ r ≡ S.headOf tip angle ⌝ }
 {
     let ahead = V::polar(angle);

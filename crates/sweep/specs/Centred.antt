@@ -18,7 +18,8 @@ use Rattle.float.specs.Constants.{f0}
 use Rattle.float.specs.Ops.{_⊖_, ofNat}
 use Rattle.columns.specs.Columns.{EndPair}
 use Rattle.columns.specs.Elements.{times}
-use Rattle.sweep.specs.Sweeps.{slot, middlePlace, centreColumn, orderedColumn, Arranged, arranged, arrange, sweepDown, sweepUp, fourSweeps, swept}
+use Rattle.sweep.specs.Sweeps.{slot, middlePlace, centreColumn, orderedColumn, Arranged, arranged, arrange, sweepDown, sweepUp, swept}
+use Rattle.sweep.specs.Steps.{sweeps-keep}
 use Rattle.sweep.specs.Sorted.{SameStates, column-same, arrange-same, moved-same}
 use Rattle.sweep.specs.Lengths.{centre-length, over-length}
 
@@ -191,8 +192,8 @@ module _ (n : ℕ) (arrows : List EndPair) (columns : List (List ℕ)) (single :
         ((λ l. moved-same (getD columns l [])), all-centred columns (replicate n f0) single apart (λ v l p. subst (λ (m : ℕ). v < m) (sym k) (inside v l p)), over-length columns (replicate n f0) ∙ k)
 
     swept-good : Good (swept n arrows columns)
-    unfolding swept fourSweeps
-    swept-good = up-good _ (down-good _ (up-good _ (down-good _ begun-good)))
+    unfolding swept
+    swept-good = sweeps-keep n arrows Good down-good up-good _ begun-good
 
     -- the slot of the state at place i of column l
     pub swept-centred : InPlace (swept n arrows columns .columns) (swept n arrows columns .slots)

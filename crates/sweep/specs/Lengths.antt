@@ -9,6 +9,7 @@ use Rattle.float.specs.Constants.{f0}
 use Rattle.float.specs.Ops.{_⊖_, ofNat}
 use Rattle.columns.specs.Columns.{EndPair}
 use Rattle.sweep.specs.Sweeps.{middlePlace, centreColumn, orderedColumn, Arranged, arranged, arrange, sweepDown, sweepUp, fourSweeps, swept}
+use Rattle.sweep.specs.Steps.{sweeps-keep}
 
 pub centre-length : (slots : List Float) (column : List ℕ) → length (centreColumn slots column) ≡ length slots
 unfolding centreColumn
@@ -36,12 +37,7 @@ module _ (n : ℕ) (arrows : List EndPair) where
   up-length s = down-keeps (λ (t : Arranged). slotCount t ≡ slotCount s) (λ (l : ℕ). arrange n arrows l (l - 1)) (λ l t e. arrange-length l (l - 1) t ∙ e) (length (s .columns) - 1) s refl
 
   sweeps-length : (s : Arranged) → slotCount (fourSweeps n arrows s) ≡ slotCount s
-  unfolding fourSweeps
-  sweeps-length s =
-      let a : Arranged = sweepDown n arrows s in
-      let b : Arranged = sweepUp n arrows a in
-      let c : Arranged = sweepDown n arrows b in
-      up-length c ∙ down-length b ∙ up-length a ∙ down-length s
+  sweeps-length s = sweeps-keep n arrows (λ (t : Arranged). slotCount t ≡ slotCount s) (λ t e. down-length t ∙ e) (λ t e. up-length t ∙ e) s refl
 
   pub swept-length : (cs : List (List ℕ)) → slotCount (swept n arrows cs) ≡ n
   unfolding swept

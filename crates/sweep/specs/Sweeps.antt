@@ -1,7 +1,7 @@
 -- The order of the states within their columns. Document 01: "four barycentre sweeps".
 use mathlib.Core.Bool.{Bool, true, false, cond, not}
 use mathlib.Core.List.{List, [], _∷_, map, flatMap}
-use Prim.Native.Nat.{ℕ, _-_}
+use Prim.Native.Nat.{ℕ, _-_, _%_}
 use lib.Dec.{eqb}
 use lib.ListN.{length, getD, set, replicate}
 use lib.Ieee.{Float}
@@ -95,9 +95,17 @@ sweepDown n arrows s = up (λ (l : ℕ). arrange n arrows (l - 1) l) 1 (length (
 unfoldable pub sweepUp : ℕ → List EndPair → Arranged → Arranged
 sweepUp n arrows s = down (λ (l : ℕ). arrange n arrows l (l - 1)) (length (s .columns) - 1) s
 
--- "four barycentre sweeps": down, up, down, up
+-- sweep k, counted from 0: down where k is even, else up
+abbrev pub sweepAt : ℕ → List EndPair → ℕ → Arranged → Arranged
+sweepAt n arrows k = cond (eqb (k % 2) 0) (sweepDown n arrows) (sweepUp n arrows)
+
+-- "four barycentre sweeps"
+abbrev pub sweeps : ℕ
+sweeps = 4
+
+-- down, up, down, up
 unfoldable pub fourSweeps : ℕ → List EndPair → Arranged → Arranged
-fourSweeps n arrows s = sweepUp n arrows (sweepDown n arrows (sweepUp n arrows (sweepDown n arrows s)))
+fourSweeps n arrows s = up (sweepAt n arrows) 0 sweeps s
 
 -- from columns that are centred
 unfoldable pub swept : ℕ → List EndPair → List (List ℕ) → Arranged

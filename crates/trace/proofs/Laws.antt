@@ -10,6 +10,7 @@ use lib.Dec.{eqb}
 use lib.ListN.{length, getD, take, drop, length-append}
 use lib.Seq.{getD-take, getD-drop, drop-at, length-take-le}
 use lib.Ieee.{Float, nan}
+use Rattle.laws.specs.Cases.{by-bool}
 use Rattle.laws.specs.Flat.{table, part, table-more}
 use Rattle.laws.specs.Put.{put, put-eq}
 use Rattle.laws.specs.Loops.{over, over-join, less-one}
@@ -18,7 +19,7 @@ use Rattle.shape.specs.declared.Rect.{Rect}
 use Rattle.shape.specs.declared.Curve.{Curve}
 use Rattle.shape.specs.declared.Curve.the-variants.{Quad, Cubic}
 use Rattle.shape.specs.Plane.{vec, touches, spanning, noBounds, extended}
-use Rattle.trace.specs.Traces.{sample, ownerOf, isArrow, foreign, boundsOf, traceOf, anySegment, anyPoint, segmentHits, hitsRect, pairCross, segmentCrosses, crosses, pointNear, near25}
+use Rattle.trace.specs.Traces.{Trace, sample, ownerOf, isArrow, foreign, boundsOf, traceOf, anySegment, anyPoint, segmentHits, hitsRect, pairCross, segmentCrosses, crosses, struck, crossed, pointNear, near25}
 use Rattle.trace.specs.Form.{wholeOf, pointsIn, boundsIn, decodePoints, tracePoint, pointsOf, decodeTrace, traceHead, samplesIn, sampleAt}
 use Rattle.trace.specs.Forms.{whole-back, samples-at, points-in}
 
@@ -141,6 +142,30 @@ module _ (l m : List Float) (p q : Rect) (s : Bool) (d : p ≡ boundsIn l) (e : 
   pub crosses-off : s ≡ false → false ≡ crosses (decodeTrace l) (decodeTrace m)
   unfolding crosses decodeTrace
   crosses-off h = and-off s (touches (boundsIn l) (boundsIn m)) _ (f ∙ ap₂ touches d e) h
+
+-- ---- foreign traces; f is what the code found of the owner
+
+module _ (own : ℕ) (l : List Float) (f : Bool) (e : f ≡ foreign own (decodeTrace l)) where
+  pub struck-is : (r : Rect) (h : Bool) → f ≡ true → h ≡ hitsRect (decodeTrace l) r → h ≡ struck own r (decodeTrace l)
+  unfolding struck
+  struck-is r h x y = rw (← e, x, y)
+
+  pub struck-not : (r : Rect) → f ≡ false → false ≡ struck own r (decodeTrace l)
+  unfolding struck
+  struck-not r x = rw (← e, x)
+
+  pub crossed-is : (looped : Trace) (h : Bool) → f ≡ true → h ≡ crosses (decodeTrace l) looped → h ≡ crossed own looped (decodeTrace l)
+  unfolding crossed
+  crossed-is looped h x y = rw (← e, x, y)
+
+  pub crossed-not : (looped : Trace) → f ≡ false → false ≡ crossed own looped (decodeTrace l)
+  unfolding crossed
+  crossed-not looped x = rw (← e, x)
+
+-- what the bounds of a trace do not touch it does not cross; b is the loop's bounds as the code reads them
+pub crossed-none : (own : ℕ) (l m : List Float) (b : Rect) (s : Bool) → b ≡ boundsIn m → s ≡ touches (boundsIn l) b → s ≡ false → false ≡ crossed own (decodeTrace m) (decodeTrace l)
+unfolding crossed
+crossed-none own l m b s e f h = rw (← crosses-off l m (boundsIn l) b s refl e f h) (by-bool (foreign own (decodeTrace l)) (λ g. rw g) (λ g. rw g))
 
 pub near25-is : (l : List Float) (o : «V») (n : ℕ) (x : Bool) → n ≡ pointsIn (getD l 1 nan) → x ≡ anyPoint (pointNear o) (pointsOf n l) → x ≡ near25 (decodeTrace l) o
 unfolding near25 decodeTrace

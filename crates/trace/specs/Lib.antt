@@ -1,5 +1,5 @@
-pub mod Reach
 pub mod Traces
 pub mod Form
 pub mod Forms
 pub mod Near
+pub mod Reach

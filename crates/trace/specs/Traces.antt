@@ -86,6 +86,14 @@ segmentCrosses t a b = touches (spanning a b) (t .bounds) && anySegment (pairCro
 unfoldable pub crosses : Trace → Trace → Bool
 crosses s t = touches (s .bounds) (t .bounds) && anySegment (segmentCrosses t) (s .points)
 
+-- a foreign trace that meets the box
+unfoldable pub struck : ℕ → Rect → Trace → Bool
+struck own b t = foreign own t && hitsRect t b
+
+-- a foreign trace that the loop crosses
+unfoldable pub crossed : ℕ → Trace → Trace → Bool
+crossed own looped t = foreign own t && crosses t looped
+
 -- whether p holds of some point
 unfoldable pub anyPoint : («V» → Bool) → List «V» → Bool
 anyPoint p [] = false

@@ -21,8 +21,11 @@ const SEGMENTS: f64 = SAMPLES as f64;
 
 pub const POINTS: usize = SAMPLES + 1;
 
+// The numbers of a trace.
+pub const TRACE_NUMBERS: usize = 40;
+
 // The square of the distance below which a loop comes too near to a state's centre.
-const NEAR_SQUARED: f64 = (NODE_RADIUS + 3.0) * (NODE_RADIUS + 3.0);
+const NEAR25_SQUARED: f64 = (NODE_RADIUS + 3.0) * (NODE_RADIUS + 3.0);
 
 // ---- reading
 
@@ -52,7 +55,7 @@ pub fn whole_of(v: f64) -> usize
 }
 
 // Whether the arrow does not own the trace.
-pub fn foreign(t: &[f64], own: usize) -> bool
+fn foreign(t: &[f64], own: usize) -> bool
     requires { ⌜ 40 ≤ length (now t) ⌝ }
     ensures { λ r. ⌜ r ≡ S.foreign own (F.decodeTrace (now (t .entry))) ⌝ }
 {
@@ -72,7 +75,7 @@ fn points_in(n: f64) -> usize
     POINTS
 }
 
-pub fn bounds_of(t: &[f64]) -> Rect
+fn bounds_of(t: &[f64]) -> Rect
     requires { ⌜ 40 ≤ length (now t) ⌝ }
     ensures { λ r. ⌜ r ≡ F.boundsIn (now (t .entry)) ⌝ }
 {
@@ -193,8 +196,8 @@ pub fn push_trace(traces: &mut [f64], n: usize, owner: usize, curve: Curve) -> u
         ≡ F.decodeTraces n (now (traces .entry)) ++ (S.traceOf (S.ownerOf owner) curve ∷ []))
         ⌝ }
 {
-    let at = 40 * n;
-    let end = at + 40;
+    let at = TRACE_NUMBERS * n;
+    let end = at + TRACE_NUMBERS;
     write_trace(&mut traces[at..end], owner, curve);
     n + 1
 }
@@ -220,15 +223,25 @@ fn any_hit(t: &[f64], n: usize, r: Rect) -> bool
 }
 
 // Whether the bounds of the trace touch the box.
-pub fn reaches(t: &[f64], r: Rect) -> bool
+fn reaches(t: &[f64], r: Rect) -> bool
     requires { ⌜ 40 ≤ length (now t) ⌝ }
     ensures { λ x. ⌜ x ≡ touches (F.boundsIn (now (t .entry))) r ⌝ }
 {
     bounds_of(t).reaches(r)
 }
 
+// Whether the bounds of trace k of the slice touch the box. Where they do not the trace does not meet it.
+pub fn reaches_at(traces: &[f64], k: usize, r: Rect) -> bool
+    requires { ⌜ 40 * k + 40 ≤ length (now traces) ⌝ }
+    ensures { λ x. ⌜ x ≡ touches (F.boundsIn (part 40 k (now (traces .entry)))) r ⌝ }
+{
+    let at = TRACE_NUMBERS * k;
+    let end = at + TRACE_NUMBERS;
+    reaches(&traces[at..end], r)
+}
+
 // Whether the trace meets the box.
-pub fn hits_rect(t: &[f64], r: Rect) -> bool
+fn hits_rect(t: &[f64], r: Rect) -> bool
     requires { ⌜ 40 ≤ length (now t) ⌝ }
     ensures { λ x. ⌜ x ≡ S.hitsRect (F.decodeTrace (now (t .entry))) r ⌝ }
 {
@@ -236,6 +249,27 @@ pub fn hits_rect(t: &[f64], r: Rect) -> bool
         return any_hit(t, points_in(t[1]), r);
     }
     false
+}
+
+// Whether the trace is not the arrow's own and meets the box.
+fn strikes(t: &[f64], own: usize, r: Rect) -> bool
+    requires { ⌜ 40 ≤ length (now t) ⌝ }
+    ensures { λ x. ⌜ x ≡ S.struck own r (F.decodeTrace (now (t .entry))) ⌝ }
+{
+    if foreign(t, own) {
+        return hits_rect(t, r);
+    }
+    false
+}
+
+// The same of trace k of the slice.
+pub fn strikes_at(traces: &[f64], k: usize, own: usize, r: Rect) -> bool
+    requires { ⌜ 40 * k + 40 ≤ length (now traces) ⌝ }
+    ensures { λ x. ⌜ x ≡ S.struck own r (F.decodeTrace (part 40 k (now (traces .entry)))) ⌝ }
+{
+    let at = TRACE_NUMBERS * k;
+    let end = at + TRACE_NUMBERS;
+    strikes(&traces[at..end], own, r)
 }
 
 // Whether the segment from a to b, in the box ab, crosses the one from c to d.
@@ -297,7 +331,7 @@ fn any_crossing(s: &[f64], n: usize, t: &[f64]) -> bool
 }
 
 // Whether two traces cross.
-pub fn crosses(s: &[f64], t: &[f64]) -> bool
+fn crosses(s: &[f64], t: &[f64]) -> bool
     requires { ⌜ (40 ≤ length (now s)) × (40 ≤ length (now t)) ⌝ }
     ensures { λ x. ⌜ x ≡ S.crosses (F.decodeTrace (now (s .entry))) (F.decodeTrace (now (t .entry))) ⌝ }
 {
@@ -307,11 +341,51 @@ pub fn crosses(s: &[f64], t: &[f64]) -> bool
     false
 }
 
+// Whether traces i and j of the slice cross.
+pub fn crosses_at(traces: &[f64], i: usize, j: usize) -> bool
+    requires { ⌜ (40 * i + 40 ≤ length (now traces)) × (40 * j + 40 ≤ length (now traces)) ⌝ }
+    ensures { λ x.
+        let one = F.decodeTrace (part 40 i (now (traces .entry))) in
+        let other = F.decodeTrace (part 40 j (now (traces .entry))) in
+        ⌜ x ≡ S.crosses one other ⌝ }
+{
+    let a = TRACE_NUMBERS * i;
+    let b = TRACE_NUMBERS * j;
+    let a_end = a + TRACE_NUMBERS;
+    let b_end = b + TRACE_NUMBERS;
+    crosses(&traces[a..a_end], &traces[b..b_end])
+}
+
+// Whether the trace is not the arrow's own and crosses the loop.
+fn crossed(t: &[f64], own: usize, looped: &[f64]) -> bool
+    requires { ⌜ (40 ≤ length (now t)) × (40 ≤ length (now looped)) ⌝ }
+    ensures { λ x. ⌜ x ≡ S.crossed own (F.decodeTrace (now (looped .entry))) (F.decodeTrace (now (t .entry))) ⌝ }
+{
+    if reaches(t, bounds_of(looped)) {
+        if foreign(t, own) {
+            return crosses(t, looped);
+        }
+    }
+    false
+}
+
+// The same of trace k of the slice.
+pub fn crossed_at(traces: &[f64], k: usize, own: usize, looped: &[f64]) -> bool
+    requires { ⌜ (40 * k + 40 ≤ length (now traces)) × (40 ≤ length (now looped)) ⌝ }
+    ensures { λ x.
+        let met = F.decodeTrace (part 40 k (now (traces .entry))) in
+        ⌜ x ≡ S.crossed own (F.decodeTrace (now (looped .entry))) met ⌝ }
+{
+    let at = TRACE_NUMBERS * k;
+    let end = at + TRACE_NUMBERS;
+    crossed(&traces[at..end], own, looped)
+}
+
 // Whether p is nearer to a state's centre o than its radius and 3, by the squares.
 fn point_near(o: V, p: V) -> bool
     ensures { λ x. ⌜ x ≡ S.pointNear o p ⌝ }
 {
-    p.dist_squared(o) < NEAR_SQUARED
+    p.dist_squared(o) < NEAR25_SQUARED
 }
 
 fn any_near(t: &[f64], n: usize, o: V) -> bool

@@ -73,8 +73,6 @@ module _ (kind : ℕ) (slots : List Float) (kinds : List ℕ) (sizes : List Bloc
   unfolding labelStep
   label-skip e = rw (ne-eqb _ _ e)
 
--- ---- a run copied number by number
-
 -- ---- the records, arrow by arrow
 
 module _ (kinds : List ℕ) (drawn : List Float) (i : ℕ) where

@@ -93,9 +93,13 @@ loopPass rims cs sources kinds sizes d = up (loopStep rims cs sources kinds size
 abbrev pub labelPass : ℕ → List Float → List ℕ → List BlockSize → Drawn → Drawn
 labelPass kind slots kinds sizes d = up (labelStep kind slots kinds sizes) 0 (length kinds) d
 
--- loops, then arcs, then straight arrows
+-- arcs, then straight arrows
+abbrev pub labelPasses : List Float → List ℕ → List BlockSize → Drawn → Drawn
+labelPasses slots kinds sizes d = labelPass sortStraight slots kinds sizes (labelPass sortArc slots kinds sizes d)
+
+-- loops before both
 abbrev pub allPasses : (ℕ → List Float) → List «V» → List ℕ → List ℕ → List Float → List BlockSize → Drawn → Drawn
-allPasses rims cs sources kinds slots sizes d = labelPass sortStraight slots kinds sizes (labelPass sortArc slots kinds sizes (loopPass rims cs sources kinds sizes d))
+allPasses rims cs sources kinds slots sizes d = labelPasses slots kinds sizes (loopPass rims cs sources kinds sizes d)
 
 -- the states of the loops exist
 abbrev pub LoopsAt : List ℕ → List ℕ → ℕ → Type 0

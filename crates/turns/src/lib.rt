@@ -3,7 +3,9 @@
 use label_spots::Geometry;
 use label_spots::Turn;
 use records::ARC;
+use records::LEFT_OUT;
 use records::LOOP;
+use records::RECORD_NUMBERS;
 use records::STRAIGHT;
 ghost use mathlib.Core.Path.{_≡_};
 ghost use Prim.Native.Nat.{_+_, _*_, _≤_, _<_};
@@ -154,7 +156,7 @@ fn loop_at(
     ys: &[f64],
     sources: &[usize],
     targets: &[usize],
-    kinds: &[usize],
+    kinds: &[u8],
     leaves: &[f64],
     reaches: &[f64],
     widths: &[f64],
@@ -215,7 +217,7 @@ fn loops(
     ys: &[f64],
     sources: &[usize],
     targets: &[usize],
-    kinds: &[usize],
+    kinds: &[u8],
     leaves: &[f64],
     reaches: &[f64],
     widths: &[f64],
@@ -316,10 +318,10 @@ fn label_turn(
 
 // Arrow i in the pass of the arrows of a kind.
 fn label_at(
-    kind: usize,
+    kind: u8,
     xs: &[f64],
     ys: &[f64],
-    kinds: &[usize],
+    kinds: &[u8],
     slots: &[f64],
     widths: &[f64],
     heights: &[f64],
@@ -365,10 +367,10 @@ fn label_at(
 
 // The pass of the arrows of a kind.
 fn labels(
-    kind: usize,
+    kind: u8,
     xs: &[f64],
     ys: &[f64],
-    kinds: &[usize],
+    kinds: &[u8],
     slots: &[f64],
     widths: &[f64],
     heights: &[f64],
@@ -416,10 +418,68 @@ fn labels(
     nb
 }
 
+// The pass of the arcs, then that of the straight arrows.
+fn label_passes(
+    xs: &[f64],
+    ys: &[f64],
+    kinds: &[u8],
+    slots: &[f64],
+    widths: &[f64],
+    heights: &[f64],
+    boxes: &mut [f64],
+    first: usize,
+    traces: &[f64],
+    nt: usize,
+    drawn: &mut [f64],
+) -> usize
+    requires { let arrows = length (now kinds) in
+        ⌜ (length (now ys) ≡ length (now xs))
+        × S.Turns arrows (now kinds) (now widths) (now heights) (now drawn)
+        × (20 * arrows ≤ length (now slots))
+        × (4 * (first + 2 * arrows) ≤ length (now boxes))
+        × (40 * nt ≤ length (now traces)) ⌝ }
+    ensures { λ r.
+        let sizes = sizesBy (now (widths .entry)) (now (heights .entry)) in
+        let before = S.drawnFrom (now (xs .entry)) (now (ys .entry))
+        first (now (boxes .entry)) nt (now (traces .entry)) (now (drawn .entry)) in
+        let after = S.drawnFrom (now (xs .entry)) (now (ys .entry))
+        r (now (boxes .exit)) nt (now (traces .entry)) (now (drawn .exit)) in
+        ⌜ after ≡ S.labelPasses (now (slots .entry)) (now (kinds .entry)) sizes before ⌝ }
+{
+    let nb = labels(
+        ARC,
+        xs,
+        ys,
+        kinds,
+        slots,
+        widths,
+        heights,
+        boxes,
+        first,
+        traces,
+        nt,
+        drawn,
+    );
+    labels(
+        STRAIGHT,
+        xs,
+        ys,
+        kinds,
+        slots,
+        widths,
+        heights,
+        boxes,
+        nb,
+        traces,
+        nt,
+        drawn,
+    )
+}
+
 // ---- the records
 
 // The numbers of arrow i as record n, where it has one; the number of records after.
-fn gather_at(kinds: &[usize], drawn: &[f64], records: &mut [f64], n: usize, i: usize) -> usize
+fn gather_at(kinds: &[u8], drawn: &[f64], records: &mut [f64], n: usize, i: usize) -> usize
     requires { ⌜
         (i < length (now kinds))
         × (20 * length (now kinds) ≤ length (now drawn))
@@ -431,18 +491,18 @@ fn gather_at(kinds: &[usize], drawn: &[f64], records: &mut [f64], n: usize, i: u
         × (20 * r ≡ 20 * n + length slot)
         × (now (records .exit) ≡ put (now (records .entry)) (20 * n) slot) ⌝ }
 {
-    if kinds[i] == 0 {
+    if kinds[i] == LEFT_OUT {
         return n;
     }
-    let from = 20 * i;
-    let end = from + 20;
-    let at = 20 * n;
+    let from = RECORD_NUMBERS * i;
+    let end = from + RECORD_NUMBERS;
+    let at = RECORD_NUMBERS * n;
     slices::copy(&drawn[from..end], &mut records[at..]);
     n + 1
 }
 
 // The records, in arrow order; how many.
-fn gather(kinds: &[usize], drawn: &[f64], records: &mut [f64]) -> usize
+fn gather(kinds: &[u8], drawn: &[f64], records: &mut [f64]) -> usize
     requires { ⌜ (20 * length (now kinds) ≤ length (now drawn)) × (20 * length (now kinds) ≤ length (now records)) ⌝ }
     ensures { λ r.
         let gathered = S.slotsFor (now (kinds .entry)) (now (drawn .entry)) (length (now (kinds .entry))) in
@@ -466,7 +526,7 @@ pub fn run(
     ys: &[f64],
     sources: &[usize],
     targets: &[usize],
-    kinds: &[usize],
+    kinds: &[u8],
     leaves: &[f64],
     reaches: &[f64],
     slots: &[f64],
@@ -514,8 +574,7 @@ pub fn run(
         drawn,
         Counts { nb: 0, nt },
     );
-    let nb = labels(
-        ARC,
+    label_passes(
         xs,
         ys,
         kinds,
@@ -524,20 +583,6 @@ pub fn run(
         heights,
         boxes,
         c.nb,
-        traces,
-        c.nt,
-        drawn,
-    );
-    labels(
-        STRAIGHT,
-        xs,
-        ys,
-        kinds,
-        slots,
-        widths,
-        heights,
-        boxes,
-        nb,
         traces,
         c.nt,
         drawn,

@@ -1,4 +1,4 @@
-// Replays the oracle's answers, which stand in standard input, and prints for each kind of case
+// Compares the oracle's answers, which stand in standard input, and prints for each kind of case
 // how many there were and how many differ. `oracle/README.md` says how the stream is made.
 ghost use Prim.Native.Nat.{_<_};
 use libc::STDIN_FILENO;
@@ -81,7 +81,7 @@ fn count(list: &mut [u64], kind: u8) {
     }
 }
 
-// Replays a case.
+// Tries a case.
 fn tried(kind: u8, p: &[u8], cases: &mut [u64], differ: &mut [u64]) {
     count(cases, kind);
     if !holds(kind, p) {
@@ -91,7 +91,7 @@ fn tried(kind: u8, p: &[u8], cases: &mut [u64], differ: &mut [u64]) {
 
 // What ended the comparison: 0 nothing yet; 1 the case that ends the stream, with the right number of
 // cases; 2 that case with another number; 3 the input ended before it.
-fn turn(payload: &mut [u8], cases: &mut [u64], differ: &mut [u64], done: u64) -> u8 {
+fn step(payload: &mut [u8], cases: &mut [u64], differ: &mut [u64], done: u64) -> u8 {
     let c = next(payload);
     let length = c.length;
     if !c.whole {
@@ -114,7 +114,7 @@ fn compare_all(cases: &mut [u64], differ: &mut [u64]) -> u8 {
     let mut payload = [0u8; 140000];
     let mut done: u32 = 0;
     while done < MOST {
-        let end = turn(&mut payload, cases, differ, done as u64);
+        let end = step(&mut payload, cases, differ, done as u64);
         if end != 0 {
             return end;
         }

@@ -6,7 +6,10 @@ use std::time::Duration;
 
 use crate::calls as hardware;
 use crate::generate::{Size, from_first, shuffled};
-use crate::port::{murshogi_check, murshogi_layout, murshogi_list, murshogi_route};
+use crate::port::{
+    murshogi_check, murshogi_clutter, murshogi_label_size, murshogi_layout, murshogi_list, murshogi_route,
+    murshogi_write_num,
+};
 use crate::random::Random;
 use crate::rivals::library::calls as library;
 use crate::rivals::whole::calls as whole;
@@ -18,13 +21,34 @@ unsafe extern "C" {
 #[derive(Clone, Copy)]
 pub enum Call {
     Check,
-    Route,
+    LabelSize,
     Layout,
+    Route,
+    Clutter,
+    WriteNum,
     List,
 }
 
-pub const CALLS: [(Call, &str); 4] =
-    [(Call::Check, "check"), (Call::Route, "route"), (Call::Layout, "layout"), (Call::List, "list")];
+/// In the header's order.
+pub const CALLS: [(Call, &str); 7] = [
+    (Call::Check, "check"),
+    (Call::LabelSize, "label_size"),
+    (Call::Layout, "layout"),
+    (Call::Route, "route"),
+    (Call::Clutter, "clutter"),
+    (Call::WriteNum, "write_num"),
+    (Call::List, "list"),
+];
+
+impl Call {
+    /// How many are timed between two looks at the clock.
+    fn together(self) -> u32 {
+        match self {
+            Call::LabelSize | Call::WriteNum => 1000,
+            _ => 1,
+        }
+    }
+}
 
 /// Who answers: the port, or the Rust over the stand-ins with roots by whole numbers, over the
 /// stand-ins with the hardware's root, over the library's functions with the hardware's root.
@@ -38,10 +62,12 @@ pub enum Side {
 
 pub const SIDES: [Side; 4] = [Side::Port, Side::Whole, Side::Hardware, Side::Library];
 
-/// A sheet, the centres of its layout, and room for answers.
+/// A sheet, the centres of its layout, a label of as many lines as its arrows may have, and room for answers.
 pub struct Case {
     pub name: &'static str,
     sheet: Vec<u8>,
+    label: Vec<u8>,
+    lines: Vec<usize>,
     x: Vec<f64>,
     y: Vec<f64>,
     records: Vec<f64>,
@@ -62,7 +88,8 @@ pub fn cases() -> Vec<Case> {
         let sheet = shuffled(rng, &s);
         let l = hardware::layout(&sheet, 0, 64, 64).unwrap();
         let (records, text) = (vec![0.0; 5120], vec![0; 65_536]);
-        Case { name, sheet, x: l.x, y: l.y, records, text }
+        let (label, lines) = (b"m/z 195 > 15".repeat(lines), vec![12; lines]);
+        Case { name, sheet, label, lines, x: l.x, y: l.y, records, text }
     })
     .collect()
 }
@@ -77,6 +104,9 @@ macro_rules! theirs {
     ($calls:ident, $case:ident, $call:ident) => {
         match $call {
             Call::Check => $calls::check(&$case.sheet).err(),
+            Call::LabelSize => $calls::label_size(&$case.label, &$case.lines).err(),
+            Call::Clutter => $calls::clutter(&$case.sheet, &$case.x, &$case.y).err(),
+            Call::WriteNum => $calls::write_num($case.x[1], 65_536).err(),
             Call::Route => $calls::route(&$case.sheet, &$case.x, &$case.y, (5120, 65_536)).err(),
             Call::Layout => $calls::layout(&$case.sheet, 0, 64, 64).err(),
             Call::List => $calls::list(&$case.sheet, 0, 65_536).err(),
@@ -94,6 +124,13 @@ impl Case {
         unsafe {
             match call {
                 Call::Check => murshogi_check(s, n),
+                Call::LabelSize => murshogi_label_size(
+                    self.label.as_ptr(), self.label.len(), self.lines.as_ptr(), self.lines.len(), size.as_mut_ptr(),
+                ),
+                Call::Clutter => murshogi_clutter(
+                    s, n, x.as_ptr(), x.len(), y.as_ptr(), y.len(), lengths.as_mut_ptr(),
+                ),
+                Call::WriteNum => murshogi_write_num(x[1], text, room, lengths.as_mut_ptr()),
                 Call::Route => murshogi_route(
                     s, n, x.as_ptr(), x.len(), y.as_ptr(), y.len(), self.records.as_mut_ptr(),
                     self.records.len(), text, room, lengths.as_mut_ptr(),
@@ -122,8 +159,10 @@ impl Case {
         let start = spent();
         let mut calls = 0;
         while calls == 0 || (spent() - start).as_millis() < 10 {
-            assert!(black_box(self.run(side, call)) == 0);
-            calls += 1;
+            for _ in 0..call.together() {
+                assert!(black_box(self.run(side, call)) == 0);
+            }
+            calls += call.together();
         }
         (spent() - start).as_nanos() as f64 / 1000.0 / f64::from(calls)
     }
@@ -155,6 +194,9 @@ fn medians(case: &mut Case, call: Call) -> [f64; 4] {
 
 /// A number with three digits, thousands apart.
 pub fn figure(v: f64) -> String {
+    if v < 1.0 {
+        return format!("{v:.3}");
+    }
     if v < 100.0 {
         return format!("{v:.1}");
     }

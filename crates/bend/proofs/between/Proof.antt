@@ -15,16 +15,16 @@ chord-of-requires c κs = search needs
 bend-requires : tie.Need-bend-requires
 bend-requires c κs = search needs
 
-drawn-requires : tie.Need-drawn-requires
-drawn-requires c κs = search needs
+with-bow-requires : tie.Need-with-bow-requires
+with-bow-requires c κs = search needs
 
 returns : tie.Need-returns
 unfolding between
 returns c =
     let a = c .before .before .before .before .before .args in
-    c .drawn .ensures
+    c .with-bow .ensures
     ∙ ap (withBow (c .before .before .chord-of .result)) (c .before .bend .ensures)
     ∙ ap (λ (d : Chord). withBow d (bend d (centres (now (a .xs)) (now (a .ys))) (a .both-ways))) (c .before .before .chord-of .ensures)
 
 pub between-spec : {M : Type 1} → statement M
-between-spec = tie.close (tie.spec chord-of-requires bend-requires drawn-requires returns)
+between-spec = tie.close (tie.spec chord-of-requires bend-requires with-bow-requires returns)

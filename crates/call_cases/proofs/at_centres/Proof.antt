@@ -12,11 +12,11 @@ use borrow.Author.Needs.{needs}
 use Rattle.call_cases.proofs.at_centres.Statement.{statement}
 use Rattle.call_cases.proofs.at_centres.Tie as tie
 
-place-requires : tie.Need-place-requires
-place-requires c κs = tt
+index-requires : tie.Need-index-requires
+index-requires c κs = tt
 
-place-requires-2 : tie.Need-place-requires-2
-place-requires-2 c κs = tt
+index-requires-2 : tie.Need-index-requires-2
+index-requires-2 c κs = tt
 
 mul-end : tie.Need-mul-end
 mul-end c = search needs
@@ -32,33 +32,33 @@ add-end-2 c = search needs
 
 returns : tie.Need-returns
 unfolding atCentres
-returns c = rw (← (c .before .before .place .ensures .0), lt-leb _ _ (c .if1 .taken))
+returns c = rw (← (c .before .before .index .ensures .0), lt-leb _ _ (c .if1 .taken))
 
 returns-2 : tie.Need-returns-2
 unfolding atCentres
-returns-2 c = rw (← (c .before .before .before .place .ensures .0), ← (c .before .before .place2 .ensures .0), le-leb _ _ (c .before .if1 .left), lt-leb _ _ (c .if2 .taken))
+returns-2 c = rw (← (c .before .before .before .index .ensures .0), ← (c .before .before .index2 .ensures .0), le-leb _ _ (c .before .if1 .left), lt-leb _ _ (c .if2 .taken))
 
 returns-3 : tie.Need-returns-3
 unfolding atCentres
-returns-3 c = rw (← (c .before .before .before .before .place .ensures .0), ← (c .before .before .before .place2 .ensures .0), le-leb _ _ (c .before .before .if1 .left), le-leb _ _ (c .before .if2 .left), lt-leb _ _ (c .if3 .taken))
+returns-3 c = rw (← (c .before .before .before .before .index .ensures .0), ← (c .before .before .before .index2 .ensures .0), le-leb _ _ (c .before .before .if1 .left), le-leb _ _ (c .before .if2 .left), lt-leb _ _ (c .if3 .taken))
 
-slice-aggregate-fill : tie.Need-slice-aggregate-fill
-slice-aggregate-fill c = search needs
+slice-aggregate-fill-floats : tie.Need-slice-aggregate-fill-floats
+slice-aggregate-fill-floats c = search needs
 
-fill-requires : tie.Need-fill-requires
-fill-requires c κs = tt
+fill-floats-requires : tie.Need-fill-floats-requires
+fill-floats-requires c κs = tt
 
-mul-fill : tie.Need-mul-fill
-mul-fill c = search needs
+mul-fill-floats : tie.Need-mul-fill-floats
+mul-fill-floats c = search needs
 
-add-fill : tie.Need-add-fill
-add-fill c = search needs
+add-fill-floats : tie.Need-add-fill-floats
+add-fill-floats c = search needs
 
-slice-aggregate-fill-2 : tie.Need-slice-aggregate-fill-2
-slice-aggregate-fill-2 c = search needs
+slice-aggregate-fill-floats-2 : tie.Need-slice-aggregate-fill-floats-2
+slice-aggregate-fill-floats-2 c = search needs
 
-fill-requires-2 : tie.Need-fill-requires-2
-fill-requires-2 c κs = tt
+fill-floats-requires-2 : tie.Need-fill-floats-requires-2
+fill-floats-requires-2 c κs = tt
 
 array-share-prefix-xs : tie.Need-array-share-prefix-xs
 array-share-prefix-xs c = search needs
@@ -86,14 +86,14 @@ drawn-agrees-requires c κs = tt
 
 returns-4 : tie.Need-returns-4
 unfolding atCentres
-returns-4 c = rw (← (c .before .before .before .before .before .before .before .before .before .before .before .before .before .before .place .ensures .0), ← (c .before .before .before .before .before .before .before .before .before .before .before .before .before .place2 .ensures .0), le-leb _ _ (c .before .before .before .before .before .before .before .before .before .before .before .before .if1 .left), le-leb _ _ (c .before .before .before .before .before .before .before .before .before .before .before .if2 .left), le-leb _ _ (c .before .before .before .before .before .before .before .before .before .before .if3 .left)) (c .drawn-agrees .ensures ∙ of-three (drawnAgrees (c .before .before .before .before .before .before .before .before .before .before .before .before .before .before .before .before .before .args .kind) (c .before .before .before .before .before .before .before .before .before .before .before .before .before .before .before .before .before .args .answer) (now (c .before .before .before .before .before .before .before .before .before .before .before .before .before .before .before .before .before .args .sheet))) _ _ _ _ _ _ (first-floats (now (c .before .before .before .before .before .before .before .before .before .before .before .before .before .before .before .before .before .args .rest)) 4 (c .before .before .before .before .before .before .before .before .before .before .before .before .before .before .place .result) 80 _ (c .before .before .before .before .before .before .before .before .fill .ensures) (c .before .before .before .before .before .before .before .before .before .before .before .before .if1 .left)) (first-floats (now (c .before .before .before .before .before .before .before .before .before .before .before .before .before .before .before .before .before .args .rest)) (4 + 8 * c .before .before .before .before .before .before .before .before .before .before .before .before .before .before .place .result) (c .before .before .before .before .before .before .before .before .before .before .before .before .before .place2 .result) 80 _ (c .before .before .before .before .before .fill2 .ensures) (c .before .before .before .before .before .before .before .before .before .before .before .if2 .left)) (part-tail (4 + 8 * c .before .before .before .before .before .before .before .before .before .before .before .before .before .before .place .result + 8 * c .before .before .before .before .before .before .before .before .before .before .before .before .before .place2 .result) (now (c .before .before .before .before .before .before .before .before .before .before .before .before .before .before .before .before .before .args .rest))))
+returns-4 c = rw (← (c .before .before .before .before .before .before .before .before .before .before .before .before .before .before .index .ensures .0), ← (c .before .before .before .before .before .before .before .before .before .before .before .before .before .index2 .ensures .0), le-leb _ _ (c .before .before .before .before .before .before .before .before .before .before .before .before .if1 .left), le-leb _ _ (c .before .before .before .before .before .before .before .before .before .before .before .if2 .left), le-leb _ _ (c .before .before .before .before .before .before .before .before .before .before .if3 .left)) (c .drawn-agrees .ensures ∙ of-three (drawnAgrees (c .before .before .before .before .before .before .before .before .before .before .before .before .before .before .before .before .before .args .kind) (c .before .before .before .before .before .before .before .before .before .before .before .before .before .before .before .before .before .args .answer) (now (c .before .before .before .before .before .before .before .before .before .before .before .before .before .before .before .before .before .args .sheet))) _ _ _ _ _ _ (first-floats (now (c .before .before .before .before .before .before .before .before .before .before .before .before .before .before .before .before .before .args .rest)) 4 (c .before .before .before .before .before .before .before .before .before .before .before .before .before .before .index .result) 80 _ (c .before .before .before .before .before .before .before .before .fill-floats .ensures) (c .before .before .before .before .before .before .before .before .before .before .before .before .if1 .left)) (first-floats (now (c .before .before .before .before .before .before .before .before .before .before .before .before .before .before .before .before .before .args .rest)) (4 + 8 * c .before .before .before .before .before .before .before .before .before .before .before .before .before .before .index .result) (c .before .before .before .before .before .before .before .before .before .before .before .before .before .index2 .result) 80 _ (c .before .before .before .before .before .fill-floats2 .ensures) (c .before .before .before .before .before .before .before .before .before .before .before .if2 .left)) (part-tail (4 + 8 * c .before .before .before .before .before .before .before .before .before .before .before .before .before .before .index .result + 8 * c .before .before .before .before .before .before .before .before .before .before .before .before .before .index2 .result) (now (c .before .before .before .before .before .before .before .before .before .before .before .before .before .before .before .before .before .args .rest))))
 
 pub at-centres-spec : {M : Type 1} → statement M
 at-centres-spec =
     tie.close
     (tie.spec
-    place-requires
-    place-requires-2
+    index-requires
+    index-requires-2
     mul-end
     add-end
     mul-end-2
@@ -101,12 +101,12 @@ at-centres-spec =
     returns
     returns-2
     returns-3
-    slice-aggregate-fill
-    fill-requires
-    mul-fill
-    add-fill
-    slice-aggregate-fill-2
-    fill-requires-2
+    slice-aggregate-fill-floats
+    fill-floats-requires
+    mul-fill-floats
+    add-fill-floats
+    slice-aggregate-fill-floats-2
+    fill-floats-requires-2
     array-share-prefix-xs
     slice-aggregate-drawn-agrees
     array-share-prefix-ys

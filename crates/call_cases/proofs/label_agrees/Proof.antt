@@ -14,12 +14,12 @@ use borrow.Author.Needs.{needs}
 use Rattle.call_cases.proofs.label_agrees.Statement.{statement}
 use Rattle.call_cases.proofs.label_agrees.Tie as tie
 
-place-requires : tie.Need-place-requires
-place-requires c κs = tt
+index-requires : tie.Need-index-requires
+index-requires c κs = tt
 
 returns : tie.Need-returns
 unfolding labelAgrees
-returns c = rw (← (c .before .place .ensures .0), lt-leb _ _ (c .if1 .taken))
+returns c = rw (← (c .before .index .ensures .0), lt-leb _ _ (c .if1 .taken))
 
 slice-aggregate-fill-sizes : tie.Need-slice-aggregate-fill-sizes
 slice-aggregate-fill-sizes c = search needs
@@ -41,13 +41,13 @@ sized-is-requires c κs = tt
 
 returns-2 : tie.Need-returns-2
 unfolding labelAgrees
-returns-2 c = rw (← (c .before .before .before .before .before .before .before .place .ensures .0), le-leb _ _ (c .before .before .before .before .before .before .if1 .left)) (c .sized-is .ensures ∙ ap (λ (o : Outcome (Float × Float)). outcomeRight (c .before .before .before .before .before .before .before .before .before .before .args .answer) (sizeIs (now (c .before .before .before .before .before .before .before .before .before .before .args .rest))) o) (c .before .label-size .ensures ∙ ap (labelSize (now (c .before .before .before .before .before .before .before .before .before .before .args .text))) (ap (take (c .before .before .before .before .before .before .before .place .result)) (c .before .before .before .before .fill-sizes .ensures) ∙ each-first 8 (bitsAt (now (c .before .before .before .before .before .before .before .before .before .before .args .rest))) 18 (c .before .before .before .before .before .before .before .place .result) 16 (c .before .before .before .before .before .before .if1 .left))))
+returns-2 c = rw (← (c .before .before .before .before .before .before .before .index .ensures .0), le-leb _ _ (c .before .before .before .before .before .before .if1 .left)) (c .sized-is .ensures ∙ ap (λ (o : Outcome (Float × Float)). outcomeRight (c .before .before .before .before .before .before .before .before .before .before .args .answer) (sizeIs (now (c .before .before .before .before .before .before .before .before .before .before .args .rest))) o) (c .before .label-size .ensures ∙ ap (labelSize (now (c .before .before .before .before .before .before .before .before .before .before .args .text))) (ap (take (c .before .before .before .before .before .before .before .index .result)) (c .before .before .before .before .fill-sizes .ensures) ∙ each-first 8 (bitsAt (now (c .before .before .before .before .before .before .before .before .before .before .args .rest))) 18 (c .before .before .before .before .before .before .before .index .result) 16 (c .before .before .before .before .before .before .if1 .left))))
 
 pub label-agrees-spec : {M : Type 1} → statement M
 label-agrees-spec =
     tie.close
     (tie.spec
-    place-requires
+    index-requires
     returns
     slice-aggregate-fill-sizes
     fill-sizes-requires

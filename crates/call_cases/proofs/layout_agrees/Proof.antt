@@ -5,19 +5,19 @@ use borrow.Author.Needs.{needs}
 use Rattle.call_cases.proofs.layout_agrees.Statement.{statement}
 use Rattle.call_cases.proofs.layout_agrees.Tie as tie
 
-place-requires : tie.Need-place-requires
-place-requires c κs = tt
+index-requires : tie.Need-index-requires
+index-requires c κs = tt
 
 returns : tie.Need-returns
 unfolding layoutAgrees
-returns c = rw (← (c .before .place .ensures .0), lt-leb _ _ (c .if1 .taken))
+returns c = rw (← (c .before .index .ensures .0), lt-leb _ _ (c .if1 .taken))
 
-place-requires-2 : tie.Need-place-requires-2
-place-requires-2 c κs = tt
+index-requires-2 : tie.Need-index-requires-2
+index-requires-2 c κs = tt
 
 returns-2 : tie.Need-returns-2
 unfolding layoutAgrees
-returns-2 c = rw (← (c .before .before .before .place .ensures .0), le-leb _ _ (c .before .before .if1 .left), ← (c .before .place2 .ensures .0), lt-leb _ _ (c .if2 .taken))
+returns-2 c = rw (← (c .before .before .before .index .ensures .0), le-leb _ _ (c .before .before .if1 .left), ← (c .before .index2 .ensures .0), lt-leb _ _ (c .if2 .taken))
 
 slice-aggregate-layout-is : tie.Need-slice-aggregate-layout-is
 slice-aggregate-layout-is c = search needs
@@ -30,15 +30,15 @@ layout-is-requires c κs = search needs
 
 returns-3 : tie.Need-returns-3
 unfolding layoutAgrees
-returns-3 c = rw (← (c .before .before .before .before .before .before .before .before .place .ensures .0), le-leb _ _ (c .before .before .before .before .before .before .before .if1 .left), ← (c .before .before .before .before .before .before .place2 .ensures .0), le-leb _ _ (c .before .before .before .before .before .if2 .left)) (c .before .before .layout-is .ensures)
+returns-3 c = rw (← (c .before .before .before .before .before .before .before .before .index .ensures .0), le-leb _ _ (c .before .before .before .before .before .before .before .if1 .left), ← (c .before .before .before .before .before .before .index2 .ensures .0), le-leb _ _ (c .before .before .before .before .before .if2 .left)) (c .before .before .layout-is .ensures)
 
 pub layout-agrees-spec : {M : Type 1} → statement M
 layout-agrees-spec =
     tie.close
     (tie.spec
-    place-requires
+    index-requires
     returns
-    place-requires-2
+    index-requires-2
     returns-2
     slice-aggregate-layout-is
     slice-aggregate-layout-is-2

@@ -12,14 +12,14 @@ use borrow.Author.Needs.{needs}
 use Rattle.call_cases.proofs.layout_is.Statement.{statement}
 use Rattle.call_cases.proofs.layout_is.Tie as tie
 
-place-requires : tie.Need-place-requires
-place-requires c κs = tt
+index-requires : tie.Need-index-requires
+index-requires c κs = tt
 
-place-requires-2 : tie.Need-place-requires-2
-place-requires-2 c κs = tt
+index-requires-2 : tie.Need-index-requires-2
+index-requires-2 c κs = tt
 
-place-requires-3 : tie.Need-place-requires-3
-place-requires-3 c κs = tt
+index-requires-3 : tie.Need-index-requires-3
+index-requires-3 c κs = tt
 
 layout-in-requires : tie.Need-layout-in-requires
 layout-in-requires c κs = search needs
@@ -35,7 +35,7 @@ same-length-2 c = c .before .before .before .before .before .before .layout-in .
 
 returns : tie.Need-returns
 unfolding layoutIs
-returns c = rw (← (c .before .before .before .before .before .before .before .before .before .before .before .place .ensures .0), ← (c .before .before .before .before .before .before .before .before .before .before .place2 .ensures .0), ← (c .before .before .before .before .before .before .before .before .before .place3 .ensures .0), tested (λ (o : Outcome (ℕ × Float × Float)). outcomeRight (c .before .before .before .before .before .before .before .before .before .before .before .before .before .before .before .before .args .answer) (laidIs (now (c .before .before .before .before .before .before .before .before .before .before .before .before .before .before .before .before .args .rest))) o) _ _ _ _ (c .before .laid-out-is .ensures) (c .before .before .before .before .before .before .layout-in .ensures .0) (not-true _ (c .if1 .taken)))
+returns c = rw (← (c .before .before .before .before .before .before .before .before .before .before .before .index .ensures .0), ← (c .before .before .before .before .before .before .before .before .before .before .index2 .ensures .0), ← (c .before .before .before .before .before .before .before .before .before .index3 .ensures .0), tested (λ (o : Outcome (ℕ × Float × Float)). outcomeRight (c .before .before .before .before .before .before .before .before .before .before .before .before .before .before .before .before .args .answer) (laidIs (now (c .before .before .before .before .before .before .before .before .before .before .before .before .before .before .before .before .args .rest))) o) _ _ _ _ (c .before .laid-out-is .ensures) (c .before .before .before .before .before .before .layout-in .ensures .0) (not-true _ (c .if1 .taken)))
 
 numbers-in-requires : tie.Need-numbers-in-requires
 numbers-in-requires c κs = tt
@@ -48,7 +48,7 @@ same-length-4 c = c .before .before .before .before .before .before .before .bef
 
 returns-2 : tie.Need-returns-2
 unfolding layoutIs
-returns-2 c = rw (← (c .before .before .before .before .before .before .before .before .before .before .before .before .before .before .place .ensures .0), ← (c .before .before .before .before .before .before .before .before .before .before .before .before .before .place2 .ensures .0), ← (c .before .before .before .before .before .before .before .before .before .before .before .before .place3 .ensures .0), tested (λ (o : Outcome (ℕ × Float × Float)). outcomeRight (c .before .before .before .before .before .before .before .before .before .before .before .before .before .before .before .before .before .before .before .args .answer) (laidIs (now (c .before .before .before .before .before .before .before .before .before .before .before .before .before .before .before .before .before .before .before .args .rest))) o) _ _ _ _ (c .before .before .before .before .laid-out-is .ensures) (c .before .before .before .before .before .before .before .before .before .layout-in .ensures .0) (not-false _ (c .before .before .before .if1 .left)), tested (λ (l : List Float). numbersStandIn (now (c .before .before .before .before .before .before .before .before .before .before .before .before .before .before .before .before .before .before .before .args .rest)) 22 (c .before .before .before .before .before .before .before .before .before .before .before .before .before .before .place .result) l) _ _ _ _ (c .before .numbers-in .ensures) (c .before .before .before .before .before .before .before .before .before .layout-in .ensures .1) (not-true _ (c .if2 .taken)))
+returns-2 c = rw (← (c .before .before .before .before .before .before .before .before .before .before .before .before .before .before .index .ensures .0), ← (c .before .before .before .before .before .before .before .before .before .before .before .before .before .index2 .ensures .0), ← (c .before .before .before .before .before .before .before .before .before .before .before .before .index3 .ensures .0), tested (λ (o : Outcome (ℕ × Float × Float)). outcomeRight (c .before .before .before .before .before .before .before .before .before .before .before .before .before .before .before .before .before .before .before .args .answer) (laidIs (now (c .before .before .before .before .before .before .before .before .before .before .before .before .before .before .before .before .before .before .before .args .rest))) o) _ _ _ _ (c .before .before .before .before .laid-out-is .ensures) (c .before .before .before .before .before .before .before .before .before .layout-in .ensures .0) (not-false _ (c .before .before .before .if1 .left)), tested (λ (l : List Float). numbersStandIn (now (c .before .before .before .before .before .before .before .before .before .before .before .before .before .before .before .before .before .before .before .args .rest)) 22 (c .before .before .before .before .before .before .before .before .before .before .before .before .before .before .index .result) l) _ _ _ _ (c .before .numbers-in .ensures) (c .before .before .before .before .before .before .before .before .before .layout-in .ensures .1) (not-true _ (c .if2 .taken)))
 
 mul-numbers-in : tie.Need-mul-numbers-in
 mul-numbers-in c = search needs
@@ -67,15 +67,15 @@ same-length-6 c = c .before .before .before .before .before .before .before .bef
 
 returns-3 : tie.Need-returns-3
 unfolding layoutIs
-returns-3 c = rw (← (c .before .before .before .before .before .before .before .before .before .before .before .before .before .before .before .before .place .ensures .0), ← (c .before .before .before .before .before .before .before .before .before .before .before .before .before .before .before .place2 .ensures .0), ← (c .before .before .before .before .before .before .before .before .before .before .before .before .before .before .place3 .ensures .0), tested (λ (o : Outcome (ℕ × Float × Float)). outcomeRight (c .before .before .before .before .before .before .before .before .before .before .before .before .before .before .before .before .before .before .before .before .before .args .answer) (laidIs (now (c .before .before .before .before .before .before .before .before .before .before .before .before .before .before .before .before .before .before .before .before .before .args .rest))) o) _ _ _ _ (c .before .before .before .before .before .before .laid-out-is .ensures) (c .before .before .before .before .before .before .before .before .before .before .before .layout-in .ensures .0) (not-false _ (c .before .before .before .before .before .if1 .left)), tested (λ (l : List Float). numbersStandIn (now (c .before .before .before .before .before .before .before .before .before .before .before .before .before .before .before .before .before .before .before .before .before .args .rest)) 22 (c .before .before .before .before .before .before .before .before .before .before .before .before .before .before .before .before .place .result) l) _ _ _ _ (c .before .before .before .numbers-in .ensures) (c .before .before .before .before .before .before .before .before .before .before .before .layout-in .ensures .1) (not-false _ (c .before .before .if2 .left))) (c .numbers-in2 .ensures ∙ ap (λ (l : List Float). numbersStandIn (now (c .before .before .before .before .before .before .before .before .before .before .before .before .before .before .before .before .before .before .before .before .before .args .rest)) (22 + 8 * c .before .before .before .before .before .before .before .before .before .before .before .before .before .before .before .before .place .result) (c .before .before .before .before .before .before .before .before .before .before .before .before .before .before .before .before .place .result) l) (c .before .before .before .before .before .before .before .before .before .before .before .layout-in .ensures .2))
+returns-3 c = rw (← (c .before .before .before .before .before .before .before .before .before .before .before .before .before .before .before .before .index .ensures .0), ← (c .before .before .before .before .before .before .before .before .before .before .before .before .before .before .before .index2 .ensures .0), ← (c .before .before .before .before .before .before .before .before .before .before .before .before .before .before .index3 .ensures .0), tested (λ (o : Outcome (ℕ × Float × Float)). outcomeRight (c .before .before .before .before .before .before .before .before .before .before .before .before .before .before .before .before .before .before .before .before .before .args .answer) (laidIs (now (c .before .before .before .before .before .before .before .before .before .before .before .before .before .before .before .before .before .before .before .before .before .args .rest))) o) _ _ _ _ (c .before .before .before .before .before .before .laid-out-is .ensures) (c .before .before .before .before .before .before .before .before .before .before .before .layout-in .ensures .0) (not-false _ (c .before .before .before .before .before .if1 .left)), tested (λ (l : List Float). numbersStandIn (now (c .before .before .before .before .before .before .before .before .before .before .before .before .before .before .before .before .before .before .before .before .before .args .rest)) 22 (c .before .before .before .before .before .before .before .before .before .before .before .before .before .before .before .before .index .result) l) _ _ _ _ (c .before .before .before .numbers-in .ensures) (c .before .before .before .before .before .before .before .before .before .before .before .layout-in .ensures .1) (not-false _ (c .before .before .if2 .left))) (c .numbers-in2 .ensures ∙ ap (λ (l : List Float). numbersStandIn (now (c .before .before .before .before .before .before .before .before .before .before .before .before .before .before .before .before .before .before .before .before .before .args .rest)) (22 + 8 * c .before .before .before .before .before .before .before .before .before .before .before .before .before .before .before .before .index .result) (c .before .before .before .before .before .before .before .before .before .before .before .before .before .before .before .before .index .result) l) (c .before .before .before .before .before .before .before .before .before .before .before .layout-in .ensures .2))
 
 pub layout-is-spec : {M : Type 1} → statement M
 layout-is-spec =
     tie.close
     (tie.spec
-    place-requires
-    place-requires-2
-    place-requires-3
+    index-requires
+    index-requires-2
+    index-requires-3
     layout-in-requires
     laid-out-is-requires
     same-length

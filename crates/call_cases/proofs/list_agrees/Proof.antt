@@ -11,8 +11,8 @@ use borrow.Author.Needs.{needs}
 use Rattle.call_cases.proofs.list_agrees.Statement.{statement}
 use Rattle.call_cases.proofs.list_agrees.Tie as tie
 
-place-requires : tie.Need-place-requires
-place-requires c κs = tt
+index-requires : tie.Need-index-requires
+index-requires c κs = tt
 
 returns : tie.Need-returns
 unfolding listAgrees
@@ -35,13 +35,13 @@ list-is-requires c κs = search needs
 
 returns-2 : tie.Need-returns-2
 unfolding listAgrees
-returns-2 c = rw (le-leb _ _ (c .before .before .before .before .if1 .left), ← (c .before .before .before .before .before .place .ensures .0)) (c .before .list-is .ensures ∙ ap (λ (t : List ℕ). listIs (c .before .before .before .before .before .before .before .before .args .answer) (c .before .before .before .before .before .before .before .before .args .by) (now (c .before .before .before .before .before .before .before .before .args .sheet)) (c .before .before .before .before .before .place .result) t (replicate 65600 170)) (part-tail 2 (now (c .before .before .before .before .before .before .before .before .args .rest))))
+returns-2 c = rw (le-leb _ _ (c .before .before .before .before .if1 .left), ← (c .before .before .before .before .before .index .ensures .0)) (c .before .list-is .ensures ∙ ap (λ (t : List ℕ). listIs (c .before .before .before .before .before .before .before .before .args .answer) (c .before .before .before .before .before .before .before .before .args .by) (now (c .before .before .before .before .before .before .before .before .args .sheet)) (c .before .before .before .before .before .index .result) t (replicate 65600 170)) (part-tail 2 (now (c .before .before .before .before .before .before .before .before .args .rest))))
 
 pub list-agrees-spec : {M : Type 1} → statement M
 list-agrees-spec =
     tie.close
     (tie.spec
-    place-requires
+    index-requires
     returns
     sub-list-is
     part-list-is-start

@@ -12,16 +12,16 @@ use borrow.Author.Needs.{needs}
 use Rattle.call_cases.proofs.number_agrees.Statement.{statement}
 use Rattle.call_cases.proofs.number_agrees.Tie as tie
 
-place-requires : tie.Need-place-requires
-place-requires c κs = tt
+index-requires : tie.Need-index-requires
+index-requires c κs = tt
 
 returns : tie.Need-returns
 unfolding numberAgrees
-returns c = rw (← (c .before .place .ensures .0), lt-leb _ _ (c .if1 .taken))
+returns c = rw (← (c .before .index .ensures .0), lt-leb _ _ (c .if1 .taken))
 
 returns-2 : tie.Need-returns-2
 unfolding numberAgrees
-returns-2 c = rw (← (c .before .before .place .ensures .0), le-leb _ _ (c .before .if1 .left), lt-leb _ _ (c .if2 .taken))
+returns-2 c = rw (← (c .before .before .index .ensures .0), le-leb _ _ (c .before .if1 .left), lt-leb _ _ (c .if2 .taken))
 
 float-requires : tie.Need-float-requires
 float-requires c κs = tt
@@ -43,13 +43,13 @@ number-is-requires c κs = search needs
 
 returns-3 : tie.Need-returns-3
 unfolding numberAgrees
-returns-3 c = rw (← (c .before .before .before .before .before .before .before .place .ensures .0), le-leb _ _ (c .before .before .before .before .before .before .if1 .left), le-leb _ _ (c .before .before .before .before .before .if2 .left)) (c .before .number-is .ensures ∙ ap₂ (λ (v : Float) (t : List ℕ). numberIs (c .before .before .before .before .before .before .before .before .before .args .answer) v (c .before .before .before .before .before .before .before .place .result) t (replicate 96 170)) (c .before .before .before .before .float .ensures) (part-tail 10 (now (c .before .before .before .before .before .before .before .before .before .args .rest))))
+returns-3 c = rw (← (c .before .before .before .before .before .before .before .index .ensures .0), le-leb _ _ (c .before .before .before .before .before .before .if1 .left), le-leb _ _ (c .before .before .before .before .before .if2 .left)) (c .before .number-is .ensures ∙ ap₂ (λ (v : Float) (t : List ℕ). numberIs (c .before .before .before .before .before .before .before .before .before .args .answer) v (c .before .before .before .before .before .before .before .index .result) t (replicate 96 170)) (c .before .before .before .before .float .ensures) (part-tail 10 (now (c .before .before .before .before .before .before .before .before .before .args .rest))))
 
 pub number-agrees-spec : {M : Type 1} → statement M
 number-agrees-spec =
     tie.close
     (tie.spec
-    place-requires
+    index-requires
     returns
     returns-2
     float-requires

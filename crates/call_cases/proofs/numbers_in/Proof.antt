@@ -14,11 +14,11 @@ returns : tie.Need-returns
 unfolding numbersStandIn
 returns c = rw (lt-leb _ _ (c .if1 .taken))
 
-slice-aggregate-fill : tie.Need-slice-aggregate-fill
-slice-aggregate-fill c = search needs
+slice-aggregate-fill-floats : tie.Need-slice-aggregate-fill-floats
+slice-aggregate-fill-floats c = search needs
 
-fill-requires : tie.Need-fill-requires
-fill-requires c κs = tt
+fill-floats-requires : tie.Need-fill-floats-requires
+fill-floats-requires c κs = tt
 
 array-share-prefix-numbers : tie.Need-array-share-prefix-numbers
 array-share-prefix-numbers c = search needs
@@ -31,15 +31,15 @@ numbers-stand-requires c κs = tt
 
 returns-2 : tie.Need-returns-2
 unfolding numbersStandIn
-returns-2 c = rw (le-leb _ _ (c .before .before .before .before .before .if1 .left)) (c .numbers-stand .ensures ∙ ap (numbersStand (now (c .before .before .before .before .before .before .before .before .args .out))) (first-floats (now (c .before .before .before .before .before .before .before .before .args .p)) (c .before .before .before .before .before .before .before .before .args .at) (c .before .before .before .before .before .before .before .before .args .n) 5120 _ (c .before .before .before .fill .ensures) (c .before .before .before .before .before .if1 .left)))
+returns-2 c = rw (le-leb _ _ (c .before .before .before .before .before .if1 .left)) (c .numbers-stand .ensures ∙ ap (numbersStand (now (c .before .before .before .before .before .before .before .before .args .out))) (first-floats (now (c .before .before .before .before .before .before .before .before .args .p)) (c .before .before .before .before .before .before .before .before .args .at) (c .before .before .before .before .before .before .before .before .args .n) 5120 _ (c .before .before .before .fill-floats .ensures) (c .before .before .before .before .before .if1 .left)))
 
 pub numbers-in-spec : {M : Type 1} → statement M
 numbers-in-spec =
     tie.close
     (tie.spec
     returns
-    slice-aggregate-fill
-    fill-requires
+    slice-aggregate-fill-floats
+    fill-floats-requires
     array-share-prefix-numbers
     slice-aggregate-numbers-stand
     numbers-stand-requires

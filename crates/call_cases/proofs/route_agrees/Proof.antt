@@ -11,8 +11,8 @@ use borrow.Author.Needs.{needs}
 use Rattle.call_cases.proofs.route_agrees.Statement.{statement}
 use Rattle.call_cases.proofs.route_agrees.Tie as tie
 
-place-requires : tie.Need-place-requires
-place-requires c κs = tt
+index-requires : tie.Need-index-requires
+index-requires c κs = tt
 
 mul-end : tie.Need-mul-end
 mul-end c = search needs
@@ -20,23 +20,23 @@ mul-end c = search needs
 add-end : tie.Need-add-end
 add-end c = search needs
 
-place-requires-2 : tie.Need-place-requires-2
-place-requires-2 c κs = tt
+index-requires-2 : tie.Need-index-requires-2
+index-requires-2 c κs = tt
 
 returns : tie.Need-returns
 unfolding routeAgrees
-returns c = rw (← (c .before .place2 .ensures .0), lt-leb _ _ (c .if1 .taken))
+returns c = rw (← (c .before .index2 .ensures .0), lt-leb _ _ (c .if1 .taken))
 
-place-requires-3 : tie.Need-place-requires-3
-place-requires-3 c κs = tt
+index-requires-3 : tie.Need-index-requires-3
+index-requires-3 c κs = tt
 
 returns-2 : tie.Need-returns-2
 unfolding routeAgrees
-returns-2 c = rw (← (c .before .before .before .place2 .ensures .0), le-leb _ _ (c .before .before .if1 .left), ← (c .before .place3 .ensures .0), lt-leb _ _ (c .if2 .taken))
+returns-2 c = rw (← (c .before .before .before .index2 .ensures .0), le-leb _ _ (c .before .before .if1 .left), ← (c .before .index3 .ensures .0), lt-leb _ _ (c .if2 .taken))
 
 returns-3 : tie.Need-returns-3
 unfolding routeAgrees
-returns-3 c = rw (← (c .before .before .before .before .place2 .ensures .0), le-leb _ _ (c .before .before .before .if1 .left), ← (c .before .before .place3 .ensures .0), le-leb _ _ (c .before .if2 .left), ← (c .before .before .before .before .before .place .ensures .0), lt-leb _ _ (c .if3 .taken))
+returns-3 c = rw (← (c .before .before .before .before .index2 .ensures .0), le-leb _ _ (c .before .before .before .if1 .left), ← (c .before .before .index3 .ensures .0), le-leb _ _ (c .before .if2 .left), ← (c .before .before .before .before .before .index .ensures .0), lt-leb _ _ (c .if3 .taken))
 
 sub-route-is : tie.Need-sub-route-is
 sub-route-is c = search needs
@@ -58,18 +58,18 @@ route-is-requires c κs = search needs
 
 returns-4 : tie.Need-returns-4
 unfolding routeAgrees
-returns-4 c = rw (← (c .before .before .before .before .before .before .before .before .before .before .place2 .ensures .0), le-leb _ _ (c .before .before .before .before .before .before .before .before .before .if1 .left), ← (c .before .before .before .before .before .before .before .before .place3 .ensures .0), le-leb _ _ (c .before .before .before .before .before .before .before .if2 .left), ← (c .before .before .before .before .before .before .before .before .before .before .before .place .ensures .0), le-leb _ _ (c .before .before .before .before .before .before .if3 .left)) (c .before .before .route-is .ensures ∙ ap (λ (t : List ℕ). routeIs (c .before .before .before .before .before .before .before .before .before .before .before .before .before .before .before .before .args .answer) (now (c .before .before .before .before .before .before .before .before .before .before .before .before .before .before .before .before .args .sheet)) (now (c .before .before .before .before .before .before .before .before .before .before .before .before .before .before .before .before .args .xs)) (now (c .before .before .before .before .before .before .before .before .before .before .before .before .before .before .before .before .args .ys)) (now (c .before .before .before .before .before .before .before .before .before .before .before .before .before .before .before .before .args .rest)) t (replicate 5248 unset) (replicate 25732 170)) (part-tail (6 + 8 * c .before .before .before .before .before .before .before .before .before .before .before .place .result) (now (c .before .before .before .before .before .before .before .before .before .before .before .before .before .before .before .before .args .rest))))
+returns-4 c = rw (← (c .before .before .before .before .before .before .before .before .before .before .index2 .ensures .0), le-leb _ _ (c .before .before .before .before .before .before .before .before .before .if1 .left), ← (c .before .before .before .before .before .before .before .before .index3 .ensures .0), le-leb _ _ (c .before .before .before .before .before .before .before .if2 .left), ← (c .before .before .before .before .before .before .before .before .before .before .before .index .ensures .0), le-leb _ _ (c .before .before .before .before .before .before .if3 .left)) (c .before .before .route-is .ensures ∙ ap (λ (t : List ℕ). routeIs (c .before .before .before .before .before .before .before .before .before .before .before .before .before .before .before .before .args .answer) (now (c .before .before .before .before .before .before .before .before .before .before .before .before .before .before .before .before .args .sheet)) (now (c .before .before .before .before .before .before .before .before .before .before .before .before .before .before .before .before .args .xs)) (now (c .before .before .before .before .before .before .before .before .before .before .before .before .before .before .before .before .args .ys)) (now (c .before .before .before .before .before .before .before .before .before .before .before .before .before .before .before .before .args .rest)) t (replicate 5248 unset) (replicate 25732 170)) (part-tail (6 + 8 * c .before .before .before .before .before .before .before .before .before .before .before .index .result) (now (c .before .before .before .before .before .before .before .before .before .before .before .before .before .before .before .before .args .rest))))
 
 pub route-agrees-spec : {M : Type 1} → statement M
 route-agrees-spec =
     tie.close
     (tie.spec
-    place-requires
+    index-requires
     mul-end
     add-end
-    place-requires-2
+    index-requires-2
     returns
-    place-requires-3
+    index-requires-3
     returns-2
     returns-3
     sub-route-is

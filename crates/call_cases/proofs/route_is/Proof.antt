@@ -12,14 +12,14 @@ use borrow.Author.Needs.{needs}
 use Rattle.call_cases.proofs.route_is.Statement.{statement}
 use Rattle.call_cases.proofs.route_is.Tie as tie
 
-place-requires : tie.Need-place-requires
-place-requires c κs = tt
+index-requires : tie.Need-index-requires
+index-requires c κs = tt
 
-place-requires-2 : tie.Need-place-requires-2
-place-requires-2 c κs = tt
+index-requires-2 : tie.Need-index-requires-2
+index-requires-2 c κs = tt
 
-place-requires-3 : tie.Need-place-requires-3
-place-requires-3 c κs = tt
+index-requires-3 : tie.Need-index-requires-3
+index-requires-3 c κs = tt
 
 route-in-requires : tie.Need-route-in-requires
 route-in-requires c κs = search needs
@@ -35,7 +35,7 @@ same-length-2 c = c .before .before .before .before .before .before .route-in .k
 
 returns : tie.Need-returns
 unfolding routeIs
-returns c = rw (← (c .before .before .before .before .before .before .before .before .before .before .before .place .ensures .0), ← (c .before .before .before .before .before .before .before .before .before .before .place2 .ensures .0), ← (c .before .before .before .before .before .before .before .before .before .place3 .ensures .0), tested (λ (o : Outcome (ℕ × ℕ)). outcomeRight (c .before .before .before .before .before .before .before .before .before .before .before .before .before .before .before .before .before .before .before .args .answer) (lengthsAre (c .before .before .before .before .before .before .before .before .before .before .before .place .result) (now (c .before .before .before .before .before .before .before .before .before .before .before .before .before .before .before .before .before .before .before .args .text))) o) _ _ _ _ (c .before .routed-is .ensures) (c .before .before .before .before .before .before .route-in .ensures .0) (not-true _ (c .if1 .taken)))
+returns c = rw (← (c .before .before .before .before .before .before .before .before .before .before .before .index .ensures .0), ← (c .before .before .before .before .before .before .before .before .before .before .index2 .ensures .0), ← (c .before .before .before .before .before .before .before .before .before .index3 .ensures .0), tested (λ (o : Outcome (ℕ × ℕ)). outcomeRight (c .before .before .before .before .before .before .before .before .before .before .before .before .before .before .before .before .before .before .before .args .answer) (lengthsAre (c .before .before .before .before .before .before .before .before .before .before .before .index .result) (now (c .before .before .before .before .before .before .before .before .before .before .before .before .before .before .before .before .before .before .before .args .text))) o) _ _ _ _ (c .before .routed-is .ensures) (c .before .before .before .before .before .before .route-in .ensures .0) (not-true _ (c .if1 .taken)))
 
 numbers-in-requires : tie.Need-numbers-in-requires
 numbers-in-requires c κs = tt
@@ -48,7 +48,7 @@ same-length-4 c = c .before .before .before .before .before .before .before .bef
 
 returns-2 : tie.Need-returns-2
 unfolding routeIs
-returns-2 c = rw (← (c .before .before .before .before .before .before .before .before .before .before .before .before .before .before .place .ensures .0), ← (c .before .before .before .before .before .before .before .before .before .before .before .before .before .place2 .ensures .0), ← (c .before .before .before .before .before .before .before .before .before .before .before .before .place3 .ensures .0), tested (λ (o : Outcome (ℕ × ℕ)). outcomeRight (c .before .before .before .before .before .before .before .before .before .before .before .before .before .before .before .before .before .before .before .before .before .before .args .answer) (lengthsAre (c .before .before .before .before .before .before .before .before .before .before .before .before .before .before .place .result) (now (c .before .before .before .before .before .before .before .before .before .before .before .before .before .before .before .before .before .before .before .before .before .before .args .text))) o) _ _ _ _ (c .before .before .before .before .routed-is .ensures) (c .before .before .before .before .before .before .before .before .before .route-in .ensures .0) (not-false _ (c .before .before .before .if1 .left)), tested (λ (l : List Float). numbersStandIn (now (c .before .before .before .before .before .before .before .before .before .before .before .before .before .before .before .before .before .before .before .before .before .before .args .rest)) 6 (c .before .before .before .before .before .before .before .before .before .before .before .before .before .before .place .result) l) _ _ _ _ (c .before .numbers-in .ensures) (c .before .before .before .before .before .before .before .before .before .route-in .ensures .1) (not-true _ (c .if2 .taken)))
+returns-2 c = rw (← (c .before .before .before .before .before .before .before .before .before .before .before .before .before .before .index .ensures .0), ← (c .before .before .before .before .before .before .before .before .before .before .before .before .before .index2 .ensures .0), ← (c .before .before .before .before .before .before .before .before .before .before .before .before .index3 .ensures .0), tested (λ (o : Outcome (ℕ × ℕ)). outcomeRight (c .before .before .before .before .before .before .before .before .before .before .before .before .before .before .before .before .before .before .before .before .before .before .args .answer) (lengthsAre (c .before .before .before .before .before .before .before .before .before .before .before .before .before .before .index .result) (now (c .before .before .before .before .before .before .before .before .before .before .before .before .before .before .before .before .before .before .before .before .before .before .args .text))) o) _ _ _ _ (c .before .before .before .before .routed-is .ensures) (c .before .before .before .before .before .before .before .before .before .route-in .ensures .0) (not-false _ (c .before .before .before .if1 .left)), tested (λ (l : List Float). numbersStandIn (now (c .before .before .before .before .before .before .before .before .before .before .before .before .before .before .before .before .before .before .before .before .before .before .args .rest)) 6 (c .before .before .before .before .before .before .before .before .before .before .before .before .before .before .index .result) l) _ _ _ _ (c .before .numbers-in .ensures) (c .before .before .before .before .before .before .before .before .before .route-in .ensures .1) (not-true _ (c .if2 .taken)))
 
 text-stands-requires : tie.Need-text-stands-requires
 text-stands-requires c κs = tt
@@ -61,15 +61,15 @@ same-length-6 c = c .before .before .before .before .before .before .before .bef
 
 returns-3 : tie.Need-returns-3
 unfolding routeIs
-returns-3 c = rw (← (c .before .before .before .before .before .before .before .before .before .before .before .before .before .before .before .before .place .ensures .0), ← (c .before .before .before .before .before .before .before .before .before .before .before .before .before .before .before .place2 .ensures .0), ← (c .before .before .before .before .before .before .before .before .before .before .before .before .before .before .place3 .ensures .0), tested (λ (o : Outcome (ℕ × ℕ)). outcomeRight (c .before .before .before .before .before .before .before .before .before .before .before .before .before .before .before .before .before .before .before .before .before .before .before .before .args .answer) (lengthsAre (c .before .before .before .before .before .before .before .before .before .before .before .before .before .before .before .before .place .result) (now (c .before .before .before .before .before .before .before .before .before .before .before .before .before .before .before .before .before .before .before .before .before .before .before .before .args .text))) o) _ _ _ _ (c .before .before .before .before .before .before .routed-is .ensures) (c .before .before .before .before .before .before .before .before .before .before .before .route-in .ensures .0) (not-false _ (c .before .before .before .before .before .if1 .left)), tested (λ (l : List Float). numbersStandIn (now (c .before .before .before .before .before .before .before .before .before .before .before .before .before .before .before .before .before .before .before .before .before .before .before .before .args .rest)) 6 (c .before .before .before .before .before .before .before .before .before .before .before .before .before .before .before .before .place .result) l) _ _ _ _ (c .before .before .before .numbers-in .ensures) (c .before .before .before .before .before .before .before .before .before .before .before .route-in .ensures .1) (not-false _ (c .before .before .if2 .left))) (c .text-stands .ensures ∙ ap (λ (l : List ℕ). textStands l (now (c .before .before .before .before .before .before .before .before .before .before .before .before .before .before .before .before .before .before .before .before .before .before .before .before .args .text))) (c .before .before .before .before .before .before .before .before .before .before .before .route-in .ensures .2))
+returns-3 c = rw (← (c .before .before .before .before .before .before .before .before .before .before .before .before .before .before .before .before .index .ensures .0), ← (c .before .before .before .before .before .before .before .before .before .before .before .before .before .before .before .index2 .ensures .0), ← (c .before .before .before .before .before .before .before .before .before .before .before .before .before .before .index3 .ensures .0), tested (λ (o : Outcome (ℕ × ℕ)). outcomeRight (c .before .before .before .before .before .before .before .before .before .before .before .before .before .before .before .before .before .before .before .before .before .before .before .before .args .answer) (lengthsAre (c .before .before .before .before .before .before .before .before .before .before .before .before .before .before .before .before .index .result) (now (c .before .before .before .before .before .before .before .before .before .before .before .before .before .before .before .before .before .before .before .before .before .before .before .before .args .text))) o) _ _ _ _ (c .before .before .before .before .before .before .routed-is .ensures) (c .before .before .before .before .before .before .before .before .before .before .before .route-in .ensures .0) (not-false _ (c .before .before .before .before .before .if1 .left)), tested (λ (l : List Float). numbersStandIn (now (c .before .before .before .before .before .before .before .before .before .before .before .before .before .before .before .before .before .before .before .before .before .before .before .before .args .rest)) 6 (c .before .before .before .before .before .before .before .before .before .before .before .before .before .before .before .before .index .result) l) _ _ _ _ (c .before .before .before .numbers-in .ensures) (c .before .before .before .before .before .before .before .before .before .before .before .route-in .ensures .1) (not-false _ (c .before .before .if2 .left))) (c .text-stands .ensures ∙ ap (λ (l : List ℕ). textStands l (now (c .before .before .before .before .before .before .before .before .before .before .before .before .before .before .before .before .before .before .before .before .before .before .before .before .args .text))) (c .before .before .before .before .before .before .before .before .before .before .before .route-in .ensures .2))
 
 pub route-is-spec : {M : Type 1} → statement M
 route-is-spec =
     tie.close
     (tie.spec
-    place-requires
-    place-requires-2
-    place-requires-3
+    index-requires
+    index-requires-2
+    index-requires-3
     route-in-requires
     routed-is-requires
     same-length

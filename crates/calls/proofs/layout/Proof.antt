@@ -26,17 +26,17 @@ enum-known-planned-2 c = search needs
 array-share-prefix-across : tie.Need-array-share-prefix-across
 array-share-prefix-across c = omega (arith, few-states (now (c .before .before .before .before .before .before .before .before .before .before .before .args .sheet)) (c .before .before .before .before .before .before .before .before .before .before .before .args .kind) _ _ _ (sym (c .before .planned2 .given .1) ∙ c .before .before .before .before .before .plan .ensures .0))
 
-slice-aggregate-place : tie.Need-slice-aggregate-place
-slice-aggregate-place c = sym (length-take-le _ _ (omega (arith, few-states (now (c .before .before .before .before .before .before .before .before .before .before .before .before .args .sheet)) (c .before .before .before .before .before .before .before .before .before .before .before .before .args .kind) _ _ _ (sym (c .before .before .planned2 .given .1) ∙ c .before .before .before .before .before .before .plan .ensures .0))))
+slice-aggregate-write-layout : tie.Need-slice-aggregate-write-layout
+slice-aggregate-write-layout c = sym (length-take-le _ _ (omega (arith, few-states (now (c .before .before .before .before .before .before .before .before .before .before .before .before .args .sheet)) (c .before .before .before .before .before .before .before .before .before .before .before .before .args .kind) _ _ _ (sym (c .before .before .planned2 .given .1) ∙ c .before .before .before .before .before .before .plan .ensures .0))))
 
 array-share-prefix-down : tie.Need-array-share-prefix-down
 array-share-prefix-down c = omega (arith, few-states (now (c .before .before .before .before .before .before .before .before .before .before .before .before .args .sheet)) (c .before .before .before .before .before .before .before .before .before .before .before .before .args .kind) _ _ _ (sym (c .before .before .planned2 .given .1) ∙ c .before .before .before .before .before .before .plan .ensures .0))
 
-slice-aggregate-place-2 : tie.Need-slice-aggregate-place-2
-slice-aggregate-place-2 c = sym (length-take-le _ _ (omega (arith, few-states (now (c .before .before .before .before .before .before .before .before .before .before .before .before .before .args .sheet)) (c .before .before .before .before .before .before .before .before .before .before .before .before .before .args .kind) _ _ _ (sym (c .before .before .before .planned2 .given .1) ∙ c .before .before .before .before .before .before .before .plan .ensures .0))))
+slice-aggregate-write-layout-2 : tie.Need-slice-aggregate-write-layout-2
+slice-aggregate-write-layout-2 c = sym (length-take-le _ _ (omega (arith, few-states (now (c .before .before .before .before .before .before .before .before .before .before .before .before .before .args .sheet)) (c .before .before .before .before .before .before .before .before .before .before .before .before .before .args .kind) _ _ _ (sym (c .before .before .before .planned2 .given .1) ∙ c .before .before .before .before .before .before .before .plan .ensures .0))))
 
-place-requires : tie.Need-place-requires
-place-requires c κs =
+write-layout-requires : tie.Need-write-layout-requires
+write-layout-requires c κs =
     let l = laid (now (c .before .before .before .before .before .before .before .before .before .before .before .before .before .before .before .args .sheet)) (c .before .before .before .before .before .before .before .before .before .before .before .before .before .before .before .args .kind) _ _ _ _ _ _ _ (omega arith) (omega arith) (sym (c .before .before .before .before .before .planned2 .given .1) ∙ c .before .before .before .before .before .before .before .before .before .plan .ensures .0) (c .before .before .before .before .before .before .before .before .before .plan .ensures .1) (c .before .before .before .before .before .before .before .before .before .plan .ensures .2) in
     l .ys-many ∙ sym (l .xs-many)
 
@@ -50,7 +50,7 @@ same-length-2 : tie.Need-same-length-2
 same-length-2 c = search needs
 
 returns-2 : tie.Need-returns-2
-returns-2 c = layout-laid (now (c .before .before .before .before .before .before .before .before .before .before .before .before .before .before .before .before .before .before .before .before .args .sheet)) (c .before .before .before .before .before .before .before .before .before .before .before .before .before .before .before .before .before .before .before .before .args .kind) (now (c .before .before .before .before .before .before .before .before .before .before .before .before .before .before .before .before .before .before .before .before .args .xs)) (now (c .before .before .before .before .before .before .before .before .before .before .before .before .before .before .before .before .before .before .before .before .args .ys)) _ _ _ _ _ (laid (now (c .before .before .before .before .before .before .before .before .before .before .before .before .before .before .before .before .before .before .before .before .args .sheet)) (c .before .before .before .before .before .before .before .before .before .before .before .before .before .before .before .before .before .before .before .before .args .kind) _ _ _ _ _ _ _ (omega arith) (omega arith) (sym (c .before .before .before .before .before .before .before .before .before .before .planned2 .given .1) ∙ c .before .before .before .before .before .before .before .before .before .before .before .before .before .before .plan .ensures .0) (c .before .before .before .before .before .before .before .before .before .before .before .before .before .before .plan .ensures .1) (c .before .before .before .before .before .before .before .before .before .before .before .before .before .before .plan .ensures .2)) _ _ _ (c .before .before .before .before .place .ensures)
+returns-2 c = layout-laid (now (c .before .before .before .before .before .before .before .before .before .before .before .before .before .before .before .before .before .before .before .before .args .sheet)) (c .before .before .before .before .before .before .before .before .before .before .before .before .before .before .before .before .before .before .before .before .args .kind) (now (c .before .before .before .before .before .before .before .before .before .before .before .before .before .before .before .before .before .before .before .before .args .xs)) (now (c .before .before .before .before .before .before .before .before .before .before .before .before .before .before .before .before .before .before .before .before .args .ys)) _ _ _ _ _ (laid (now (c .before .before .before .before .before .before .before .before .before .before .before .before .before .before .before .before .before .before .before .before .args .sheet)) (c .before .before .before .before .before .before .before .before .before .before .before .before .before .before .before .before .before .before .before .before .args .kind) _ _ _ _ _ _ _ (omega arith) (omega arith) (sym (c .before .before .before .before .before .before .before .before .before .before .planned2 .given .1) ∙ c .before .before .before .before .before .before .before .before .before .before .before .before .before .before .plan .ensures .0) (c .before .before .before .before .before .before .before .before .before .before .before .before .before .before .plan .ensures .1) (c .before .before .before .before .before .before .before .before .before .before .before .before .before .before .plan .ensures .2)) _ _ _ (c .before .before .before .before .write-layout .ensures)
 
 pub layout-spec : {M : Type 1} → statement M
 layout-spec =
@@ -62,10 +62,10 @@ layout-spec =
     enum-known-planned
     enum-known-planned-2
     array-share-prefix-across
-    slice-aggregate-place
+    slice-aggregate-write-layout
     array-share-prefix-down
-    slice-aggregate-place-2
-    place-requires
+    slice-aggregate-write-layout-2
+    write-layout-requires
     returns
     same-length
     same-length-2

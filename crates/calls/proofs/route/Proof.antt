@@ -3,7 +3,7 @@ use mathlib.Core.Path.{sym, _∙_}
 use denote.Ref.{now}
 use native.Mathlib.Omega.{arith}
 use Rattle.calls.proofs.Held.{held}
-use Rattle.calls.proofs.Routes.{ready, route-refused, route-drawn}
+use Rattle.calls.proofs.Routes.{ready, call-refused, call-drawn}
 use borrow.Author.Needs.{needs}
 use Rattle.calls.proofs.route.Statement.{statement}
 use Rattle.calls.proofs.route.Tie as tie
@@ -20,14 +20,14 @@ enum-known-drawn c = search needs
 enum-known-drawn-2 : tie.Need-enum-known-drawn-2
 enum-known-drawn-2 c = search needs
 
-slice-aggregate-fill : tie.Need-slice-aggregate-fill
-slice-aggregate-fill c = search needs
+slice-aggregate-write-route : tie.Need-slice-aggregate-write-route
+slice-aggregate-write-route c = search needs
 
-fill-requires : tie.Need-fill-requires
-fill-requires c κs = ready (held (now (c .before .before .before .before .before .before .before .before .before .before .before .before .before .before .args .sheet)) (now (c .before .before .before .before .before .before .before .before .before .before .before .before .before .before .args .xs)) (now (c .before .before .before .before .before .before .before .before .before .before .before .before .before .before .args .ys)) (c .before .before .before .before .drawn2 .given .0 .0) _ _ (omega arith) (sym (c .before .before .before .before .drawn2 .given .1) ∙ c .before .before .before .before .before .before .before .draw .ensures .0) (c .before .before .before .before .before .before .before .draw .ensures .1)) _ (omega arith)
+write-route-requires : tie.Need-write-route-requires
+write-route-requires c κs = ready (held (now (c .before .before .before .before .before .before .before .before .before .before .before .before .before .before .args .sheet)) (now (c .before .before .before .before .before .before .before .before .before .before .before .before .before .before .args .xs)) (now (c .before .before .before .before .before .before .before .before .before .before .before .before .before .before .args .ys)) (c .before .before .before .before .drawn2 .given .0 .0) _ _ (omega arith) (sym (c .before .before .before .before .drawn2 .given .1) ∙ c .before .before .before .before .before .before .before .draw .ensures .0) (c .before .before .before .before .before .before .before .draw .ensures .1)) _ (omega arith)
 
 returns : tie.Need-returns
-returns c = route-refused (now (c .before .before .before .before .before .before .before .before .before .before .before .args .sheet)) (now (c .before .before .before .before .before .before .before .before .before .before .before .args .xs)) (now (c .before .before .before .before .before .before .before .before .before .before .before .args .ys)) (now (c .before .before .before .before .before .before .before .before .before .before .before .args .records)) (now (c .before .before .before .before .before .before .before .before .before .before .before .args .text)) (c .before .drawn .given .0 .0) (sym (c .before .drawn .given .1) ∙ c .before .before .before .before .draw .ensures .0)
+returns c = call-refused (now (c .before .before .before .before .before .before .before .before .before .before .before .args .sheet)) (now (c .before .before .before .before .before .before .before .before .before .before .before .args .xs)) (now (c .before .before .before .before .before .before .before .before .before .before .before .args .ys)) (now (c .before .before .before .before .before .before .before .before .before .before .before .args .records)) (now (c .before .before .before .before .before .before .before .before .before .before .before .args .text)) (c .before .drawn .given .0 .0) (sym (c .before .drawn .given .1) ∙ c .before .before .before .before .draw .ensures .0)
 
 same-length : tie.Need-same-length
 same-length c = search needs
@@ -36,7 +36,7 @@ same-length-2 : tie.Need-same-length-2
 same-length-2 c = search needs
 
 returns-2 : tie.Need-returns-2
-returns-2 c = route-drawn (now (c .before .before .before .before .before .before .before .before .before .before .before .before .before .before .before .before .before .before .before .args .sheet)) (now (c .before .before .before .before .before .before .before .before .before .before .before .before .before .before .before .before .before .before .before .args .xs)) (now (c .before .before .before .before .before .before .before .before .before .before .before .before .before .before .before .before .before .before .before .args .ys)) (now (c .before .before .before .before .before .before .before .before .before .before .before .before .before .before .before .before .before .before .before .args .records)) (now (c .before .before .before .before .before .before .before .before .before .before .before .before .before .before .before .before .before .before .before .args .text)) (c .before .before .before .before .before .before .before .before .before .drawn2 .given .0 .0) _ (held (now (c .before .before .before .before .before .before .before .before .before .before .before .before .before .before .before .before .before .before .before .args .sheet)) (now (c .before .before .before .before .before .before .before .before .before .before .before .before .before .before .before .before .before .before .before .args .xs)) (now (c .before .before .before .before .before .before .before .before .before .before .before .before .before .before .before .before .before .before .before .args .ys)) (c .before .before .before .before .before .before .before .before .before .drawn2 .given .0 .0) _ _ (omega arith) (sym (c .before .before .before .before .before .before .before .before .before .drawn2 .given .1) ∙ c .before .before .before .before .before .before .before .before .before .before .before .before .draw .ensures .0) (c .before .before .before .before .before .before .before .before .before .before .before .before .draw .ensures .1)) _ _ _ (c .before .before .before .before .fill .ensures)
+returns-2 c = call-drawn (now (c .before .before .before .before .before .before .before .before .before .before .before .before .before .before .before .before .before .before .before .args .sheet)) (now (c .before .before .before .before .before .before .before .before .before .before .before .before .before .before .before .before .before .before .before .args .xs)) (now (c .before .before .before .before .before .before .before .before .before .before .before .before .before .before .before .before .before .before .before .args .ys)) (now (c .before .before .before .before .before .before .before .before .before .before .before .before .before .before .before .before .before .before .before .args .records)) (now (c .before .before .before .before .before .before .before .before .before .before .before .before .before .before .before .before .before .before .before .args .text)) (c .before .before .before .before .before .before .before .before .before .drawn2 .given .0 .0) _ (held (now (c .before .before .before .before .before .before .before .before .before .before .before .before .before .before .before .before .before .before .before .args .sheet)) (now (c .before .before .before .before .before .before .before .before .before .before .before .before .before .before .before .before .before .before .before .args .xs)) (now (c .before .before .before .before .before .before .before .before .before .before .before .before .before .before .before .before .before .before .before .args .ys)) (c .before .before .before .before .before .before .before .before .before .drawn2 .given .0 .0) _ _ (omega arith) (sym (c .before .before .before .before .before .before .before .before .before .drawn2 .given .1) ∙ c .before .before .before .before .before .before .before .before .before .before .before .before .draw .ensures .0) (c .before .before .before .before .before .before .before .before .before .before .before .before .draw .ensures .1)) _ _ _ (c .before .before .before .before .write-route .ensures)
 
 pub route-spec : {M : Type 1} → statement M
 route-spec =
@@ -46,8 +46,8 @@ route-spec =
     draw-requires
     enum-known-drawn
     enum-known-drawn-2
-    slice-aggregate-fill
-    fill-requires
+    slice-aggregate-write-route
+    write-route-requires
     returns
     same-length
     same-length-2

@@ -26,11 +26,11 @@ loop-holds : tie.Need-loop-holds Inv-loop μ-loop
 unfolding table
 loop-holds c = (search needs, omega arith, refl, refl, refl, refl)
 
-place-requires : tie.Need-place-requires Inv-loop μ-loop
-place-requires c κs = search needs
+ring-place-requires : tie.Need-ring-place-requires Inv-loop μ-loop
+ring-place-requires c κs = search needs
 
-angle-requires : tie.Need-angle-requires Inv-loop μ-loop
-angle-requires c κs = search needs
+place-angle-requires : tie.Need-place-angle-requires Inv-loop μ-loop
+place-angle-requires c κs = search needs
 
 cos-requires : tie.Need-cos-requires Inv-loop μ-loop
 cos-requires c κs = search needs
@@ -62,7 +62,7 @@ loop-again c =
     let n : ℕ = length (now (c .before .before .before .before .before .before .before .before .args .xs)) in
     let k : ℕ = c .before .before .before .before .before .before .before .before .args .start in
     let i : ℕ = c .before .before .before .before .before .loop .i in
-    let a : c .before .before .angle .result ≡ placeAngle n (ringPlace n k i) = c .before .before .angle .ensures ∙ ap (placeAngle n) (c .before .before .before .place .ensures .0) in (
+    let a : c .before .before .place-angle .result ≡ placeAngle n (ringPlace n k i) = c .before .before .place-angle .ensures ∙ ap (placeAngle n) (c .before .before .before .ring-place .ensures .0) in (
       c .before .before .before .before .before .loop .inv .0,
       omega arith,
       length-set (c .before .before .before .before .before .loop .xs) i (r ⊗ c .before .cos .result) ∙ c .before .before .before .before .before .loop .inv .2,
@@ -94,8 +94,8 @@ fill-spec =
     Inv-loop
     μ-loop
     loop-holds
-    place-requires
-    angle-requires
+    ring-place-requires
+    place-angle-requires
     cos-requires
     mul-xs
     slice-write-xs

@@ -2,15 +2,16 @@
 use mathlib.Core.Path.{_≡_, refl, _∙_}
 use Prim.Native.Nat.{_+_, _-_, _≤_}
 use native.Mathlib.Omega.{arith}
-use lib.ListN.{length, drop, getD}
-use lib.Ieee.{nan}
+use lib.ListN.{length, drop}
 use denote.Ref.{now}
-use Rattle.laws.specs.Zip.{zip-drop, zip-past}
+use Rattle.laws.specs.Zip.{zip-past}
 use Rattle.laws.specs.Any.{anyOf}
 use Rattle.shape.specs.Plane.{vec}
 use Rattle.shape.specs.Centres.{centres}
+use Rattle.shape.specs.CentresFrom.{centres-from}
 use Rattle.clutter.specs.Clutter.{near24}
 use Rattle.clutter.specs.Steps.{some-hit, some-miss, some-none}
+use borrow.Author.Needs.{needs}
 use Rattle.clutter.proofs.any_state.Statement.{statement}
 use Rattle.clutter.proofs.any_state.Tie as tie
 
@@ -23,28 +24,20 @@ abbrev μ-loop : tie.MeasureT-loop
 loop-holds : tie.Need-loop-holds Inv-loop μ-loop
 loop-holds c = (refl, omega arith)
 
-mul-t5 : tie.Need-mul-t5 Inv-loop μ-loop
-mul-t5 c = omega arith
-
-shared-slice-read-t9 : tie.Need-shared-slice-read-t9 Inv-loop μ-loop
-shared-slice-read-t9 c = omega arith
-
-mul-t10 : tie.Need-mul-t10 Inv-loop μ-loop
-mul-t10 c = omega arith
-
-shared-slice-read-t12 : tie.Need-shared-slice-read-t12 Inv-loop μ-loop
-shared-slice-read-t12 c = omega arith
+centre-requires : tie.Need-centre-requires Inv-loop μ-loop
+centre-requires c κs = search needs
 
 near24-requires : tie.Need-near24-requires Inv-loop μ-loop
 near24-requires c κs = tt
 
 returns : tie.Need-returns Inv-loop μ-loop
 returns c =
-    let a = c .before .before .before .before .before .before .before .before .args in
+    let a = c .before .before .before .before .before .before .before .args in
     let xs = now (a .xs) in
     let ys = now (a .ys) in
-    let l = c .before .before .before .before .before .loop in
-    some-hit (near24 (a .b)) (drop (l .k) (centres xs ys)) (drop (l .k + 1) (centres xs ys)) (vec (getD xs (l .k) nan) (getD ys (l .k) nan)) (zip-drop vec xs ys (l .k) nan nan (c .before .before .before .before .before .before .before .before .pre) (omega arith)) (c .before .near24 .result) (c .before .near24 .ensures) (c .if1 .taken)
+    let v = c .before .before .centre in
+    let l = c .before .before .before .before .loop in
+    some-hit (near24 (a .b)) (drop (l .k) (centres xs ys)) (drop (l .k + 1) (centres xs ys)) (v .result) (centres-from xs ys (l .k) (v .result) (v .ensures) (c .before .before .before .before .before .before .before .pre) (omega arith)) (c .before .near24 .result) (c .before .near24 .ensures) (c .if1 .taken)
     ∙ l .inv .0
 
 add-k : tie.Need-add-k Inv-loop μ-loop
@@ -55,11 +48,12 @@ loop-less c = omega arith
 
 loop-again : tie.Need-loop-again Inv-loop μ-loop
 loop-again c =
-    let a = c .before .before .before .before .before .before .before .before .args in
+    let a = c .before .before .before .before .before .before .before .args in
     let xs = now (a .xs) in
     let ys = now (a .ys) in
-    let l = c .before .before .before .before .before .loop in (
-      some-miss (near24 (a .b)) (drop (l .k) (centres xs ys)) (drop (l .k + 1) (centres xs ys)) (vec (getD xs (l .k) nan) (getD ys (l .k) nan)) (zip-drop vec xs ys (l .k) nan nan (c .before .before .before .before .before .before .before .before .pre) (omega arith)) (c .before .near24 .result) (c .before .near24 .ensures) (c .if1 .left)
+    let v = c .before .before .centre in
+    let l = c .before .before .before .before .loop in (
+      some-miss (near24 (a .b)) (drop (l .k) (centres xs ys)) (drop (l .k + 1) (centres xs ys)) (v .result) (centres-from xs ys (l .k) (v .result) (v .ensures) (c .before .before .before .before .before .before .before .pre) (omega arith)) (c .before .near24 .result) (c .before .near24 .ensures) (c .if1 .left)
           ∙ l .inv .0,
       omega arith,
     )
@@ -79,10 +73,7 @@ any-state-spec =
     Inv-loop
     μ-loop
     loop-holds
-    mul-t5
-    shared-slice-read-t9
-    mul-t10
-    shared-slice-read-t12
+    centre-requires
     near24-requires
     returns
     add-k

@@ -6,8 +6,8 @@ use denote.Ref.{now}
 use Rattle.laws.specs.Flat.{part}
 use Rattle.laws.specs.Any.{anyOf}
 use Rattle.laws.specs.Tables.{table-first, table-none}
+use Rattle.trace.specs.Traces.{struck}
 use Rattle.trace.specs.Form.{decodeTrace, decodeTraces}
-use Rattle.scene.specs.Scene.{struck}
 use Rattle.clutter.specs.Clutter.{tracesFrom}
 use Rattle.clutter.specs.Steps.{some-hit, some-miss, some-none}
 use Rattle.clutter.proofs.any_trace.Statement.{statement}
@@ -22,15 +22,15 @@ abbrev μ-loop : tie.MeasureT-loop
 loop-holds : tie.Need-loop-holds Inv-loop μ-loop
 loop-holds c = (refl, omega arith)
 
-strikes-at-requires : tie.Need-strikes-at-requires Inv-loop μ-loop
-strikes-at-requires c κs = omega arith
+strikes-requires : tie.Need-strikes-requires Inv-loop μ-loop
+strikes-requires c κs = omega arith
 
 returns : tie.Need-returns Inv-loop μ-loop
 returns c =
     let a = c .before .before .before .before .before .args in
     let ts = now (a .traces) in
     let l = c .before .before .before .loop in
-    some-hit (struck (a .own) (a .b)) (tracesFrom ts (l .k) (l .left)) (tracesFrom ts (l .k + 1) (l .left - 1)) (decodeTrace (part 40 (l .k) ts)) (table-first (λ i. decodeTrace (part 40 i ts)) (l .k) (l .left) (c .before .before .loop-test .taken)) (c .before .strikes-at .result) (c .before .strikes-at .ensures) (c .if1 .taken)
+    some-hit (struck (a .own) (a .b)) (tracesFrom ts (l .k) (l .left)) (tracesFrom ts (l .k + 1) (l .left - 1)) (decodeTrace (part 40 (l .k) ts)) (table-first (λ i. decodeTrace (part 40 i ts)) (l .k) (l .left) (c .before .before .loop-test .taken)) (c .before .strikes .result) (c .before .strikes .ensures) (c .if1 .taken)
     ∙ l .inv .0
 
 add-k : tie.Need-add-k Inv-loop μ-loop
@@ -47,7 +47,7 @@ loop-again c =
     let a = c .before .before .before .before .before .args in
     let ts = now (a .traces) in
     let l = c .before .before .before .loop in (
-      some-miss (struck (a .own) (a .b)) (tracesFrom ts (l .k) (l .left)) (tracesFrom ts (l .k + 1) (l .left - 1)) (decodeTrace (part 40 (l .k) ts)) (table-first (λ i. decodeTrace (part 40 i ts)) (l .k) (l .left) (c .before .before .loop-test .taken)) (c .before .strikes-at .result) (c .before .strikes-at .ensures) (c .if1 .left)
+      some-miss (struck (a .own) (a .b)) (tracesFrom ts (l .k) (l .left)) (tracesFrom ts (l .k + 1) (l .left - 1)) (decodeTrace (part 40 (l .k) ts)) (table-first (λ i. decodeTrace (part 40 i ts)) (l .k) (l .left) (c .before .before .loop-test .taken)) (c .before .strikes .result) (c .before .strikes .ensures) (c .if1 .left)
           ∙ l .inv .0,
       omega arith,
     )
@@ -66,7 +66,7 @@ any-trace-spec =
     Inv-loop
     μ-loop
     loop-holds
-    strikes-at-requires
+    strikes-requires
     returns
     add-k
     sub-left

@@ -61,9 +61,6 @@ returns c =
 other-kind-requires : tie.Need-other-kind-requires
 other-kind-requires c κs = search needs
 
-mul-kinds : tie.Need-mul-kinds
-mul-kinds c = search needs
-
 slice-write-kinds : tie.Need-slice-write-kinds
 slice-write-kinds c = c .before .before .before .before .before .before .before .before .before .before .before .before .before .before .before .pre .1 .1 .1
 
@@ -111,7 +108,6 @@ lay-arrow-spec =
     same-length-5
     returns
     other-kind-requires
-    mul-kinds
     slice-write-kinds
     mul-leaves
     slice-write-leaves

@@ -15,9 +15,6 @@ use Rattle.curves.proofs.lay_routed.Tie as tie
 kind-of-requires : tie.Need-kind-of-requires
 kind-of-requires c κs = search needs
 
-mul-kinds : tie.Need-mul-kinds
-mul-kinds c = search needs
-
 slice-write-kinds : tie.Need-slice-write-kinds
 slice-write-kinds c = c .before .before .before .before .before .before .before .before .pre .1 .1
 
@@ -86,7 +83,6 @@ lay-routed-spec =
     tie.close
     (tie.spec
     kind-of-requires
-    mul-kinds
     slice-write-kinds
     centre-requires
     leave-angle-requires

@@ -4,16 +4,15 @@ use mathlib.Core.Bool.{cond}
 use mathlib.Core.List.{[], map, flatMap}
 use Prim.Native.Nat.{_-_, _≤_}
 use native.Mathlib.Omega.{arith}
-use lib.ListN.{length, getD, drop}
-use lib.Ieee.{nan}
+use lib.ListN.{length, drop}
 use denote.Ref.{now}
 use Rattle.laws.specs.Continues.{Continues, continues-whole, texts-step, texts-end}
 use Rattle.laws.specs.Joined.{flat-chosen}
-use Rattle.shape.specs.Plane.{vec}
 use Rattle.shape.specs.Centres.{centres}
 use Rattle.sheet.specs.Meaning.{isStart}
 use Rattle.drawing_text.specs.Lines.{ListedState, flagOf, startLine, listedState, statesFrom, starts, lineText, linesText}
 use Rattle.drawing_text.proofs.Laws.{states-front, states-none}
+use borrow.Author.Needs.{needs}
 use Rattle.drawing_text.proofs.put_starts.Statement.{statement}
 use Rattle.drawing_text.proofs.put_starts.Tie as tie
 
@@ -30,17 +29,8 @@ loop-holds c = (refl, omega arith, refl, continues-whole _ _ (omega arith) (sym 
 shared-slice-read-put-start : tie.Need-shared-slice-read-put-start Inv-loop μ-loop
 shared-slice-read-put-start c = omega arith
 
-mul-t14 : tie.Need-mul-t14 Inv-loop μ-loop
-mul-t14 c = omega arith
-
-shared-slice-read-t16 : tie.Need-shared-slice-read-t16 Inv-loop μ-loop
-shared-slice-read-t16 c = omega arith
-
-mul-t17 : tie.Need-mul-t17 Inv-loop μ-loop
-mul-t17 c = omega arith
-
-shared-slice-read-t19 : tie.Need-shared-slice-read-t19 Inv-loop μ-loop
-shared-slice-read-t19 c = omega arith
+centre-requires : tie.Need-centre-requires Inv-loop μ-loop
+centre-requires c κs = search needs
 
 put-start-requires : tie.Need-put-start-requires Inv-loop μ-loop
 put-start-requires c κs = tt
@@ -52,7 +42,7 @@ loop-less : tie.Need-loop-less Inv-loop μ-loop
 loop-less c = omega arith
 
 loop-again : tie.Need-loop-again Inv-loop μ-loop
-loop-again c = (c .before .before .before .before .before .before .before .before .loop .inv .0, omega arith, c .before .before .put-start .kept .0 ∙ c .before .before .before .before .before .before .before .before .loop .inv .2, texts-step (λ (s : ListedState). cond (isStart (flagOf (now (c .before .before .before .before .before .before .before .before .before .before .before .before .before .args .flags)) s)) (lineText (startLine s)) []) (listedState (c .before .before .before .before .before .before .before .before .loop .k) (vec (getD (now (c .before .before .before .before .before .before .before .before .before .before .before .before .before .args .xs)) (c .before .before .before .before .before .before .before .before .loop .k) nan) (getD (now (c .before .before .before .before .before .before .before .before .before .before .before .before .before .args .ys)) (c .before .before .before .before .before .before .before .before .loop .k) nan))) (states-front (now (c .before .before .before .before .before .before .before .before .before .before .before .before .before .args .xs)) (now (c .before .before .before .before .before .before .before .before .before .before .before .before .before .args .ys)) (c .before .before .before .before .before .before .before .before .loop .k) (c .before .before .before .before .before .before .before .before .before .before .before .before .before .pre .0) (omega arith)) (c .before .before .before .before .before .before .before .before .loop .inv .3) (c .before .before .put-start .ensures))
+loop-again c = (c .before .before .before .before .before .before .before .loop .inv .0, omega arith, c .before .before .put-start .kept .0 ∙ c .before .before .before .before .before .before .before .loop .inv .2, texts-step (λ (s : ListedState). cond (isStart (flagOf (now (c .before .before .before .before .before .before .before .before .before .before .before .before .args .flags)) s)) (lineText (startLine s)) []) (listedState (c .before .before .before .before .before .before .before .loop .k) (c .before .before .before .centre .result)) (states-front (now (c .before .before .before .before .before .before .before .before .before .before .before .before .args .xs)) (now (c .before .before .before .before .before .before .before .before .before .before .before .before .args .ys)) (c .before .before .before .before .before .before .before .loop .k) (c .before .before .before .centre .result) (c .before .before .before .centre .ensures) (c .before .before .before .before .before .before .before .before .before .before .before .before .pre .0) (omega arith)) (c .before .before .before .before .before .before .before .loop .inv .3) (c .before .before .put-start .ensures))
 
 same-length : tie.Need-same-length Inv-loop μ-loop
 same-length c = c .before .loop .inv .2
@@ -68,10 +58,7 @@ put-starts-spec =
     μ-loop
     loop-holds
     shared-slice-read-put-start
-    mul-t14
-    shared-slice-read-t16
-    mul-t17
-    shared-slice-read-t19
+    centre-requires
     put-start-requires
     add-k
     loop-less

@@ -10,6 +10,7 @@ use Rattle.laws.specs.Joined.{flat-map}
 use Rattle.shape.specs.Centres.{centres}
 use Rattle.drawing_text.specs.Lines.{ListedState, stateLine, statesFrom, lineText, linesText}
 use Rattle.drawing_text.proofs.Laws.{states-front, states-none}
+use borrow.Author.Needs.{needs}
 use Rattle.drawing_text.proofs.put_states.Statement.{statement}
 use Rattle.drawing_text.proofs.put_states.Tie as tie
 
@@ -23,17 +24,8 @@ loop-holds : tie.Need-loop-holds Inv-loop μ-loop
 unfolding linesText
 loop-holds c = (refl, omega arith, refl, continues-whole _ _ (omega arith) (sym (flat-map lineText stateLine _)))
 
-mul-t11 : tie.Need-mul-t11 Inv-loop μ-loop
-mul-t11 c = omega arith
-
-shared-slice-read-t13 : tie.Need-shared-slice-read-t13 Inv-loop μ-loop
-shared-slice-read-t13 c = omega arith
-
-mul-t14 : tie.Need-mul-t14 Inv-loop μ-loop
-mul-t14 c = omega arith
-
-shared-slice-read-t16 : tie.Need-shared-slice-read-t16 Inv-loop μ-loop
-shared-slice-read-t16 c = omega arith
+centre-requires : tie.Need-centre-requires Inv-loop μ-loop
+centre-requires c κs = search needs
 
 put-state-line-requires : tie.Need-put-state-line-requires Inv-loop μ-loop
 put-state-line-requires c κs = tt
@@ -45,7 +37,7 @@ loop-less : tie.Need-loop-less Inv-loop μ-loop
 loop-less c = omega arith
 
 loop-again : tie.Need-loop-again Inv-loop μ-loop
-loop-again c = (c .before .before .before .before .before .before .before .loop .inv .0, omega arith, c .before .before .put-state-line .kept .0 ∙ c .before .before .before .before .before .before .before .loop .inv .2, texts-step (λ (s : ListedState). lineText (stateLine s)) _ (states-front (now (c .before .before .before .before .before .before .before .before .before .before .before .args .xs)) (now (c .before .before .before .before .before .before .before .before .before .before .before .args .ys)) (c .before .before .before .before .before .before .before .loop .k) (c .before .before .before .before .before .before .before .before .before .before .before .pre) (omega arith)) (c .before .before .before .before .before .before .before .loop .inv .3) (c .before .before .put-state-line .ensures))
+loop-again c = (c .before .before .before .before .before .before .loop .inv .0, omega arith, c .before .before .put-state-line .kept .0 ∙ c .before .before .before .before .before .before .loop .inv .2, texts-step (λ (s : ListedState). lineText (stateLine s)) _ (states-front (now (c .before .before .before .before .before .before .before .before .before .before .args .xs)) (now (c .before .before .before .before .before .before .before .before .before .before .args .ys)) (c .before .before .before .before .before .before .loop .k) (c .before .before .before .centre .result) (c .before .before .before .centre .ensures) (c .before .before .before .before .before .before .before .before .before .before .pre) (omega arith)) (c .before .before .before .before .before .before .loop .inv .3) (c .before .before .put-state-line .ensures))
 
 same-length : tie.Need-same-length Inv-loop μ-loop
 same-length c = c .before .loop .inv .2
@@ -60,10 +52,7 @@ put-states-spec =
     Inv-loop
     μ-loop
     loop-holds
-    mul-t11
-    shared-slice-read-t13
-    mul-t14
-    shared-slice-read-t16
+    centre-requires
     put-state-line-requires
     add-k
     loop-less

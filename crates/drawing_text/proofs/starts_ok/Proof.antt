@@ -2,18 +2,17 @@
 use mathlib.Core.Path.{_≡_, refl, sym, _∙_}
 use Prim.Native.Nat.{_-_, _≤_}
 use native.Mathlib.Omega.{arith}
-use lib.ListN.{length, getD, drop}
-use lib.Ieee.{nan}
+use lib.ListN.{length, drop}
 use denote.Ref.{now}
 use mathlib.Core.Bool.{Bool, true, cond}
 use borrow.Author.Tests.{not-true, not-false}
 use Rattle.laws.specs.Every.{every, every-stop, every-step, every-end, every-chosen}
-use Rattle.shape.specs.Plane.{vec}
 use Rattle.shape.specs.Centres.{centres}
 use mathlib.Core.List.{map}
 use Rattle.sheet.specs.Meaning.{isStart}
 use Rattle.drawing_text.specs.Lines.{ListedState, flagOf, startLine, listedState, statesFrom, starts, lineWritable, linesWritable}
 use Rattle.drawing_text.proofs.Laws.{states-front, states-none}
+use borrow.Author.Needs.{needs}
 use Rattle.drawing_text.proofs.starts_ok.Statement.{statement}
 use Rattle.drawing_text.proofs.starts_ok.Tie as tie
 
@@ -30,25 +29,16 @@ loop-holds c = (refl, omega arith, sym (every-chosen lineWritable startLine _ _)
 shared-slice-read-start-ok : tie.Need-shared-slice-read-start-ok Inv-loop μ-loop
 shared-slice-read-start-ok c = omega arith
 
-mul-t9 : tie.Need-mul-t9 Inv-loop μ-loop
-mul-t9 c = omega arith
-
-shared-slice-read-t11 : tie.Need-shared-slice-read-t11 Inv-loop μ-loop
-shared-slice-read-t11 c = omega arith
-
-mul-t12 : tie.Need-mul-t12 Inv-loop μ-loop
-mul-t12 c = omega arith
-
-shared-slice-read-t14 : tie.Need-shared-slice-read-t14 Inv-loop μ-loop
-shared-slice-read-t14 c = omega arith
+centre-requires : tie.Need-centre-requires Inv-loop μ-loop
+centre-requires c κs = search needs
 
 start-ok-requires : tie.Need-start-ok-requires Inv-loop μ-loop
 start-ok-requires c κs = tt
 
 returns : tie.Need-returns Inv-loop μ-loop
 returns c =
-    let p : ListedState → Bool = λ s. cond (isStart (flagOf (now (c .before .before .before .before .before .before .before .before .before .before .args .flags)) s)) (lineWritable (startLine s)) true in
-    every-stop p (listedState (c .before .before .before .before .before .before .loop .k) (vec (getD (now (c .before .before .before .before .before .before .before .before .before .before .args .xs)) (c .before .before .before .before .before .before .loop .k) nan) (getD (now (c .before .before .before .before .before .before .before .before .before .before .args .ys)) (c .before .before .before .before .before .before .loop .k) nan))) (states-front (now (c .before .before .before .before .before .before .before .before .before .before .args .xs)) (now (c .before .before .before .before .before .before .before .before .before .before .args .ys)) (c .before .before .before .before .before .before .loop .k) (c .before .before .before .before .before .before .before .before .before .before .pre .0) (omega arith)) (sym (c .before .start-ok .ensures) ∙ not-true _ (c .if1 .taken)) (c .before .before .before .before .before .before .loop .inv .2)
+    let p : ListedState → Bool = λ s. cond (isStart (flagOf (now (c .before .before .before .before .before .before .before .before .before .args .flags)) s)) (lineWritable (startLine s)) true in
+    every-stop p (listedState (c .before .before .before .before .before .loop .k) (c .before .before .centre .result)) (states-front (now (c .before .before .before .before .before .before .before .before .before .args .xs)) (now (c .before .before .before .before .before .before .before .before .before .args .ys)) (c .before .before .before .before .before .loop .k) (c .before .before .centre .result) (c .before .before .centre .ensures) (c .before .before .before .before .before .before .before .before .before .pre .0) (omega arith)) (sym (c .before .start-ok .ensures) ∙ not-true _ (c .if1 .taken)) (c .before .before .before .before .before .loop .inv .2)
 
 add-k : tie.Need-add-k Inv-loop μ-loop
 add-k c = omega arith
@@ -58,8 +48,8 @@ loop-less c = omega arith
 
 loop-again : tie.Need-loop-again Inv-loop μ-loop
 loop-again c =
-    let p : ListedState → Bool = λ s. cond (isStart (flagOf (now (c .before .before .before .before .before .before .before .before .before .before .args .flags)) s)) (lineWritable (startLine s)) true in
-    (c .before .before .before .before .before .before .loop .inv .0, omega arith, every-step p (listedState (c .before .before .before .before .before .before .loop .k) (vec (getD (now (c .before .before .before .before .before .before .before .before .before .before .args .xs)) (c .before .before .before .before .before .before .loop .k) nan) (getD (now (c .before .before .before .before .before .before .before .before .before .before .args .ys)) (c .before .before .before .before .before .before .loop .k) nan))) (states-front (now (c .before .before .before .before .before .before .before .before .before .before .args .xs)) (now (c .before .before .before .before .before .before .before .before .before .before .args .ys)) (c .before .before .before .before .before .before .loop .k) (c .before .before .before .before .before .before .before .before .before .before .pre .0) (omega arith)) (sym (c .before .start-ok .ensures) ∙ not-false _ (c .if1 .left)) (c .before .before .before .before .before .before .loop .inv .2))
+    let p : ListedState → Bool = λ s. cond (isStart (flagOf (now (c .before .before .before .before .before .before .before .before .before .args .flags)) s)) (lineWritable (startLine s)) true in
+    (c .before .before .before .before .before .loop .inv .0, omega arith, every-step p (listedState (c .before .before .before .before .before .loop .k) (c .before .before .centre .result)) (states-front (now (c .before .before .before .before .before .before .before .before .before .args .xs)) (now (c .before .before .before .before .before .before .before .before .before .args .ys)) (c .before .before .before .before .before .loop .k) (c .before .before .centre .result) (c .before .before .centre .ensures) (c .before .before .before .before .before .before .before .before .before .pre .0) (omega arith)) (sym (c .before .start-ok .ensures) ∙ not-false _ (c .if1 .left)) (c .before .before .before .before .before .loop .inv .2))
 
 returns-2 : tie.Need-returns-2 Inv-loop μ-loop
 returns-2 c =
@@ -74,10 +64,7 @@ starts-ok-spec =
     μ-loop
     loop-holds
     shared-slice-read-start-ok
-    mul-t9
-    shared-slice-read-t11
-    mul-t12
-    shared-slice-read-t14
+    centre-requires
     start-ok-requires
     returns
     add-k

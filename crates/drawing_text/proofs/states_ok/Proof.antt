@@ -10,6 +10,7 @@ use Rattle.shape.specs.Centres.{centres}
 use mathlib.Core.List.{map}
 use Rattle.drawing_text.specs.Lines.{ListedState, stateLine, statesFrom, fieldWritable, fieldsWritable, lineWritable, linesWritable}
 use Rattle.drawing_text.proofs.Laws.{states-front, states-none}
+use borrow.Author.Needs.{needs}
 use Rattle.drawing_text.proofs.states_ok.Statement.{statement}
 use Rattle.drawing_text.proofs.states_ok.Tie as tie
 
@@ -23,24 +24,15 @@ loop-holds : tie.Need-loop-holds Inv-loop μ-loop
 unfolding linesWritable
 loop-holds c = (refl, omega arith, sym (every-map lineWritable stateLine _))
 
-mul-t6 : tie.Need-mul-t6 Inv-loop μ-loop
-mul-t6 c = omega arith
-
-shared-slice-read-t8 : tie.Need-shared-slice-read-t8 Inv-loop μ-loop
-shared-slice-read-t8 c = omega arith
-
-mul-t9 : tie.Need-mul-t9 Inv-loop μ-loop
-mul-t9 c = omega arith
-
-shared-slice-read-t11 : tie.Need-shared-slice-read-t11 Inv-loop μ-loop
-shared-slice-read-t11 c = omega arith
+centre-requires : tie.Need-centre-requires Inv-loop μ-loop
+centre-requires c κs = search needs
 
 point-ok-requires : tie.Need-point-ok-requires Inv-loop μ-loop
 point-ok-requires c κs = tt
 
 returns : tie.Need-returns Inv-loop μ-loop
 unfolding lineWritable fieldsWritable fieldWritable every
-returns c = every-stop (λ (s : ListedState). lineWritable (stateLine s)) _ (states-front (now (c .before .before .before .before .before .before .before .before .args .xs)) (now (c .before .before .before .before .before .before .before .before .args .ys)) (c .before .before .before .before .before .loop .k) (c .before .before .before .before .before .before .before .before .pre) (omega arith)) (sym (c .before .point-ok .ensures) ∙ not-true _ (c .if1 .taken)) (c .before .before .before .before .before .loop .inv .2)
+returns c = every-stop (λ (s : ListedState). lineWritable (stateLine s)) _ (states-front (now (c .before .before .before .before .before .before .before .args .xs)) (now (c .before .before .before .before .before .before .before .args .ys)) (c .before .before .before .before .loop .k) (c .before .before .centre .result) (c .before .before .centre .ensures) (c .before .before .before .before .before .before .before .pre) (omega arith)) (sym (c .before .point-ok .ensures) ∙ not-true _ (c .if1 .taken)) (c .before .before .before .before .loop .inv .2)
 
 add-k : tie.Need-add-k Inv-loop μ-loop
 add-k c = omega arith
@@ -50,7 +42,7 @@ loop-less c = omega arith
 
 loop-again : tie.Need-loop-again Inv-loop μ-loop
 unfolding lineWritable fieldsWritable fieldWritable every
-loop-again c = (c .before .before .before .before .before .loop .inv .0, omega arith, every-step (λ (s : ListedState). lineWritable (stateLine s)) _ (states-front (now (c .before .before .before .before .before .before .before .before .args .xs)) (now (c .before .before .before .before .before .before .before .before .args .ys)) (c .before .before .before .before .before .loop .k) (c .before .before .before .before .before .before .before .before .pre) (omega arith)) (sym (c .before .point-ok .ensures) ∙ not-false _ (c .if1 .left)) (c .before .before .before .before .before .loop .inv .2))
+loop-again c = (c .before .before .before .before .loop .inv .0, omega arith, every-step (λ (s : ListedState). lineWritable (stateLine s)) _ (states-front (now (c .before .before .before .before .before .before .before .args .xs)) (now (c .before .before .before .before .before .before .before .args .ys)) (c .before .before .before .before .loop .k) (c .before .before .centre .result) (c .before .before .centre .ensures) (c .before .before .before .before .before .before .before .pre) (omega arith)) (sym (c .before .point-ok .ensures) ∙ not-false _ (c .if1 .left)) (c .before .before .before .before .loop .inv .2))
 
 returns-2 : tie.Need-returns-2 Inv-loop μ-loop
 returns-2 c = every-end (λ (s : ListedState). lineWritable (stateLine s)) (states-none (now (c .before .before .before .before .args .xs)) (now (c .before .before .before .before .args .ys)) (c .before .loop .k) (c .before .before .before .before .pre) (omega arith)) (c .before .loop .inv .2)
@@ -62,10 +54,7 @@ states-ok-spec =
     Inv-loop
     μ-loop
     loop-holds
-    mul-t6
-    shared-slice-read-t8
-    mul-t9
-    shared-slice-read-t11
+    centre-requires
     point-ok-requires
     returns
     add-k

@@ -27,17 +27,8 @@ loop-holds c = (search needs, search needs, refl)
 shared-slice-read-cover-state : tie.Need-shared-slice-read-cover-state Inv-loop μ-loop
 shared-slice-read-cover-state c = search needs
 
-mul-t11 : tie.Need-mul-t11 Inv-loop μ-loop
-mul-t11 c = search needs
-
-shared-slice-read-t13 : tie.Need-shared-slice-read-t13 Inv-loop μ-loop
-shared-slice-read-t13 c = search needs
-
-mul-t14 : tie.Need-mul-t14 Inv-loop μ-loop
-mul-t14 c = search needs
-
-shared-slice-read-t16 : tie.Need-shared-slice-read-t16 Inv-loop μ-loop
-shared-slice-read-t16 c = search needs
+centre-requires : tie.Need-centre-requires Inv-loop μ-loop
+centre-requires c κs = search needs
 
 cover-state-requires : tie.Need-cover-state-requires Inv-loop μ-loop
 cover-state-requires c κs = search needs
@@ -49,7 +40,12 @@ loop-less : tie.Need-loop-less Inv-loop μ-loop
 loop-less c = search needs
 
 loop-again : tie.Need-loop-again Inv-loop μ-loop
-loop-again c = (search needs, search needs, states-step (now (c .before .before .before .before .before .before .before .before .before .args .flags)) (now (c .before .before .before .before .before .before .before .before .before .args .xs)) (now (c .before .before .before .before .before .before .before .before .before .args .ys)) (c .before .before .before .before .before .loop .i) (c .before .before .before .before .before .loop .b) (c .before .before .before .before .before .before .before .before .before .pre .0) (c .before .before .before .before .before .before .before .before .before .pre .1) (c .cover-state .result) (omega arith) (c .cover-state .ensures) ∙ c .before .before .before .before .before .loop .inv .2)
+loop-again c =
+    let a = c .before .before .before .before .before .before .before .before .args in
+    let p = c .before .before .before .before .before .before .before .before .pre in
+    let l = c .before .before .before .before .loop in
+    let v = c .before .centre in
+    (search needs, search needs, states-step (now (a .flags)) (now (a .xs)) (now (a .ys)) (l .i) (l .b) (p .0) (p .1) (v .result) (c .cover-state .result) (v .ensures) (omega arith) (c .cover-state .ensures) ∙ l .inv .2)
 
 returns : tie.Need-returns Inv-loop μ-loop
 returns c = states-end (now (c .before .before .before .before .before .args .flags)) (now (c .before .before .before .before .before .args .xs)) (now (c .before .before .before .before .before .args .ys)) (c .before .loop .i) (c .before .loop .b) (c .before .before .before .before .before .pre .0) (c .before .before .before .before .before .pre .1) (omega arith) ∙ c .before .loop .inv .2
@@ -62,10 +58,7 @@ cover-states-spec =
     μ-loop
     loop-holds
     shared-slice-read-cover-state
-    mul-t11
-    shared-slice-read-t13
-    mul-t14
-    shared-slice-read-t16
+    centre-requires
     cover-state-requires
     add-i
     loop-less

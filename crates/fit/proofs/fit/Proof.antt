@@ -23,11 +23,11 @@ cover-states-requires c κs = search needs
 cover-records-requires : tie.Need-cover-records-requires
 cover-records-requires c κs = search needs
 
-shift-requires : tie.Need-shift-requires
-shift-requires c κs = search needs
+to-margin-requires : tie.Need-to-margin-requires
+to-margin-requires c κs = search needs
 
-shift-requires-2 : tie.Need-shift-requires-2
-shift-requires-2 c κs = search needs
+to-margin-requires-2 : tie.Need-to-margin-requires-2
+to-margin-requires-2 c κs = search needs
 
 same-length : tie.Need-same-length
 same-length c = search needs
@@ -45,8 +45,8 @@ returns c =
     let e : b ≡ drawingBounds flags (centres xs ys) gs =
     all-covered flags (centres xs ys) gs (c .before .before .before .before .before .before .before .before .before .before .before .before .before .before .empty .result) (c .before .before .before .before .before .before .before .before .before .before .before .cover-states .result) b (c .before .before .before .before .before .before .before .before .before .before .before .before .before .before .empty .ensures) (c .before .before .before .before .before .before .before .before .before .before .before .cover-states .ensures) (c .before .before .before .before .before .before .before .before .before .before .cover-records .ensures) in (
       ap rectSize e,
-      c .before .before .before .before .before .before .before .before .shift .ensures ∙ ap (λ (r : Rect). shifted (r .x0) xs) e,
-      c .before .before .before .before .shift2 .ensures ∙ ap (λ (r : Rect). shifted (r .y0) ys) e,
+      c .before .before .before .before .before .before .before .before .to-margin .ensures ∙ ap (λ (r : Rect). shifted (r .x0) xs) e,
+      c .before .before .before .before .to-margin2 .ensures ∙ ap (λ (r : Rect). shifted (r .y0) ys) e,
     )
 
 pub fit-spec : {M : Type 1} → statement M
@@ -56,8 +56,8 @@ fit-spec =
     empty-requires
     cover-states-requires
     cover-records-requires
-    shift-requires
-    shift-requires-2
+    to-margin-requires
+    to-margin-requires-2
     same-length
     same-length-2
     returns)

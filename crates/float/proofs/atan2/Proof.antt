@@ -16,19 +16,19 @@ quarter-requires c κs = search needs
 negative-requires : tie.Need-negative-requires
 negative-requires c κs = search needs
 
-turned-requires : tie.Need-turned-requires
-turned-requires c κs = search needs
+turned-back-requires : tie.Need-turned-back-requires
+turned-back-requires c κs = search needs
 
 negative-requires-2 : tie.Need-negative-requires-2
 negative-requires-2 c κs = search needs
 
 returns : tie.Need-returns
 unfolding atan2
-returns c = rw (← (c .before .before .before .before .before .before .abs .ensures), ← (c .before .before .before .before .before .abs2 .ensures), ← (c .before .before .before .before .quarter .ensures), ← (c .before .before .before .negative .ensures), ← (c .before .negative2 .ensures), c .if1 .taken, c .before .before .turned .ensures)
+returns c = rw (← (c .before .before .before .before .before .before .abs .ensures), ← (c .before .before .before .before .before .abs2 .ensures), ← (c .before .before .before .before .quarter .ensures), ← (c .before .before .before .negative .ensures), ← (c .before .negative2 .ensures), c .if1 .taken, c .before .before .turned-back .ensures)
 
 returns-2 : tie.Need-returns-2
 unfolding atan2
-returns-2 c = rw (← (c .before .before .before .before .before .before .abs .ensures), ← (c .before .before .before .before .before .abs2 .ensures), ← (c .before .before .before .before .quarter .ensures), ← (c .before .before .before .negative .ensures), ← (c .before .negative2 .ensures), c .if1 .left, c .before .before .turned .ensures)
+returns-2 c = rw (← (c .before .before .before .before .before .before .abs .ensures), ← (c .before .before .before .before .before .abs2 .ensures), ← (c .before .before .before .before .quarter .ensures), ← (c .before .before .before .negative .ensures), ← (c .before .negative2 .ensures), c .if1 .left, c .before .before .turned-back .ensures)
 
 pub atan2-spec : {M : Type 1} → statement M
 atan2-spec =
@@ -38,7 +38,7 @@ atan2-spec =
     abs-requires-2
     quarter-requires
     negative-requires
-    turned-requires
+    turned-back-requires
     negative-requires-2
     returns
     returns-2)

@@ -12,11 +12,11 @@ is-end-requires c κs = search needs
 returns : tie.Need-returns
 returns c = let a = c .before .before .before .before .args in grown-end (a .c) (a .k) (a .p) (a .n) (now (a .lo)) (now (a .hi)) (sym (c .before .is-end .ensures) ∙ c .if1 .taken)
 
-passed-requires : tie.Need-passed-requires
-passed-requires c κs = search needs
+off-chord-requires : tie.Need-off-chord-requires
+off-chord-requires c κs = search needs
 
 returns-2 : tie.Need-returns-2
-returns-2 c = let a = c .before .before .before .before .before .before .args in grown-passed (a .c) (a .k) (a .p) (a .n) (now (a .lo)) (now (a .hi)) (sym (c .before .before .before .is-end .ensures) ∙ c .before .before .if1 .left) (sym (c .before .passed .ensures) ∙ c .if2 .taken)
+returns-2 c = let a = c .before .before .before .before .before .before .args in grown-passed (a .c) (a .k) (a .p) (a .n) (now (a .lo)) (now (a .hi)) (sym (c .before .before .before .is-end .ensures) ∙ c .before .before .if1 .left) (sym (c .before .off-chord .ensures) ∙ c .if2 .taken)
 
 span-of-requires : tie.Need-span-of-requires
 span-of-requires c κs = search needs
@@ -45,7 +45,7 @@ same-length-2 c = search needs
 returns-3 : tie.Need-returns-3
 returns-3 c =
     let a = c .before .before .before .before .before .before .before .args in
-    grown-more (a .c) (a .k) (a .p) (a .n) (now (a .lo)) (now (a .hi)) (c .span-of .result) (c .before .before .before .before .before .before .before .pre .0) (c .before .before .before .before .before .before .before .pre .1) (sym (c .before .before .before .before .is-end .ensures) ∙ c .before .before .before .if1 .left) (sym (c .before .before .passed .ensures) ∙ c .before .if2 .left) (c .span-of .ensures)
+    grown-more (a .c) (a .k) (a .p) (a .n) (now (a .lo)) (now (a .hi)) (c .span-of .result) (c .before .before .before .before .before .before .before .pre .0) (c .before .before .before .before .before .before .before .pre .1) (sym (c .before .before .before .before .is-end .ensures) ∙ c .before .before .before .if1 .left) (sym (c .before .before .off-chord .ensures) ∙ c .before .if2 .left) (c .span-of .ensures)
 
 pub block-spec : {M : Type 1} → statement M
 block-spec =
@@ -53,7 +53,7 @@ block-spec =
     (tie.spec
     is-end-requires
     returns
-    passed-requires
+    off-chord-requires
     returns-2
     span-of-requires
     mul-lo

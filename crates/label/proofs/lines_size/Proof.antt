@@ -32,8 +32,8 @@ mul-n c = search needs
 shared-slice-read-n : tie.Need-shared-slice-read-n Inv-loop μ-loop
 shared-slice-read-n c = search needs
 
-start-requires : tie.Need-start-requires Inv-loop μ-loop
-start-requires c κs = tt
+measure-start-requires : tie.Need-measure-start-requires Inv-loop μ-loop
+measure-start-requires c κs = tt
 
 measure-part-requires : tie.Need-measure-part-requires Inv-loop μ-loop
 measure-part-requires c κs = tt
@@ -43,7 +43,7 @@ returns c =
     let text = now (c .before .before .before .before .before .before .before .before .before .args .text) in
     let lengths = now (c .before .before .before .before .before .before .before .before .before .args .lengths) in
     let h = blockHeight (length lengths) in
-    let e = c .before .before .measure-part .ensures ∙ ap (λ (m : Measure). measureAll m (take (getD lengths (c .before .before .before .before .before .before .loop .i) 0) (drop (c .before .before .before .before .before .before .loop .at) text))) (c .before .before .before .start .ensures) in
+    let e = c .before .before .measure-part .ensures ∙ ap (λ (m : Measure). measureAll m (take (getD lengths (c .before .before .before .before .before .before .loop .i) 0) (drop (c .before .before .before .before .before .before .loop .at) text))) (c .before .before .before .measure-start .ensures) in
     line-ill h (c .before .before .before .before .before .before .loop .width) text lengths (c .before .before .before .before .before .before .loop .at) (c .before .before .before .before .before .before .loop .i) (omega arith) (c .before .before .measure-part .result .st) (ap (λ (m : Measure). m .st) e) (c .if1 .taken) ∙ c .before .before .before .before .before .before .loop .inv .3
 
 max-requires : tie.Need-max-requires Inv-loop μ-loop
@@ -63,7 +63,7 @@ loop-again c =
     let text = now (c .before .before .before .before .before .before .before .before .before .before .args .text) in
     let lengths = now (c .before .before .before .before .before .before .before .before .before .before .args .lengths) in
     let h = blockHeight (length lengths) in
-    let e = c .before .before .before .measure-part .ensures ∙ ap (λ (m : Measure). measureAll m (take (getD lengths (c .before .before .before .before .before .before .before .loop .i) 0) (drop (c .before .before .before .before .before .before .before .loop .at) text))) (c .before .before .before .before .start .ensures) in (
+    let e = c .before .before .before .measure-part .ensures ∙ ap (λ (m : Measure). measureAll m (take (getD lengths (c .before .before .before .before .before .before .before .loop .i) 0) (drop (c .before .before .before .before .before .before .before .loop .at) text))) (c .before .before .before .before .measure-start .ensures) in (
       c .before .before .before .before .before .before .before .loop .inv .0,
       omega arith,
       omega (arith, total-at 0 0 lengths (c .before .before .before .before .before .before .before .loop .i) (omega arith)),
@@ -73,14 +73,14 @@ loop-again c =
           ∙ c .before .before .before .before .before .before .before .loop .inv .3,
     )
 
-height-requires : tie.Need-height-requires Inv-loop μ-loop
-height-requires c κs = tt
+block-height-requires : tie.Need-block-height-requires Inv-loop μ-loop
+block-height-requires c κs = tt
 
 returns-2 : tie.Need-returns-2 Inv-loop μ-loop
 returns-2 c =
     let text = now (c .before .before .before .before .before .args .text) in
     let lengths = now (c .before .before .before .before .before .args .lengths) in
-    ap (Size (c .before .before .loop .width)) (c .height .ensures)
+    ap (Size (c .before .before .loop .width)) (c .block-height .ensures)
     ∙ lines-end (blockHeight (length lengths)) (c .before .before .loop .width) text lengths (c .before .before .loop .at) (c .before .before .loop .i) (omega arith)
     ∙ c .before .before .loop .inv .3
 
@@ -93,7 +93,7 @@ lines-size-spec =
     loop-holds
     mul-n
     shared-slice-read-n
-    start-requires
+    measure-start-requires
     measure-part-requires
     returns
     max-requires
@@ -101,5 +101,5 @@ lines-size-spec =
     add-i
     loop-less
     loop-again
-    height-requires
+    block-height-requires
     returns-2)

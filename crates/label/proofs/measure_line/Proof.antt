@@ -19,8 +19,8 @@ Inv-loop s k m₀ i₀ left₀ m i left = (measureAll m (flatMap (piece s) (chai
 abbrev μ-loop : tie.MeasureT-loop
 μ-loop s k m₀ i₀ left₀ m i left = left
 
-start-requires : tie.Need-start-requires Inv-loop μ-loop
-start-requires c κs = tt
+measure-start-requires : tie.Need-measure-start-requires Inv-loop μ-loop
+measure-start-requires c κs = tt
 
 record-of-requires : tie.Need-record-of-requires Inv-loop μ-loop
 record-of-requires c κs = search needs
@@ -32,7 +32,7 @@ add-left : tie.Need-add-left Inv-loop μ-loop
 add-left c = search needs
 
 loop-holds : tie.Need-loop-holds Inv-loop μ-loop
-loop-holds c = (line-measure-start (now (c .before .before .before .before .args .s)) (c .before .before .before .before .args .k) (c .before .record-of .result .word4) (c .word-at .result) (c .before .before .start .result) (c .before .before .start .ensures) (ap (λ (x : Record). x .word4) (c .before .record-of .ensures .0)) (c .word-at .ensures .0), omega arith)
+loop-holds c = (line-measure-start (now (c .before .before .before .before .args .s)) (c .before .before .before .before .args .k) (c .before .record-of .result .word4) (c .word-at .result) (c .before .before .measure-start .result) (c .before .before .measure-start .ensures) (ap (λ (x : Record). x .word4) (c .before .record-of .ensures .0)) (c .word-at .ensures .0), omega arith)
 
 returns : tie.Need-returns Inv-loop μ-loop
 returns c = chain-over-cut measureOf (now (c .before .before .before .before .before .before .before .args .s)) (piece (now (c .before .before .before .before .before .before .before .args .s))) (c .before .before .loop .left) (c .before .before .loop .i) (c .before .before .loop .m) (c .if1 .taken) ∙ c .before .before .loop .inv .0
@@ -77,7 +77,7 @@ measure-line-spec =
     (tie.spec
     Inv-loop
     μ-loop
-    start-requires
+    measure-start-requires
     record-of-requires
     word-at-requires
     add-left

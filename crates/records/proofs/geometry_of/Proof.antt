@@ -37,21 +37,12 @@ shared-slice-read-t16 c = search needs
 shared-slice-read-t18 : tie.Need-shared-slice-read-t18
 shared-slice-read-t18 c = search needs
 
-shared-slice-read-t21 : tie.Need-shared-slice-read-t21
-shared-slice-read-t21 c = search needs
-
-shared-slice-read-t23 : tie.Need-shared-slice-read-t23
-shared-slice-read-t23 c = search needs
-
-shared-slice-read-t25 : tie.Need-shared-slice-read-t25
-shared-slice-read-t25 c = search needs
-
-shared-slice-read-t27 : tie.Need-shared-slice-read-t27
-shared-slice-read-t27 c = search needs
+label-box-of-requires : tie.Need-label-box-of-requires
+label-box-of-requires c κs = search needs
 
 returns : tie.Need-returns
 unfolding decodeGeometry
-returns c = rw (c .before .before .before .before .before .before .before .before .before .before .before .before .before .whole-of .ensures, c .before .before .before .before .before .before .before .before .before .before .before .curve-of .ensures, c .before .before .before .before .before .before .before .before .before .before .before .before .corners-in .ensures, c .before .before .before .before .before .before .before .before .before .anchor-of .ensures)
+returns c = rw (c .before .before .before .before .before .before .before .before .before .before .whole-of .ensures, c .before .before .before .before .before .before .before .before .curve-of .ensures, c .before .before .before .before .before .before .before .before .before .corners-in .ensures, c .before .before .before .before .before .before .anchor-of .ensures, c .label-box-of .ensures)
 
 pub geometry-of-spec : {M : Type 1} → statement M
 geometry-of-spec =
@@ -68,8 +59,5 @@ geometry-of-spec =
     shared-slice-read-t14
     shared-slice-read-t16
     shared-slice-read-t18
-    shared-slice-read-t21
-    shared-slice-read-t23
-    shared-slice-read-t25
-    shared-slice-read-t27
+    label-box-of-requires
     returns)

@@ -2,14 +2,15 @@
 use mathlib.Core.Path.{_≡_, _∙_}
 use Prim.Native.Nat.{_+_, _-_, _*_, _≤_}
 use native.Mathlib.Omega.{arith}
-use lib.ListN.{length, drop, getD}
-use lib.Ieee.{nan}
+use lib.ListN.{length, drop}
 use denote.Ref.{now}
 use Rattle.laws.specs.Counting.{howMany, howMany-step, howMany-none}
-use Rattle.laws.specs.Zip.{zip-drop, zip-past}
+use Rattle.laws.specs.Zip.{zip-past}
 use Rattle.shape.specs.Plane.{vec}
 use Rattle.shape.specs.Centres.{centres}
+use Rattle.shape.specs.CentresFrom.{centres-from}
 use Rattle.scene.specs.Scene.{near26}
+use borrow.Author.Needs.{needs}
 use Rattle.scene.proofs.states_cost.Statement.{statement}
 use Rattle.scene.proofs.states_cost.Tie as tie
 
@@ -22,17 +23,8 @@ abbrev μ-loop : tie.MeasureT-loop
 loop-holds : tie.Need-loop-holds Inv-loop μ-loop
 loop-holds c = (omega arith, omega arith, omega arith)
 
-mul-t8 : tie.Need-mul-t8 Inv-loop μ-loop
-mul-t8 c = omega arith
-
-shared-slice-read-t10 : tie.Need-shared-slice-read-t10 Inv-loop μ-loop
-shared-slice-read-t10 c = omega arith
-
-mul-t11 : tie.Need-mul-t11 Inv-loop μ-loop
-mul-t11 c = omega arith
-
-shared-slice-read-t13 : tie.Need-shared-slice-read-t13 Inv-loop μ-loop
-shared-slice-read-t13 c = omega arith
+centre-requires : tie.Need-centre-requires Inv-loop μ-loop
+centre-requires c κs = search needs
 
 state-add-requires : tie.Need-state-add-requires Inv-loop μ-loop
 state-add-requires c κs = tt
@@ -48,11 +40,12 @@ loop-less c = omega arith
 
 loop-again : tie.Need-loop-again Inv-loop μ-loop
 loop-again c =
-    let a = c .before .before .before .before .before .before .before .args in
+    let a = c .before .before .before .before .before .before .args in
     let xs = now (a .xs) in
     let ys = now (a .ys) in
-    let l = c .before .before .before .before .loop in (
-      howMany-step (near26 (a .b)) 10 (l .sum) (c .state-add .result) (vec (getD xs (l .k) nan) (getD ys (l .k) nan)) (drop (l .k) (centres xs ys)) (drop (l .k + 1) (centres xs ys)) (zip-drop vec xs ys (l .k) nan nan (c .before .before .before .before .before .before .before .pre) (omega arith)) (c .state-add .ensures .0)
+    let v = c .before .centre in
+    let l = c .before .before .before .loop in (
+      howMany-step (near26 (a .b)) 10 (l .sum) (c .state-add .result) (v .result) (drop (l .k) (centres xs ys)) (drop (l .k + 1) (centres xs ys)) (centres-from xs ys (l .k) (v .result) (v .ensures) (c .before .before .before .before .before .before .pre) (omega arith)) (c .state-add .ensures .0)
           ∙ l .inv .0,
       omega arith,
       omega arith,
@@ -73,10 +66,7 @@ states-cost-spec =
     Inv-loop
     μ-loop
     loop-holds
-    mul-t8
-    shared-slice-read-t10
-    mul-t11
-    shared-slice-read-t13
+    centre-requires
     state-add-requires
     add-sum
     add-k

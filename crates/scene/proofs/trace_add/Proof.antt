@@ -3,47 +3,36 @@ use mathlib.Core.Path.{sym, _∙_}
 use mathlib.Core.Bool.{true, false}
 use native.Mathlib.Omega.{arith}
 use denote.Ref.{now}
+use Rattle.laws.specs.Flat.{part}
 use Rattle.laws.specs.Counting.{worth-of}
-use Rattle.scene.specs.Struck.{struck-is, struck-not, struck-none}
+use Rattle.trace.specs.Traces.{struck}
 use Rattle.trace.specs.Form.{decodeTrace}
-use Rattle.scene.specs.Scene.{struck}
+use Rattle.trace.specs.Reach.{struck-none}
 use borrow.Author.Needs.{needs}
 use Rattle.scene.proofs.trace_add.Statement.{statement}
 use Rattle.scene.proofs.trace_add.Tie as tie
 
-reaches-requires : tie.Need-reaches-requires
-reaches-requires c κs = search needs
+reaches-at-requires : tie.Need-reaches-at-requires
+reaches-at-requires c κs = search needs
 
-foreign-requires : tie.Need-foreign-requires
-foreign-requires c κs = search needs
-
-hits-rect-requires : tie.Need-hits-rect-requires
-hits-rect-requires c κs = search needs
+strikes-at-requires : tie.Need-strikes-at-requires
+strikes-at-requires c κs = search needs
 
 returns : tie.Need-returns
 returns c =
-    let a = c .before .before .before .before .before .before .before .args in
-    let t = decodeTrace (now (a .t)) in
-    (worth-of (struck (a .own) (a .wide)) 3 t true (sym (c .if3 .taken) ∙ struck-is (a .own) (a .wide) t (c .before .before .before .foreign .result) (c .before .before .before .foreign .ensures) (c .before .hits-rect .result) (c .before .before .if2 .taken) (c .before .hits-rect .ensures)), omega arith)
+    let a = c .before .before .before .before .before .args in
+    (worth-of (struck (a .own) (a .wide)) 3 (decodeTrace (part 40 (a .k) (now (a .traces)))) true (sym (c .if2 .taken) ∙ c .before .strikes-at .ensures), omega arith)
 
 returns-2 : tie.Need-returns-2
 returns-2 c =
-    let a = c .before .before .before .before .before .before .before .args in
-    let t = decodeTrace (now (a .t)) in
-    (worth-of (struck (a .own) (a .wide)) 3 t false (sym (c .if3 .left) ∙ struck-is (a .own) (a .wide) t (c .before .before .before .foreign .result) (c .before .before .before .foreign .ensures) (c .before .hits-rect .result) (c .before .before .if2 .taken) (c .before .hits-rect .ensures)), omega arith)
+    let a = c .before .before .before .before .before .args in
+    (worth-of (struck (a .own) (a .wide)) 3 (decodeTrace (part 40 (a .k) (now (a .traces)))) false (sym (c .if2 .left) ∙ c .before .strikes-at .ensures), omega arith)
 
 returns-3 : tie.Need-returns-3
 returns-3 c =
-    let a = c .before .before .before .before .before .args in
-    let t = decodeTrace (now (a .t)) in
-    (worth-of (struck (a .own) (a .wide)) 3 t false (struck-not (a .own) (a .wide) t (c .before .foreign .result) (c .before .foreign .ensures) (c .if2 .left)), omega arith)
-
-returns-4 : tie.Need-returns-4
-returns-4 c =
     let a = c .before .before .before .args in
-    let t = decodeTrace (now (a .t)) in
-    (worth-of (struck (a .own) (a .wide)) 3 t false (struck-none (a .own) (a .wide) (now (a .t)) (sym (c .before .reaches .ensures) ∙ c .if1 .left)), omega arith)
+    let l = part 40 (a .k) (now (a .traces)) in
+    (worth-of (struck (a .own) (a .wide)) 3 (decodeTrace l) false (struck-none (a .own) (a .wide) l (sym (c .before .reaches-at .ensures) ∙ c .if1 .left)), omega arith)
 
 pub trace-add-spec : {M : Type 1} → statement M
-trace-add-spec =
-    tie.close (tie.spec reaches-requires foreign-requires hits-rect-requires returns returns-2 returns-3 returns-4)
+trace-add-spec = tie.close (tie.spec reaches-at-requires strikes-at-requires returns returns-2 returns-3)

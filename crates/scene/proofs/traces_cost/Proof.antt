@@ -7,8 +7,8 @@ use denote.Ref.{now}
 use Rattle.laws.specs.Best.{cut-total}
 use Rattle.laws.specs.Flat.{table, part}
 use Rattle.laws.specs.Counting.{worth, cut-step, cut-stop, cut-end}
+use Rattle.trace.specs.Traces.{struck}
 use Rattle.trace.specs.Form.{decodeTrace, decodeTraces}
-use Rattle.scene.specs.Scene.{struck}
 use Rattle.scene.proofs.traces_cost.Statement.{statement}
 use Rattle.scene.proofs.traces_cost.Tie as tie
 
@@ -28,8 +28,8 @@ returns c =
     let l = c .before .before .loop in
     (cut-stop (worth (struck (a .own) (a .wide)) 3) (λ i. decodeTrace (part 40 i (now (a .traces)))) (a .limit) (l .sum) (l .k) (l .left) (c .if1 .taken) ∙ l .inv .0, omega arith)
 
-trace-at-add-requires : tie.Need-trace-at-add-requires Inv-loop μ-loop
-trace-at-add-requires c κs = omega arith
+trace-add-requires : tie.Need-trace-add-requires Inv-loop μ-loop
+trace-add-requires c κs = omega arith
 
 add-sum : tie.Need-add-sum Inv-loop μ-loop
 add-sum c = omega arith
@@ -47,7 +47,7 @@ loop-again : tie.Need-loop-again Inv-loop μ-loop
 loop-again c =
     let a = c .before .before .before .before .before .args in
     let l = c .before .before .before .loop in (
-      cut-step (worth (struck (a .own) (a .wide)) 3) (λ i. decodeTrace (part 40 i (now (a .traces)))) (a .limit) (l .sum) (c .trace-at-add .result) (l .k) (l .left) (c .before .before .loop-test .taken) (c .before .if1 .left) (c .trace-at-add .ensures .0) ∙ l .inv .0,
+      cut-step (worth (struck (a .own) (a .wide)) 3) (λ i. decodeTrace (part 40 i (now (a .traces)))) (a .limit) (l .sum) (c .trace-add .result) (l .k) (l .left) (c .before .before .loop-test .taken) (c .before .if1 .left) (c .trace-add .ensures .0) ∙ l .inv .0,
       omega arith,
       omega arith,
     )
@@ -66,7 +66,7 @@ traces-cost-spec =
     μ-loop
     loop-holds
     returns
-    trace-at-add-requires
+    trace-add-requires
     add-sum
     add-k
     sub-left

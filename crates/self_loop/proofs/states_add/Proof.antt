@@ -2,13 +2,13 @@
 use mathlib.Core.Path.{_≡_, _∙_}
 use Prim.Native.Nat.{_+_, _-_, _*_, _≤_}
 use native.Mathlib.Omega.{arith}
-use lib.ListN.{length, drop, getD}
-use lib.Ieee.{nan}
+use lib.ListN.{length, drop}
 use denote.Ref.{now}
 use Rattle.laws.specs.Counting.{howMany, howMany-none}
-use Rattle.laws.specs.Zip.{zip-drop, zip-past}
+use Rattle.laws.specs.Zip.{zip-past}
 use Rattle.shape.specs.Plane.{vec}
 use Rattle.shape.specs.Centres.{centres}
+use Rattle.shape.specs.CentresFrom.{centres-from}
 use Rattle.trace.specs.Traces.{near25}
 use Rattle.trace.specs.Form.{decodeTrace}
 use Rattle.self_loop.specs.Looped.{statesBut}
@@ -27,17 +27,8 @@ abbrev μ-loop : tie.MeasureT-loop
 loop-holds : tie.Need-loop-holds Inv-loop μ-loop
 loop-holds c = (rest-start (near25 (decodeTrace (now (c .before .before .before .args .looped)))) 10 (c .before .before .before .args .node) (centres (now (c .before .before .before .args .xs)) (now (c .before .before .before .args .ys))), omega arith, omega arith)
 
-mul-t9 : tie.Need-mul-t9 Inv-loop μ-loop
-mul-t9 c = omega arith
-
-shared-slice-read-t11 : tie.Need-shared-slice-read-t11 Inv-loop μ-loop
-shared-slice-read-t11 c = omega arith
-
-mul-t12 : tie.Need-mul-t12 Inv-loop μ-loop
-mul-t12 c = omega arith
-
-shared-slice-read-t14 : tie.Need-shared-slice-read-t14 Inv-loop μ-loop
-shared-slice-read-t14 c = omega arith
+centre-requires : tie.Need-centre-requires Inv-loop μ-loop
+centre-requires c κs = search needs
 
 state-add-requires : tie.Need-state-add-requires Inv-loop μ-loop
 state-add-requires c κs = search needs
@@ -53,11 +44,12 @@ loop-less c = omega arith
 
 loop-again : tie.Need-loop-again Inv-loop μ-loop
 loop-again c =
-    let a = c .before .before .before .before .before .before .before .before .args in
+    let a = c .before .before .before .before .before .before .before .args in
     let xs = now (a .xs) in
     let ys = now (a .ys) in
-    let l = c .before .before .before .before .loop in (
-      rest-more (near25 (decodeTrace (now (a .looped)))) 10 (l .sum) (c .state-add .result) (a .node) (l .k) (vec (getD xs (l .k) nan) (getD ys (l .k) nan)) (drop (l .k) (centres xs ys)) (drop (l .k + 1) (centres xs ys)) (zip-drop vec xs ys (l .k) nan nan (c .before .before .before .before .before .before .before .before .pre .1) (omega arith)) (c .state-add .ensures .0) ∙ l .inv .0,
+    let v = c .before .centre in
+    let l = c .before .before .before .loop in (
+      rest-more (near25 (decodeTrace (now (a .looped)))) 10 (l .sum) (c .state-add .result) (a .node) (l .k) (v .result) (drop (l .k) (centres xs ys)) (drop (l .k + 1) (centres xs ys)) (centres-from xs ys (l .k) (v .result) (v .ensures) (c .before .before .before .before .before .before .before .pre .1) (omega arith)) (c .state-add .ensures .0) ∙ l .inv .0,
       omega arith,
       omega arith,
     )
@@ -78,10 +70,7 @@ states-add-spec =
     Inv-loop
     μ-loop
     loop-holds
-    mul-t9
-    shared-slice-read-t11
-    mul-t12
-    shared-slice-read-t14
+    centre-requires
     state-add-requires
     add-sum
     add-k

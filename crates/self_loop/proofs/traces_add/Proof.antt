@@ -7,8 +7,8 @@ use denote.Ref.{now}
 use Rattle.laws.specs.Flat.{table, part}
 use Rattle.laws.specs.Counting.{howMany, howMany-step, howMany-none}
 use Rattle.laws.specs.Tables.{table-first, table-none}
+use Rattle.trace.specs.Traces.{crossed}
 use Rattle.trace.specs.Form.{decodeTrace, decodeTraces}
-use Rattle.self_loop.specs.Looped.{crossed}
 use borrow.Author.Needs.{needs}
 use Rattle.self_loop.proofs.traces_add.Statement.{statement}
 use Rattle.self_loop.proofs.traces_add.Tie as tie
@@ -23,8 +23,8 @@ abbrev μ-loop : tie.MeasureT-loop
 loop-holds : tie.Need-loop-holds Inv-loop μ-loop
 loop-holds c = (zero-add _, omega arith, omega arith)
 
-trace-at-add-requires : tie.Need-trace-at-add-requires Inv-loop μ-loop
-trace-at-add-requires c κs = search needs
+trace-add-requires : tie.Need-trace-add-requires Inv-loop μ-loop
+trace-add-requires c κs = search needs
 
 add-sum : tie.Need-add-sum Inv-loop μ-loop
 add-sum c = omega arith
@@ -42,7 +42,7 @@ loop-again : tie.Need-loop-again Inv-loop μ-loop
 loop-again c =
     let a = c .before .before .before .before .before .args in
     let l = c .before .before .loop in (
-      howMany-step (crossed (a .edge) (decodeTrace (now (a .looped)))) 3 (l .sum) (c .trace-at-add .result) (decodeTrace (part 40 (l .k) (now (a .traces)))) (table (λ i. decodeTrace (part 40 i (now (a .traces)))) (l .k) (l .left)) (table (λ i. decodeTrace (part 40 i (now (a .traces)))) (l .k + 1) (l .left - 1)) (table-first (λ i. decodeTrace (part 40 i (now (a .traces)))) (l .k) (l .left) (c .before .loop-test .taken)) (c .trace-at-add .ensures .0) ∙ l .inv .0,
+      howMany-step (crossed (a .edge) (decodeTrace (now (a .looped)))) 3 (l .sum) (c .trace-add .result) (decodeTrace (part 40 (l .k) (now (a .traces)))) (table (λ i. decodeTrace (part 40 i (now (a .traces)))) (l .k) (l .left)) (table (λ i. decodeTrace (part 40 i (now (a .traces)))) (l .k + 1) (l .left - 1)) (table-first (λ i. decodeTrace (part 40 i (now (a .traces)))) (l .k) (l .left) (c .before .loop-test .taken)) (c .trace-add .ensures .0) ∙ l .inv .0,
       omega arith,
       omega arith,
     )
@@ -60,7 +60,7 @@ traces-add-spec =
     Inv-loop
     μ-loop
     loop-holds
-    trace-at-add-requires
+    trace-add-requires
     add-sum
     add-k
     sub-left

@@ -15,9 +15,6 @@ use borrow.Author.Needs.{needs}
 use Rattle.turns.proofs.gather_at.Statement.{statement}
 use Rattle.turns.proofs.gather_at.Tie as tie
 
-mul-if1 : tie.Need-mul-if1
-mul-if1 c = search needs
-
 shared-slice-read-if1 : tie.Need-shared-slice-read-if1
 shared-slice-read-if1 c = search needs
 
@@ -83,7 +80,6 @@ pub gather-at-spec : {M : Type 1} → statement M
 gather-at-spec =
     tie.close
     (tie.spec
-    mul-if1
     shared-slice-read-if1
     returns
     mul-from

@@ -9,9 +9,6 @@ use borrow.Author.Needs.{needs}
 use Rattle.turns.proofs.label_at.Statement.{statement}
 use Rattle.turns.proofs.label_at.Tie as tie
 
-mul-if1 : tie.Need-mul-if1
-mul-if1 c = search needs
-
 shared-slice-read-if1 : tie.Need-shared-slice-read-if1
 shared-slice-read-if1 c = search needs
 
@@ -41,7 +38,6 @@ pub label-at-spec : {M : Type 1} → statement M
 label-at-spec =
     tie.close
     (tie.spec
-    mul-if1
     shared-slice-read-if1
     label-turn-requires
     same-length

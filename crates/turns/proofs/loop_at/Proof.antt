@@ -10,9 +10,6 @@ use borrow.Author.Needs.{needs}
 use Rattle.turns.proofs.loop_at.Statement.{statement}
 use Rattle.turns.proofs.loop_at.Tie as tie
 
-mul-if1 : tie.Need-mul-if1
-mul-if1 c = search needs
-
 shared-slice-read-if1 : tie.Need-shared-slice-read-if1
 shared-slice-read-if1 c = search needs
 
@@ -45,7 +42,6 @@ pub loop-at-spec : {M : Type 1} → statement M
 loop-at-spec =
     tie.close
     (tie.spec
-    mul-if1
     shared-slice-read-if1
     loop-turn-requires
     same-length

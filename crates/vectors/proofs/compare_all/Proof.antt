@@ -16,14 +16,14 @@ abbrev μ-loop : tie.MeasureT-loop
 loop-holds : tie.Need-loop-holds Inv-loop μ-loop
 loop-holds c = search needs
 
-slice-aggregate-turn : tie.Need-slice-aggregate-turn Inv-loop μ-loop
-slice-aggregate-turn c = search needs
+slice-aggregate-step : tie.Need-slice-aggregate-step Inv-loop μ-loop
+slice-aggregate-step c = search needs
 
-cast-turn : tie.Need-cast-turn Inv-loop μ-loop
-cast-turn c = search needs
+cast-step : tie.Need-cast-step Inv-loop μ-loop
+cast-step c = search needs
 
-turn-requires : tie.Need-turn-requires Inv-loop μ-loop
-turn-requires c κs = tt
+step-requires : tie.Need-step-requires Inv-loop μ-loop
+step-requires c κs = tt
 
 same-length : tie.Need-same-length Inv-loop μ-loop
 same-length c = search needs
@@ -59,9 +59,9 @@ compare-all-spec =
     Inv-loop
     μ-loop
     loop-holds
-    slice-aggregate-turn
-    cast-turn
-    turn-requires
+    slice-aggregate-step
+    cast-step
+    step-requires
     same-length
     same-length-2
     returns
