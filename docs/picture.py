@@ -1,4 +1,5 @@
-"""Draws a listing as SVG: picture.py SHEET LISTING > SVG. The listing has no label text; it is read from the sheet."""
+"""Draws a listing as SVG: picture.py SHEET LISTING > SVG. The listing has no label text; it is read from the sheet.
+The arrows and label lines drawn must be those that the listing's last line counts."""
 import sys
 
 sheet = open(sys.argv[1], "rb").read()
@@ -28,12 +29,20 @@ def escaped(s):
     return s.replace("&", "&amp;").replace("<", "&lt;")
 
 
+# straight arrows, arcs and loops by the letter of their curve, and the lines of their labels
+drawn = {"L": 0, "Q": 0, "C": 0}
+lines = 0
+totals = None
+
 for line in listing:
     what, *rest = line.split(" ")
     if what == "size":
         w, h = rest
         print(f'<svg xmlns="http://www.w3.org/2000/svg" width="{w}" height="{h}" viewBox="0 0 {w} {h}" font-family="monospace" font-size="12">')
         print(f'<rect width="{w}" height="{h}" fill="white"/>')
+        continue
+    if what == "total":
+        totals = [int(n) for n in rest]
         continue
     k = int(rest[0])
     if what == "state":
@@ -45,11 +54,16 @@ for line in listing:
         if flags[k] & 1:
             print(f'<path d="M {float(x) - 50:g} {y} L {float(x) - 22:g} {y}" stroke="black"/>')
     elif what == "edge":
+        drawn[rest[4]] += 1
         print(f'<path d="{" ".join(rest[1:])}" fill="none" stroke="black"/>')
     elif what in ("head", "start"):
         print(f'<path d="{" ".join(rest[1:])}"/>')
     elif what == "label":
         x, y, anchor = rest[1:]
+        lines += len(labels[k])
         for i, t in enumerate(labels[k]):
             print(f'<text x="{x}" y="{float(y) + 15 * i + 11:g}" text-anchor="{anchor}">{escaped(t)}</text>')
 print("</svg>")
+counted = [*drawn.values(), len(labels) - sum(drawn.values()), lines]
+if counted != totals:
+    sys.exit(f"drawn are {counted}, and the last line says {totals}")

@@ -36,10 +36,10 @@ enum {
 };
 
 /* The most bytes that path text and a listing can have. A written number has at most 17 bytes, so a path with its newline
- * has at most 148 and the four lines of an arrow 397. */
+ * has at most 148 and the four lines of an arrow 397; the last line of a listing has at most 27. */
 enum {
     MURSHOGI_PATHS = 148 * MURSHOGI_ARROWS,
-    MURSHOGI_LISTING = 41 + (45 + 125) * MURSHOGI_STATES + 397 * MURSHOGI_ARROWS
+    MURSHOGI_LISTING = 41 + (45 + 125) * MURSHOGI_STATES + 397 * MURSHOGI_ARROWS + 27
 };
 
 /* Checks a sheet: 0 where it is accepted. */
@@ -73,7 +73,9 @@ uint8_t murshogi_clutter(const uint8_t *sheet, size_t sheet_len,
 /* Writes a number, with at most two decimals, in at most 17 bytes: the bytes written in length. */
 uint8_t murshogi_write_num(double v, uint8_t *out, size_t out_len, size_t *length);
 
-/* Lists a drawing, laid out by kind, in at most MURSHOGI_LISTING bytes: the bytes written in length. */
+/* Lists a drawing, laid out by kind, in at most MURSHOGI_LISTING bytes: the bytes written in length. The last line is
+ * `total` with the numbers of straight arrows, arcs, loops, left-out arrows and label lines (those of left-out arrows are
+ * not counted); the first four add up to the sheet's arrows. */
 uint8_t murshogi_list(const uint8_t *sheet, size_t sheet_len, uint8_t kind,
                       uint8_t *out, size_t out_len, size_t *length);
 

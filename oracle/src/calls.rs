@@ -6,7 +6,7 @@ use super::counted;
 use super::graph::Graph;
 use super::layout::{Layout, LayoutKind, NODE_RADIUS, layout as place};
 use super::route::{Anchor, Geometry, clutter as count, geometry, probe};
-use super::sheet::{self, Sheet};
+use super::sheet::{self, Arrow, Sheet};
 use super::svg;
 
 thread_local! {
@@ -218,6 +218,16 @@ pub fn write_num(v: f64, room: usize) -> Result<Vec<u8>, u8> {
     Ok(text)
 }
 
+/// Document 02, T-01: straight arrows, arcs and loops, by the points of their records; left-out arrows, and the label
+/// lines of the others.
+pub fn totals(sheet: &Sheet, drawing: &[Geometry]) -> [usize; 5] {
+    let with = |n| drawing.iter().filter(|g| probe::points(g.curve).len() == n).count();
+    let (kept, left_out): (Vec<&Arrow>, Vec<&Arrow>) = sheet.arrows.iter().partition(|a| {
+        [a.from, a.to].iter().all(|&end| usize::from(end) < sheet.states.len())
+    });
+    [with(2), with(3), with(4), left_out.len(), kept.iter().map(|a| a.lines.len()).sum()]
+}
+
 pub fn list(bytes: &[u8], kind: u8, room: usize) -> Result<Vec<u8>, u8> {
     let kind = layout_kind(kind)?;
     let sheet = sheet::read(bytes)?;
@@ -253,6 +263,11 @@ pub fn list(bytes: &[u8], kind: u8, room: usize) -> Result<Vec<u8>, u8> {
             t.word("\n");
         }
     }
+    t.word("total");
+    for n in totals(&sheet, &drawing) {
+        t.word(&format!(" {n}"));
+    }
+    t.word("\n");
     let text = t.done()?;
     fits(room, text.len())?;
     Ok(text)
@@ -261,8 +276,8 @@ pub fn list(bytes: &[u8], kind: u8, room: usize) -> Result<Vec<u8>, u8> {
 #[cfg(test)]
 mod tests {
     use super::*;
-    use crate::generate::ordered;
-    use crate::sheet::Arrow;
+    use crate::generate::{self, ordered};
+    use crate::random::Random;
 
     fn states(flags: &[u8]) -> Vec<u8> {
         let sheet = Sheet {
@@ -299,8 +314,25 @@ mod tests {
         let text = list(&ordered(&sheet), 0, 65_536).unwrap();
         let wanted = "size 244 76\nstate 0 66 38\nstate 1 206 38\nedge 0 M 88 38 L 184 38\n\
             tip 0 184 38 0\nhead 0 M 184 38 L 175 41.5 L 175 34.5 Z\nlabel 0 136 19 middle\n\
-            start 0 M 44 38 L 35 41.5 L 35 34.5 Z\n";
+            start 0 M 44 38 L 35 41.5 L 35 34.5 Z\ntotal 1 0 0 0 1\n";
         assert_eq!(String::from_utf8(text).unwrap(), wanted);
+        let empty = list(&states(&[]), 0, 65_536).unwrap();
+        assert_eq!(String::from_utf8(empty).unwrap(), "size 32 32\ntotal 0 0 0 0 0\n");
+    }
+
+    /// The points of the records tell loops, arcs and straight arrows as the routing's turns do, and the first four
+    /// totals add up to the arrows.
+    #[test]
+    fn totals_are_turns() {
+        let rng = &mut Random::new(17);
+        for _ in 0..2_000 {
+            let sheet = generate::drawing(rng);
+            let (xs, ys) = generate::centres(rng, &sheet);
+            let graph = sheet.graph();
+            let [straight, arcs, loops, left_out, _] = totals(&sheet, &geometry(&graph, &xs, &ys));
+            assert_eq!(turns(&graph, &xs, &ys).taken, [loops, arcs, straight]);
+            assert_eq!(straight + arcs + loops + left_out, sheet.arrows.len());
+        }
     }
 
     #[test]

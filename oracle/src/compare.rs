@@ -43,6 +43,10 @@ struct Runs {
     differ: usize,
     turns: Turns,
     left_out: usize,
+    /// The answered listings: how many, the sums of their totals, and how many have each total above 0.
+    listed: usize,
+    totals: [usize; 5],
+    some: [usize; 5],
 }
 
 impl Runs {
@@ -71,6 +75,18 @@ impl Runs {
         self.left_out += crate::sheet::read(sheet).map_or(0, |s| s.arrows.len()) - records;
     }
 
+    /// Counts the totals of a listing, its last line.
+    fn totalled(&mut self, text: &[u8]) {
+        let text = std::str::from_utf8(text).unwrap();
+        let numbers = text.lines().last().unwrap().strip_prefix("total ").unwrap();
+        self.listed += 1;
+        for (i, n) in numbers.split(' ').enumerate() {
+            let n: usize = n.parse().unwrap();
+            self.totals[i] += n;
+            self.some[i] += usize::from(n > 0);
+        }
+    }
+
     /// Prints the counts; ends the program where something differs.
     fn end(&self) {
         let heads: Vec<String> = (1..12).map(|n| format!("by {n}")).collect();
@@ -83,6 +99,14 @@ impl Runs {
                 "routed: {all} arrows ({loops} loops, {arcs} arcs, {straight} straight), {} left out; \
                  {later} turns took a place other than the first",
                 self.left_out
+            );
+        }
+        if self.listed > 0 {
+            let [straight, arcs, loops, left_out, lines] = self.totals;
+            println!(
+                "listed: {straight} straight arrows, {arcs} arcs, {loops} loops, {left_out} left out, {lines} label lines; \
+                 of {} listings some in {:?}",
+                self.listed, self.some
             );
         }
         let all: usize = self.counts.values().flatten().sum();
@@ -131,18 +155,26 @@ pub fn routings(count: usize, seed: u64) {
     runs.end();
 }
 
-/// Layouts of sound sheets, each by all three kinds.
-pub fn layouts(count: usize, seed: u64) {
+/// A call on each of some sound sheets, by all three kinds.
+fn by_kinds(count: usize, seed: u64, call: fn(&mut Runs, &mut Random, &[u8], u8)) {
     let rng = &mut Random::new(seed);
     let mut runs = Runs::default();
     for _ in 0..count {
         let drawing = drawing(rng);
         let sheet = shuffled(rng, &drawing);
         for kind in 0..3 {
-            placed(&mut runs, rng, &sheet, kind);
+            call(&mut runs, rng, &sheet, kind);
         }
     }
     runs.end();
+}
+
+pub fn layouts(count: usize, seed: u64) {
+    by_kinds(count, seed, placed);
+}
+
+pub fn listings(count: usize, seed: u64) {
+    by_kinds(count, seed, listed);
 }
 
 /// An accepted sheet of 65,536 bytes, or that and one byte more.
@@ -182,7 +214,8 @@ pub fn run(turns: usize, seed: u64) {
         placed(&mut runs, rng, &sheet, kind);
         routed(&mut runs, rng, &sheet, &xs, &ys);
         cluttered(&mut runs, &sheet, &xs, &ys);
-        listed(&mut runs, rng, &sheet);
+        let kind = if rng.once_in(12) { rng.pick(&[3, 200]) } else { rng.below(3) as u8 };
+        listed(&mut runs, rng, &sheet, kind);
         numbered(&mut runs, rng);
         measured(&mut runs, rng);
     }
@@ -264,8 +297,7 @@ fn cluttered(runs: &mut Runs, sheet: &[u8], xs: &[f64], ys: &[f64]) {
     runs.note("clutter", answer, ok, sheet, xs, ys);
 }
 
-fn listed(runs: &mut Runs, rng: &mut Random, sheet: &[u8]) {
-    let kind = if rng.once_in(12) { rng.pick(&[3, 200]) } else { rng.below(3) as u8 };
+fn listed(runs: &mut Runs, rng: &mut Random, sheet: &[u8], kind: u8) {
     let n = calls::list(sheet, kind, usize::MAX).map_or(20, |t| t.len());
     let mut out = vec![BYTE; room(rng, n)];
     let wanted = calls::list(sheet, kind, out.len());
@@ -276,7 +308,10 @@ fn listed(runs: &mut Runs, rng: &mut Random, sheet: &[u8]) {
     let answer = wanted.as_ref().err().copied().unwrap_or(0);
     let ok = got == answer
         && match wanted {
-            Ok(t) => holds_bytes(&out, &t) && length == t.len(),
+            Ok(t) => {
+                runs.totalled(&t);
+                holds_bytes(&out, &t) && length == t.len()
+            }
             Err(_) => holds_bytes(&out, &[]) && length == NUMBER,
         };
     runs.note("list", answer, ok, sheet, &[f64::from(kind)], &[]);

@@ -19,6 +19,8 @@ use Rattle.shape.specs.Centres.{centres}
 use Rattle.records.specs.Records.{decodeRecords}
 use Rattle.beyond.specs.Beyond.{beyond}
 use Rattle.routing.specs.Sheets.{frameOf}
+use Rattle.totals.specs.declared.Totals.{Totals}
+use Rattle.totals.specs.Totals.{totalsOf}
 use Rattle.drawing_text.specs.Lines.{listText, listWritable}
 use Rattle.draw.specs.Drawn.{farCentre, drawRefusals, drawOf}
 use Rattle.draw.specs.declared.Drawing.the-variants as P
@@ -220,8 +222,11 @@ module _ (s : List ℕ) (w h : Float) (xs ys : List Float) (out : List ℕ) wher
       let f : First drawn n = draw-stopped drawn (length (drawnOf s xs ys)) n e in
       (sym (first-decides N.Refused _ drawn n f), sym (first-decides (λ m. out) _ drawn n f))
 
-  pub at-drawn : (count : ℕ) (slice : List Float) → DrawingHeld s xs ys count slice → (flags : List ℕ) → flags ≡ flagsOf (meaning s) → (r : Written) (b : List ℕ)
-      → WrittenInto (listWritable w h (centres xs ys) flags (decodeRecords count slice)) (listText w h (centres xs ys) flags (decodeRecords count slice)) out r b → ListsAt r b
-  at-drawn count slice d flags e r b f =
-      let g : WrittenInto (listWritable w h (centres xs ys) (flagsOf (meaning s)) (drawnOf s xs ys)) (listText w h (centres xs ys) (flagsOf (meaning s)) (drawnOf s xs ys)) out r b = rw (e, d .decoded) at f in
+  pub at-drawn : (count : ℕ) (slice : List Float) → DrawingHeld s xs ys count slice → (flags : List ℕ) → flags ≡ flagsOf (meaning s)
+      → (totals : Totals) → totals ≡ totalsOf (meaning s) (decodeRecords count slice) → (r : Written) (b : List ℕ)
+      → WrittenInto (listWritable w h (centres xs ys) flags (decodeRecords count slice) totals) (listText w h (centres xs ys) flags (decodeRecords count slice) totals) out r b → ListsAt r b
+  at-drawn count slice d flags e totals q r b f =
+      let gs = drawnOf s xs ys in
+      let all = totalsOf (meaning s) gs in
+      let g : WrittenInto (listWritable w h (centres xs ys) (flagsOf (meaning s)) gs all) (listText w h (centres xs ys) (flagsOf (meaning s)) gs all) out r b = rw (e, q, d .decoded) at f in
       (g .0 ∙ sym (clear-decides N.Refused _ drawn (d .clear)), g .1 ∙ sym (clear-decides (λ m. out) _ drawn (d .clear)))

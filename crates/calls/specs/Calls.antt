@@ -22,6 +22,7 @@ use Rattle.routing.specs.Sheets.{frameOf, recordsOf}
 use Rattle.clutter.specs.Clutter.{clutterOf}
 use Rattle.shape.specs.Centres.{centres}
 use Rattle.beyond.specs.Beyond.{beyond}
+use Rattle.totals.specs.Totals.{totalsOf}
 use Rattle.drawing_text.specs.Lines.{pathsText, pathsWritable, listText, listWritable}
 use Rattle.draw.specs.Drawn.{farCentre, drawRefusals}
 use Rattle.layout.specs.Layout.{Layout, planOf, lastKind, layoutOf}
@@ -150,15 +151,18 @@ ysAfter s kind xRoom ys = decide (layoutRefusals s kind xRoom (length ys)) (λ (
 
 -- ---- list a drawing, laid out by kind: "A listing shows what routing gives at its layout's centres."
 
+-- document 02, T-01: each total "equals what a count over the sheet and the records gives"
 abbrev pub listing : List ℕ → ℕ → List ℕ
 listing s kind =
     let l = layoutFor s kind in
-    listText (l .width) (l .height) (centres (l .xs) (l .ys)) (flagsOf (meaning s)) (drawnOf s (l .xs) (l .ys))
+    let gs = drawnOf s (l .xs) (l .ys) in
+    listText (l .width) (l .height) (centres (l .xs) (l .ys)) (flagsOf (meaning s)) gs (totalsOf (meaning s) gs)
 
 abbrev pub listingWritable : List ℕ → ℕ → Bool
 listingWritable s kind =
     let l = layoutFor s kind in
-    listWritable (l .width) (l .height) (centres (l .xs) (l .ys)) (flagsOf (meaning s)) (drawnOf s (l .xs) (l .ys))
+    let gs = drawnOf s (l .xs) (l .ys) in
+    listWritable (l .width) (l .height) (centres (l .xs) (l .ys)) (flagsOf (meaning s)) gs (totalsOf (meaning s) gs)
 
 -- 11 and 1 to 6; 8 for a centre of the layout, if there is a layout; 9 for a drawing that the layout measures, or for the one at its centres; 10 and 7
 abbrev pub listRefusals : List ℕ → ℕ → ℕ → List Refusal

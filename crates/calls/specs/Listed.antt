@@ -5,6 +5,7 @@ use lib.Ieee.{Float}
 use Rattle.laws.specs.Refusals.{decide}
 use Rattle.sheet.specs.Sheet.{meaning, flagsOf}
 use Rattle.shape.specs.Centres.{centres}
+use Rattle.totals.specs.Totals.{totalsOf}
 use Rattle.drawing_text.specs.Lines.{listText, listWritable}
 use Rattle.draw.specs.Drawn.{drawRefusals}
 use Rattle.outputs.specs.Answers.{writtenOf, outWritten}
@@ -15,9 +16,13 @@ use Rattle.number.specs.declared.Written.the-variants as N
 abbrev pub listingAt : List ℕ → Float → Float → List Float → List Float → ℕ → Written
 listingAt s w h xs ys room =
     let gs = drawnOf s xs ys in
-    decide (drawRefusals mainScreen s xs ys) N.Refused (writtenOf (listWritable w h (centres xs ys) (flagsOf (meaning s)) gs) (listText w h (centres xs ys) (flagsOf (meaning s)) gs) room)
+    let totals = totalsOf (meaning s) gs in
+    decide (drawRefusals mainScreen s xs ys) N.Refused
+    (writtenOf (listWritable w h (centres xs ys) (flagsOf (meaning s)) gs totals) (listText w h (centres xs ys) (flagsOf (meaning s)) gs totals) room)
 
 abbrev pub listedAfter : List ℕ → Float → Float → List Float → List Float → List ℕ → List ℕ
 listedAfter s w h xs ys out =
     let gs = drawnOf s xs ys in
-    decide (drawRefusals mainScreen s xs ys) (λ (n : ℕ). out) (outWritten (listWritable w h (centres xs ys) (flagsOf (meaning s)) gs) (listText w h (centres xs ys) (flagsOf (meaning s)) gs) out)
+    let totals = totalsOf (meaning s) gs in
+    decide (drawRefusals mainScreen s xs ys) (λ (n : ℕ). out)
+    (outWritten (listWritable w h (centres xs ys) (flagsOf (meaning s)) gs totals) (listText w h (centres xs ys) (flagsOf (meaning s)) gs totals) out)

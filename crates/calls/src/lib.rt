@@ -141,16 +141,10 @@ fn list_by(
     let drawn = draw::draw(sheet, xs, ys, &mut drawing);
     match drawn {
         Drawing::Refused(n) => Written::Refused(n),
-        Drawing::Records(count) => outputs::write_listing(
-            width,
-            height,
-            xs,
-            ys,
-            flags,
-            &drawing,
-            count,
-            out,
-        ),
+        Drawing::Records(count) => {
+            let totals = totals::totals_of(sheet, &drawing, count);
+            outputs::write_listing(width, height, xs, ys, flags, &drawing, count, totals, out)
+        }
     }
 }
 

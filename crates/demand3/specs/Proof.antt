@@ -58,7 +58,7 @@ module _ (c : Call) (a : Answered c) where
       ∙ ap (λ (n : ℕ). 20 * n) (records-length (frame c) (sizes c))
 
   -- the numbers and the path of record k
-  record-is : (k : ℕ) (d : Geometry) → k < length (callRecords c) → recordAt c k ≡ fields (getD (callRecords c) k d)
+  pub record-is : (k : ℕ) (d : Geometry) → k < length (callRecords c) → recordAt c k ≡ fields (getD (callRecords c) k d)
   unfolding recordsAfter
   record-is k d h =
       ap (part 20 k) (clear-decides (λ (n : ℕ). c .records) (onto (numbersOf (callRecords c)) (c .records)) rs (stands .0))

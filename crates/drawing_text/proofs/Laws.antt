@@ -17,7 +17,8 @@ use Rattle.shape.specs.Plane.{vec}
 use Rattle.shape.specs.Centres.{centres, centre}
 use Rattle.shape.specs.CentresFrom.{centres-from}
 use Rattle.label_spots.specs.declared.Geometry.{Geometry}
-use Rattle.drawing_text.specs.Lines.{Field, TextLine, named, listedState, statesFrom, starts, fieldText, fieldsText, bodyText, lineText, linesText, fieldWritable, fieldsWritable, lineWritable, linesWritable, sizeLine, stateLine, startLine, recordLines, listLines, listWritable}
+use Rattle.totals.specs.declared.Totals.{Totals}
+use Rattle.drawing_text.specs.Lines.{Field, TextLine, named, listedState, statesFrom, starts, fieldText, fieldsText, bodyText, lineText, linesText, fieldWritable, fieldsWritable, lineWritable, linesWritable, sizeLine, stateLine, startLine, totalLine, recordLines, listLines, listWritable}
 
 -- ---- the states from state k on
 pub states-front : (xs ys : List Float) (k : ℕ) (v : «V») → v ≡ centre (centres xs ys) k → length ys ≡ length xs → k < length xs
@@ -78,24 +79,32 @@ pub and-stopped : {a r : Bool} (b : Bool) → r ≡ a → not r ≡ true → fal
 and-stopped {r = r} b e n = and-no b (sym e ∙ not-true r n)
 
 -- the last test of all
+and-true : (b : Bool) → (b && true) ≡ b
+and-true true = refl
+and-true false = refl
+
 pub last : {a r : Bool} → r ≡ a → r ≡ (a && true)
-last {a} e = e ∙ go a
-  where
-    go : (b : Bool) → b ≡ (b && true)
-    go true = refl
-    go false = refl
+last {a} e = e ∙ sym (and-true a)
 
 -- the tests of fields in a row
 pub tests-fields : (fs gs : List Field) → fieldsWritable (fs ++ gs) ≡ (fieldsWritable fs && fieldsWritable gs)
 unfolding fieldsWritable
 tests-fields fs gs = every-join fieldWritable fs gs
 
+-- the totals are whole numbers, which may always be written
+total-passes : (ls : List TextLine) (t : Totals) → linesWritable (ls ++ (totalLine t ∷ [])) ≡ linesWritable ls
+unfolding linesWritable lineWritable fieldsWritable fieldWritable every
+total-passes ls t = every-join lineWritable ls (totalLine t ∷ []) ∙ and-true (every lineWritable ls)
+
 -- "Order: size, states, then four lines a record, then starts."
-pub list-tests : (w h : Float) (cs : List «V») (flags : List ℕ) (gs : List Geometry) → let states = statesFrom 0 cs in
-    listWritable w h cs flags gs ≡ (lineWritable (sizeLine w h) && (linesWritable (map stateLine states) && (linesWritable (flatMap recordLines gs) && linesWritable (map startLine (starts flags states)))))
+pub list-tests : (w h : Float) (cs : List «V») (flags : List ℕ) (gs : List Geometry) (t : Totals) → let states = statesFrom 0 cs in
+    listWritable w h cs flags gs t ≡ (lineWritable (sizeLine w h) && (linesWritable (map stateLine states) && (linesWritable (flatMap recordLines gs) && linesWritable (map startLine (starts flags states)))))
 unfolding listWritable listLines linesWritable every
-list-tests w h cs flags gs =
-    let later : List TextLine = flatMap recordLines gs ++ map startLine (starts flags (statesFrom 0 cs)) in
+list-tests w h cs flags gs t =
+    let states : List TextLine = map stateLine (statesFrom 0 cs) in
+    let begun : List TextLine = map startLine (starts flags (statesFrom 0 cs)) in
+    let last : List TextLine = begun ++ (totalLine t ∷ []) in
     ap (λ (b : Bool). lineWritable (sizeLine w h) && b)
-    (every-join lineWritable (map stateLine (statesFrom 0 cs)) later
-    ∙ ap (λ (b : Bool). every lineWritable (map stateLine (statesFrom 0 cs)) && b) (every-join lineWritable (flatMap recordLines gs) (map startLine (starts flags (statesFrom 0 cs)))))
+    (every-join lineWritable states (flatMap recordLines gs ++ last)
+    ∙ ap (λ (b : Bool). every lineWritable states && b)
+    (every-join lineWritable (flatMap recordLines gs) last ∙ ap (λ (b : Bool). every lineWritable (flatMap recordLines gs) && b) (total-passes begun t)))

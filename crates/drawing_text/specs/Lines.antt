@@ -20,6 +20,7 @@ use Rattle.label_spots.specs.declared.Anchor.{Anchor}
 use Rattle.label_spots.specs.declared.Anchor.the-variants.{Start, Middle, End}
 use Rattle.label_spots.specs.declared.Geometry.{Geometry}
 use Rattle.sheet.specs.Meaning.{isStart}
+use Rattle.totals.specs.declared.Totals.{Totals}
 
 -- ---- path text
 
@@ -167,24 +168,31 @@ labelLine g = textLine "label" (wholeField (g .edge) ∷ pointFields (g .label) 
 abbrev pub startLine : ListedState → TextLine
 startLine s = textLine "start" (wholeField (s .number) ∷ headField (startTip (s .centre)) f0 ∷ [])
 
+-- document 02, T-01: "a line `total`, then the numbers of straight arrows, arcs, loops, left-out arrows and label lines"
+abbrev pub totalLine : Totals → TextLine
+totalLine t =
+    textLine "total"
+    (wholeField (t .straight) ∷ wholeField (t .arcs) ∷ wholeField (t .loops) ∷ wholeField (t .«left_out») ∷ wholeField (t .lines) ∷ [])
+
 -- "four lines a record"
 abbrev pub recordLines : Geometry → List TextLine
 recordLines g = edgeLine g ∷ tipLine g ∷ headLine g ∷ labelLine g ∷ []
 
 -- ---- the listing
 
--- "Order: size, states, then four lines a record, then starts."
-unfoldable pub listLines : Float → Float → List «V» → List ℕ → List Geometry → List TextLine
-listLines width height centres flags gs =
+-- "Order: size, states, then four lines a record, then starts."; document 02, T-01: "The listing ends with a line `total`"
+unfoldable pub listLines : Float → Float → List «V» → List ℕ → List Geometry → Totals → List TextLine
+listLines width height centres flags gs totals =
     let states = statesFrom 0 centres in
     sizeLine width height
     ∷ (map stateLine states
     ++ (flatMap recordLines gs
-    ++ map startLine (starts flags states)))
+    ++ (map startLine (starts flags states)
+    ++ (totalLine totals ∷ []))))
 
-unfoldable pub listText : Float → Float → List «V» → List ℕ → List Geometry → List ℕ
-listText width height centres flags gs = linesText (listLines width height centres flags gs)
+unfoldable pub listText : Float → Float → List «V» → List ℕ → List Geometry → Totals → List ℕ
+listText width height centres flags gs totals = linesText (listLines width height centres flags gs totals)
 
 -- refusal 10
-unfoldable pub listWritable : Float → Float → List «V» → List ℕ → List Geometry → Bool
-listWritable width height centres flags gs = linesWritable (listLines width height centres flags gs)
+unfoldable pub listWritable : Float → Float → List «V» → List ℕ → List Geometry → Totals → Bool
+listWritable width height centres flags gs totals = linesWritable (listLines width height centres flags gs totals)

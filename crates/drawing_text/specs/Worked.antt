@@ -17,6 +17,7 @@ use Rattle.shape.specs.Plane.{vec, rect}
 use Rattle.svg.specs.Paths.{headOf, pointText, pointsText, moreText, pathText}
 use Rattle.label_spots.specs.declared.Anchor.the-variants.{Middle}
 use Rattle.label_spots.specs.declared.Geometry.{Geometry}
+use Rattle.totals.specs.declared.Totals.{Totals}
 use Rattle.drawing_text.specs.Lines.{statesFrom, starts, fieldText, fieldsText, bodyText, lineText, linesText, listLines, listText}
 
 -- the arrow from state 0 to state 1, with its label; no text shows the label's box
@@ -41,7 +42,12 @@ workedListing =
     ++ ascii "head 0 M 184 38 L 175 41.5 L 175 34.5 Z\n"
     ++ ascii "label 0 136 19 middle\n"
     ++ ascii "start 0 M 44 38 L 35 41.5 L 35 34.5 Z\n"
+    ++ ascii "total 1 0 0 0 1\n"
 
-pub worked-listing : listText (whole 244) (whole 76) (vec (whole 66) (whole 38) ∷ vec (whole 206) (whole 38) ∷ []) (1 ∷ 0 ∷ []) (workedArrow ∷ []) ≡ workedListing
+-- one straight arrow, and its one line
+abbrev pub workedTotals : Totals
+workedTotals = record { straight = 1; arcs = 0; loops = 0; «left_out» = 0; lines = 1 }
+
+pub worked-listing : listText (whole 244) (whole 76) (vec (whole 66) (whole 38) ∷ vec (whole 206) (whole 38) ∷ []) (1 ∷ 0 ∷ []) (workedArrow ∷ []) workedTotals ≡ workedListing
 unfolding listText linesText lineText bodyText fieldsText fieldText listLines starts statesFrom filterBy flatMap headOf pathText moreText pointsText pointText numText decimal roundedSize minusText fraction digits digitsBy S.round sin cos reduced series down toUnsigned ofInt round size span climb units odd sum add sub mul div rem neg lt eq ofBits ofFields trailingZeros
 worked-listing = refl

@@ -5,6 +5,7 @@ use label_spots::Geometry;
 use shape::Curve;
 use shape::NODE_RADIUS;
 use shape::V;
+use totals::Totals;
 ghost use mathlib.Core.Path.{_≡_};
 ghost use mathlib.Core.Bool.{cond, true};
 ghost use mathlib.Core.List.{[], _∷_, map, flatMap};
@@ -15,6 +16,7 @@ ghost use Rattle.svg.specs.Paths.{curvePath, pathWritable};
 ghost use Rattle.shape.specs.Centres.{centres};
 ghost use Rattle.sheet.specs.Meaning.{isStart};
 ghost use Rattle.records.specs.Records.{decodeRecords};
+ghost use Rattle.totals.specs.declared.Totals as T;
 ghost use Rattle.drawing_text.specs.Lines as S;
 
 // ---- path text
@@ -81,15 +83,22 @@ fn put_point(out: &mut [u8], at: usize, p: V) -> usize
     put_field(out, next, p.y)
 }
 
-// A word and the number of a state or an arrow.
+// A blank and a whole number.
+fn put_whole(out: &mut [u8], at: usize, n: usize) -> usize
+    ensures { λ r. ⌜ Wrote (now (out .entry)) at (now (out .exit)) r (S.fieldsText (S.wholeField n ∷ [])) ⌝ }
+{
+    let next = text::put_byte(out, at, b' ');
+    text::put_number(out, next, n as u64)
+}
+
+// A word and a whole number.
 fn put_titled(out: &mut [u8], at: usize, word: &[u8], k: usize) -> usize
     ensures { λ r.
         let line = S.named (now (word .entry)) (S.wholeField k ∷ []) in
         ⌜ Wrote (now (out .entry)) at (now (out .exit)) r (S.bodyText line) ⌝ }
 {
-    let blank = text::put_bytes(out, at, word);
-    let next = text::put_byte(out, blank, b' ');
-    text::put_number(out, next, k as u64)
+    let next = text::put_bytes(out, at, word);
+    put_whole(out, next, k)
 }
 
 fn put_anchor(out: &mut [u8], at: usize, anchor: Anchor) -> usize
@@ -215,6 +224,17 @@ fn put_start(out: &mut [u8], at: usize, flag: u8, k: usize, c: V) -> usize
     at
 }
 
+fn put_total_line(out: &mut [u8], at: usize, t: Totals) -> usize
+    ensures { λ r. ⌜ Wrote (now (out .entry)) at (now (out .exit)) r (S.lineText (S.totalLine t)) ⌝ }
+{
+    let arcs = put_titled(out, at, b"total", t.straight);
+    let loops = put_whole(out, arcs, t.arcs);
+    let left_out = put_whole(out, loops, t.loops);
+    let lines = put_whole(out, left_out, t.left_out);
+    let end = put_whole(out, lines, t.lines);
+    text::put_byte(out, end, b'\n')
+}
+
 // ---- the listing
 
 fn put_states(out: &mut [u8], at: usize, xs: &[f64], ys: &[f64]) -> usize
@@ -258,7 +278,7 @@ fn put_starts(out: &mut [u8], at: usize, xs: &[f64], ys: &[f64], flags: &[u8]) -
     next
 }
 
-// The listing: its size, the states, four lines a record, the starts.
+// The listing: its size, the states, four lines a record, the starts, the totals.
 pub fn put_listing(
     out: &mut [u8],
     at: usize,
@@ -269,6 +289,7 @@ pub fn put_listing(
     flags: &[u8],
     records: &[f64],
     count: usize,
+    totals: Totals,
 ) -> usize
     requires { ⌜
         (length (now ys) ≡ length (now xs))
@@ -278,12 +299,14 @@ pub fn put_listing(
     ensures { λ r.
         let drawn = decodeRecords count (now (records .entry)) in
         let nodes = centres (now (xs .entry)) (now (ys .entry)) in
-        ⌜ Wrote (now (out .entry)) at (now (out .exit)) r (S.listText width height nodes (now (flags .entry)) drawn) ⌝ }
+        let text = S.listText width height nodes (now (flags .entry)) drawn totals in
+        ⌜ Wrote (now (out .entry)) at (now (out .exit)) r text ⌝ }
 {
     let states = put_size_line(out, at, width, height);
     let edges = put_states(out, states, xs, ys);
     let starts = put_records(out, edges, records, count);
-    put_starts(out, starts, xs, ys, flags)
+    let total = put_starts(out, starts, xs, ys, flags);
+    put_total_line(out, total, totals)
 }
 
 // ---- whether the listing's numbers may be written
@@ -382,7 +405,7 @@ fn starts_ok(xs: &[f64], ys: &[f64], flags: &[u8]) -> bool
     true
 }
 
-// Whether every number of the listing may be written.
+// Whether every number of the listing may be written, whatever the totals are: those are whole numbers.
 pub fn listing_writable(
     width: f64,
     height: f64,
@@ -400,7 +423,7 @@ pub fn listing_writable(
     ensures { λ r.
         let drawn = decodeRecords count (now (records .entry)) in
         let nodes = centres (now (xs .entry)) (now (ys .entry)) in
-        ⌜ r ≡ S.listWritable width height nodes (now (flags .entry)) drawn ⌝ }
+        ⌜ ((totals : T.Totals) → r ≡ S.listWritable width height nodes (now (flags .entry)) drawn totals) ⌝ }
 {
     if !size_ok(width, height) {
         return false;

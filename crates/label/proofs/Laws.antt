@@ -118,7 +118,7 @@ pub fit-total : (most bytes : ℕ) (l : List ℕ) → lengthsFit most bytes l �
 unfolding lengthsFit
 fit-total most bytes l e = eqb-true bytes (totalLength l) (and-second (not (anyOf (ltb most) l)) (eqb bytes (totalLength l)) e)
 
--- ---- a fold along a chain: over the bytes that each record brings, and over what each record is
+-- ---- a fold along a chain, over the bytes that each record brings
 module _ {A B : Type 0} (g : A → B → A) (s : List ℕ) (f : ℕ → List B) (n i : ℕ) (a : A) where
   pub chain-over-end : i ≡ 0 → a ≡ over g a (flatMap f (chainBy s n i))
   unfolding flatMap over
@@ -131,19 +131,6 @@ module _ {A B : Type 0} (g : A → B → A) (s : List ℕ) (f : ℕ → List B) 
   pub chain-over-step : (b : A) → b ≡ over g a (f i) → (n ≡ 0 → ⊥) → (i ≡ 0 → ⊥) → over g b (flatMap f (chainBy s (n - 1) (next s i))) ≡ over g a (flatMap f (chainBy s n i))
   unfolding flatMap
   chain-over-step b r h e = rw (chain-step s n i h e, r) (sym (over-join g a (f i) (flatMap f (chainBy s (n - 1) (next s i)))))
-
-module _ {A B : Type 0} (g : A → B → A) (s : List ℕ) (f : ℕ → B) (n i : ℕ) (a : A) where
-  pub things-end : i ≡ 0 → a ≡ over g a (map f (chainBy s n i))
-  unfolding over
-  things-end e = rw (chain-end s n i e)
-
-  pub things-cut : n ≡ 0 → a ≡ over g a (map f (chainBy s n i))
-  unfolding over
-  things-cut e = rw (chain-cut s n i e)
-
-  pub things-step : (b : A) → b ≡ g a (f i) → (n ≡ 0 → ⊥) → (i ≡ 0 → ⊥) → over g b (map f (chainBy s (n - 1) (next s i))) ≡ over g a (map f (chainBy s n i))
-  unfolding over
-  things-step b r h e = rw (chain-step s n i h e, r)
 
 -- ---- where the walks of a line and of a block begin
 pub line-measure-start : (s : List ℕ) (k i n : ℕ) (m : Measure) → m ≡ measureStart → i ≡ firstText s k → n ≡ count s → measureAll m (flatMap (piece s) (chainBy s (n + 1) i)) ≡ measureAll measureStart (lineOf s k)

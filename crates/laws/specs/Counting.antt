@@ -1,14 +1,14 @@
 -- How many of a list pass a test, and sums with a weight for each that does: whole, and cut at a limit; a step of a loop over such a sum, and its end. Assumes nothing.
-use mathlib.Core.Path.{_≡_, refl, sym, ap, _∙_}
-use mathlib.Core.Bool.{Bool, true, false, cond}
-use mathlib.Core.List.{List, [], _∷_, _++_, map}
+use mathlib.Core.Path.{_≡_, refl, sym, ap, ap₂, _∙_}
+use mathlib.Core.Bool.{Bool, true, false, cond, not, _&&_}
+use mathlib.Core.List.{List, [], _∷_, _++_, map, flatMap}
 use Prim.Native.Nat.{ℕ, zero, suc, _+_, _-_, _*_, _≤_, _<_}
 use native.Mathlib.Nat.{not-suc-le-zero}
 use native.Mathlib.Numerals.{add-one}
 use native.Mathlib.Omega.{arith}
 use borrow.Author.Tests.{le-leb, lt-leb}
 use lib.ListN.{length}
-use Rattle.laws.specs.Cases.{by-lt}
+use Rattle.laws.specs.Cases.{by-bool, by-lt}
 use Rattle.laws.specs.Best.{totalFrom, cut-total}
 use Rattle.laws.specs.Flat.{table}
 use Rattle.laws.specs.Loops.{less-one}
@@ -50,6 +50,41 @@ howMany-step p m a b x l r e f = rw (e, f) (go (p x))
 pub howMany-none : {A : Type 0} (p : A → Bool) (m a : ℕ) (l : List A) → l ≡ [] → a ≡ a + m * howMany p l
 unfolding howMany
 howMany-none p m a l e = rw e (omega arith)
+
+-- ---- of lists joined, and made of others; by several tests
+
+pub howMany-join : {A : Type 0} (p : A → Bool) (l m : List A) → howMany p (l ++ m) ≡ howMany p l + howMany p m
+unfolding howMany
+howMany-join p [] m = omega arith
+howMany-join p (x ∷ l) m = omega (arith, howMany-join p l m)
+
+pub howMany-map : {A B : Type 0} (p : B → Bool) (f : A → B) (l : List A) → howMany p (map f l) ≡ howMany (λ x. p (f x)) l
+unfolding howMany
+howMany-map p f [] = refl
+howMany-map p f (x ∷ l) = ap (λ (n : ℕ). cond (p (f x)) 1 0 + n) (howMany-map p f l)
+
+-- one of each that is chosen
+pub howMany-chosen : {A B : Type 0} (p : B → Bool) (q : A → Bool) (f : A → B) (l : List A) → howMany p (flatMap (λ x. cond (q x) (f x ∷ []) []) l) ≡ howMany (λ x. q x && p (f x)) l
+unfolding howMany flatMap
+howMany-chosen p q f [] = refl
+howMany-chosen p q f (x ∷ l) = by-bool (q x) (λ t. rw t (ap (λ (n : ℕ). cond (p (f x)) 1 0 + n) (howMany-chosen p q f l))) (λ t. rw t (omega (arith, howMany-chosen p q f l)))
+
+pub howMany-same : {A : Type 0} (p q : A → Bool) (l : List A) → ((x : A) → p x ≡ q x) → howMany p l ≡ howMany q l
+unfolding howMany
+howMany-same p q [] h = refl
+howMany-same p q (x ∷ l) h = ap₂ (λ (b : Bool) (n : ℕ). cond b 1 0 + n) (h x) (howMany-same p q l h)
+
+-- the things of two sorts, none of which is of both
+pub howMany-both : {A : Type 0} (p q r : A → Bool) (l : List A) → ((x : A) → cond (p x) 1 0 + cond (q x) 1 0 ≡ cond (r x) 1 0) → howMany p l + howMany q l ≡ howMany r l
+unfolding howMany
+howMany-both p q r [] h = refl
+howMany-both p q r (x ∷ l) h = omega (arith, h x, howMany-both p q r l h)
+
+-- and all others
+pub howMany-rest : {A : Type 0} (p : A → Bool) (l : List A) → howMany p l + howMany (λ x. not (p x)) l ≡ length l
+unfolding howMany
+howMany-rest p [] = refl
+howMany-rest p (x ∷ l) = let e = howMany-rest p l in by-bool (p x) (λ t. rw t (omega arith)) (λ t. rw t (omega arith))
 
 -- the sum of the weights
 pub total-worth : {A : Type 0} (p : A → Bool) (m a : ℕ) (l : List A) → totalFrom a (map (worth p m) l) ≡ a + m * howMany p l

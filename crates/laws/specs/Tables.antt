@@ -5,7 +5,7 @@ use Prim.Native.Nat.{ℕ, zero, suc, _+_, _-_, _≤_, _<_}
 use native.Mathlib.Nat.{not-suc-le-zero, le-of-suc-le-suc, add-zero, sub-zero}
 use native.Mathlib.Numerals.{add-one}
 use native.Mathlib.Omega.{arith}
-use lib.ListN.{getD, take}
+use lib.ListN.{length, getD, take}
 use Rattle.laws.specs.Flat.{table}
 use Rattle.laws.specs.Loops.{over, over-join}
 use Rattle.laws.specs.Zip.{zipBy}
@@ -60,6 +60,14 @@ module _ {A : Type 0} (g : ℕ → A) where
   unfolding table
   map-table f k zero = refl
   map-table {B} f k (suc n) = ap (λ (l : List B). f (g k) ∷ l) (map-table f (suc k) n)
+
+-- what is made of each element of a list
+pub table-of : {A B : Type 0} (f : ℕ → B) (g : A → B) (l : List A) (d : A) → ((k : ℕ) → k < length l → f k ≡ g (getD l k d)) → table f 0 (length l) ≡ map g l
+unfolding table
+table-of f g [] d h = refl
+table-of {A} {B} f g (x ∷ l) d h =
+    ap₂ (λ (y : B) (m : List B). y ∷ m) (h 0 (omega arith))
+    (table-next f (λ k. f (suc k)) 0 (length l) (λ j. refl) ∙ table-of (λ k. f (suc k)) g l d (λ k i. h (suc k) (omega arith)))
 
 pub zip-tables : {A B C : Type 0} (f : A → B → C) (g : ℕ → A) (h : ℕ → B) (k n : ℕ) → zipBy f (table g k n) (table h k n) ≡ table (λ j. f (g j) (h j)) k n
 unfolding zipBy table

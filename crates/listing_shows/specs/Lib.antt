@@ -1,4 +1,6 @@
 pub mod Shown
 pub mod Found
 pub mod Proof
+pub mod Totalled
+pub mod Counted
 pub mod Measured

@@ -29,7 +29,9 @@ use Rattle.records.specs.Back.{length-records}
 use Rattle.beyond.specs.Beyond.{beyond}
 use Rattle.routing.specs.Sheets.{frameOf, sizesOf, endsOf}
 use Rattle.routing_laws.specs.Decoded.{records-decoded}
-use Rattle.drawing_text.specs.Lines.{pathsOf, pathsText, pathsWritable, statesFrom, starts, fieldWritable, fieldsWritable, lineWritable, linesWritable, sizeLine, stateLine, edgeLine, recordLines, startLine, listLines, listText, listWritable}
+use Rattle.totals.specs.declared.Totals.{Totals}
+use Rattle.totals.specs.Totals.{totalsOf}
+use Rattle.drawing_text.specs.Lines.{pathsOf, pathsText, pathsWritable, statesFrom, starts, fieldWritable, fieldsWritable, lineWritable, linesWritable, sizeLine, stateLine, edgeLine, recordLines, startLine, totalLine, listLines, listText, listWritable}
 use Rattle.draw.specs.Drawn.{farCentre}
 use Rattle.layout.specs.Layout.{Layout, planOf, lastKind}
 use Rattle.plan.specs.Measured.{layoutBeyond}
@@ -38,9 +40,9 @@ use Rattle.calls.specs.Calls.{number, values, mainScreen, short, onto, drawnOf,
 use Rattle.calls.specs.Decided.{answered-clear}
 use Rattle.demand3.specs.Demand.{Call, Answered, recordsLeft, recordAt, pathAt, textLineAt}
 use Rattle.demand3.specs.Proof.{callRecords, stands, path-is}
-use Rattle.listing_shows.specs.Shown.{Lent, ListAnswered, LayoutAnswered, xsLeft, ysLeft, routeCall, recordsRead, outLeft, recordLine, edgeText, arrowNumber, Shows, Enough, ListingShows}
+use Rattle.listing_shows.specs.Shown.{Lent, ListAnswered, LayoutAnswered, xsLeft, ysLeft, routeCall, recordsRead, totalsRead, outLeft, wrote, lastLine, recordLine, edgeText, totalText, arrowNumber, Shows, Enough, ListingShows}
 use Rattle.listing_shows.specs.Shown as Spec
-use Rattle.listing_shows.specs.Found.{edge-at}
+use Rattle.listing_shows.specs.Found.{edge-at, total-at}
 
 -- ---- a listing whose numbers may be written has paths that may be written
 
@@ -52,11 +54,11 @@ paths-ok (g ∷ gs) e =
     let more = every (λ g. linesWritable (recordLines g)) gs in
     ap₂ (λ (a b : Bool). a && b) (and-first (pathWritable (curvePath (g .curve))) true (and-first (lineWritable (edgeLine g)) _ (and-first one more e))) (paths-ok gs (and-second one more e))
 
-list-paths : (w h : Float) (cs : List «V») (flags : List ℕ) (gs : List Geometry) → listWritable w h cs flags gs ≡ true → pathsWritable gs ≡ true
+list-paths : (w h : Float) (cs : List «V») (flags : List ℕ) (gs : List Geometry) (t : Totals) → listWritable w h cs flags gs t ≡ true → pathsWritable gs ≡ true
 unfolding listWritable listLines linesWritable every
-list-paths w h cs flags gs e =
+list-paths w h cs flags gs t e =
     let front = map stateLine (statesFrom 0 cs) in
-    let last = map startLine (starts flags (statesFrom 0 cs)) in
+    let last = map startLine (starts flags (statesFrom 0 cs)) ++ (totalLine t ∷ []) in
     let behind : every lineWritable (flatMap recordLines gs ++ last) ≡ true =
     and-second (every lineWritable front) _ (sym (every-join lineWritable front (flatMap recordLines gs ++ last)) ∙ and-second (lineWritable (sizeLine w h)) _ e) in
     paths-ok gs (sym (every-all lineWritable recordLines gs) ∙ and-first _ (every lineWritable last) (sym (every-join lineWritable (flatMap recordLines gs) last) ∙ behind))
@@ -154,7 +156,7 @@ module _ (c : Lent) (a : ListAnswered c) where
   writable : not (pathsWritable gs) ≡ false
   writable =
       ap not
-      (list-paths (plan .width) (plan .height) (centres (plan .xs) (plan .ys)) (flagsOf (meaning (c .sheet))) gs
+      (list-paths (plan .width) (plan .height) (centres (plan .xs) (plan .ys)) (flagsOf (meaning (c .sheet))) gs (totalsOf (meaning (c .sheet)) gs)
       (not-false (listingWritable (c .sheet) (c .kind)) (heard .0 .none 10)))
 
   lays : length (meaning (c .sheet) .states) ≤ length (c .xs) → length (meaning (c .sheet) .states) ≤ length (c .ys) → LayoutAnswered c
@@ -203,10 +205,10 @@ module _ (c : Lent) (a : ListAnswered c) where
             ∙ ap (f (plan .width) (plan .height) (centres (plan .xs) (plan .ys)) flags) read
 
       same-text : Spec.shown c l r ≡ listing (c .sheet) (c .kind)
-      same-text = same-listed listText
+      same-text = same-listed (λ w h cs flags gs. listText w h cs flags gs (totalsOf (meaning (c .sheet)) gs))
 
-      pub all-writable : listWritable (l .width) (l .height) (centres (xsLeft c l) (ysLeft c l)) (flagsOf (meaning (c .sheet))) (recordsRead (routeCall c l) r) ≡ true
-      all-writable = same-listed listWritable ∙ not-false (listingWritable (c .sheet) (c .kind)) (heard .0 .none 10)
+      pub all-writable : listWritable (l .width) (l .height) (centres (xsLeft c l) (ysLeft c l)) (flagsOf (meaning (c .sheet))) (recordsRead (routeCall c l) r) (totalsRead (routeCall c l) r) ≡ true
+      all-writable = same-listed (λ w h cs flags gs. listWritable w h cs flags gs (totalsOf (meaning (c .sheet)) gs)) ∙ not-false (listingWritable (c .sheet) (c .kind)) (heard .0 .none 10)
 
       text : outLeft c ≡ onto (Spec.shown c l r) (c .out)
       unfolding listAfter
@@ -232,12 +234,21 @@ module _ (c : Lent) (a : ListAnswered c) where
         edge =
             let t : List ℕ = Spec.shown c l r in
             ap₂ (λ (n : ℕ) (o : List ℕ). textLineAt (recordLine n k) o) (sym (centres-many c l)) text
-            ∙ edge-at (l .width) (l .height) (centres (xsLeft c l) (ysLeft c l)) (flagsOf (meaning (c .sheet))) (recordsRead (routeCall c l) r) (drop (length t) (c .out)) (sizeLine (l .width) (l .height)) k other
+            ∙ edge-at (l .width) (l .height) (centres (xsLeft c l) (ysLeft c l)) (flagsOf (meaning (c .sheet))) (recordsRead (routeCall c l) r) (totalsRead (routeCall c l) r) (drop (length t) (c .out)) (sizeLine (l .width) (l .height)) k other
             (omega (arith, numbers-many (routeCall c l) r, ap length (read-back (routeCall c l) r)))
             ∙ ap₂ edgeText arrow path
 
+      bytes : a .bytes ≡ length (Spec.shown c l r)
+      bytes = heard .1 ∙ ap length (sym same-text)
+
+      total : lastLine (wrote c a) ≡ totalText (totalsRead (routeCall c l) r)
+      total =
+          let t : List ℕ = Spec.shown c l r in
+          ap lastLine (ap₂ (λ (n : ℕ) (o : List ℕ). take n o) bytes text ∙ take-at t (drop (length t) (c .out)) (length t) refl)
+          ∙ total-at (l .width) (l .height) (centres (xsLeft c l) (ysLeft c l)) (flagsOf (meaning (c .sheet))) (recordsRead (routeCall c l) r) (totalsRead (routeCall c l) r) [] (sizeLine (l .width) (l .height))
+
       shows : Shows c a l r
-      shows = record { bytes = heard .1 ∙ ap length (sym same-text); text = text; edge = edge }
+      shows = record { bytes = bytes; text = text; edge = edge; total = total }
 
 pub listing-shows : ListingShows
 listing-shows = record { lays = lays; routes = routes; shows = shows }

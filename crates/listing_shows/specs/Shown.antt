@@ -2,15 +2,20 @@
 -- Here is what it says; `listing-shows` of Proof proves it.
 use mathlib.Core.Path.{_≡_}
 use mathlib.Core.List.{List, [], _∷_}
-use Prim.Native.Nat.{ℕ, _+_, _*_, _/_, _≤_}
+use Prim.Native.Nat.{ℕ, _+_, _-_, _*_, _/_, _≤_}
+use Prim.Native.Char.{code}
+use lib.Dec.{eqb}
 use lib.ListN.{length, getD, take}
 use lib.Ieee.{Float, nan}
+use Rattle.laws.specs.Counting.{howMany}
 use Rattle.sheet.specs.Sheet.{meaning, flagsOf}
 use Rattle.trace.specs.Form.{wholeOf}
 use Rattle.shape.specs.Centres.{centres}
 use Rattle.label_spots.specs.declared.Geometry.{Geometry}
 use Rattle.records.specs.Records.{decodeRecords}
-use Rattle.drawing_text.specs.Lines.{textLine, wholeField, wordField, bodyText, listText}
+use Rattle.totals.specs.declared.Totals.{Totals}
+use Rattle.totals.specs.Totals.{totalsOf}
+use Rattle.drawing_text.specs.Lines.{textLine, wholeField, wordField, bodyText, totalLine, listText}
 use Rattle.calls.specs.Calls.{values, onto, route, layout, xsAfter, ysAfter, list, listAfter}
 use Rattle.demand3.specs.Demand.{Call, Answered, recordsLeft, recordAt, pathAt, textLineAt}
 
@@ -55,13 +60,27 @@ routeCall c l = record { sheet = c .sheet; xs = xsLeft c l; ys = ysLeft c l; rec
 abbrev pub recordsRead : (r : Call) → Answered r → List Geometry
 recordsRead r a = decodeRecords (a .numbers / 20) (recordsLeft r)
 
--- the listing's text, of the size and centres that `layout` gives, the sheet's flag bytes for the starts, and the records that `route` gives
+-- document 02, T-01: the totals of the sheet and of those records
+abbrev pub totalsRead : (r : Call) → Answered r → Totals
+totalsRead r a = totalsOf (meaning (r .sheet)) (recordsRead r a)
+
+-- the listing's text, of the size and centres that `layout` gives, the sheet's flag bytes for the starts, the records that `route` gives, and the totals
 abbrev pub shown : (c : Lent) (l : LayoutAnswered c) → Answered (routeCall c l) → List ℕ
-shown c l r = listText (l .width) (l .height) (centres (xsLeft c l) (ysLeft c l)) (flagsOf (meaning (c .sheet))) (recordsRead (routeCall c l) r)
+shown c l r =
+    listText (l .width) (l .height) (centres (xsLeft c l) (ysLeft c l)) (flagsOf (meaning (c .sheet)))
+    (recordsRead (routeCall c l) r) (totalsRead (routeCall c l) r)
 
 -- the slice lent to `list`, afterwards
 abbrev pub outLeft : Lent → List ℕ
 outLeft c = listAfter (c .sheet) (c .kind) (c .out)
+
+-- what `list` wrote of it
+abbrev pub wrote : (c : Lent) → ListAnswered c → List ℕ
+wrote c a = take (a .bytes) (outLeft c)
+
+-- "Every line ends in a newline": the last line of a text
+abbrev pub lastLine : List ℕ → List ℕ
+lastLine t = textLineAt (howMany (eqb (code "\n")) t - 1) t
 
 -- "Order: size, states, then four lines a record": the number of record k's first line, from 0
 abbrev pub recordLine : ℕ → ℕ → ℕ
@@ -70,6 +89,10 @@ recordLine states k = 1 + states + 4 * k
 -- the line `edge`: "arrow, path"
 abbrev pub edgeText : ℕ → List ℕ → List ℕ
 edgeText arrow path = bodyText (textLine "edge" (wholeField arrow ∷ wordField path ∷ []))
+
+-- the line `total`
+abbrev pub totalText : Totals → List ℕ
+totalText t = bodyText (totalLine t)
 
 -- "arrow number", the first of record k's twenty
 abbrev pub arrowNumber : Call → ℕ → ℕ
@@ -80,6 +103,8 @@ pub record Shows (c : Lent) (a : ListAnswered c) (l : LayoutAnswered c) (r : Ans
   pub text : outLeft c ≡ onto (shown c l r) (c .out)
   -- path text included: the edge line of record k has path k of the text that `route` leaves
   pub edge : (k : ℕ) → 20 * k + 20 ≤ r .numbers → textLineAt (recordLine (l .states) k) (outLeft c) ≡ edgeText (arrowNumber (routeCall c l) k) (pathAt (routeCall c l) k)
+  -- the last line has the totals
+  pub total : lastLine (wrote c a) ≡ totalText (totalsRead (routeCall c l) r)
 
 -- ---- the claim: for all byte lists, kinds and lent slices
 

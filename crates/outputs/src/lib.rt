@@ -2,6 +2,7 @@
 // touched.
 use number::Written;
 use records::RECORD_NUMBERS;
+use totals::Totals;
 ghost use mathlib.Core.Path.{_≡_};
 ghost use mathlib.Core.List.{flatMap};
 ghost use Prim.Native.Nat.{_*_, _≤_};
@@ -162,6 +163,7 @@ pub fn write_listing(
     flags: &[u8],
     drawing: &[f64],
     count: usize,
+    totals: Totals,
     out: &mut [u8],
 ) -> Written
     requires { ⌜
@@ -172,8 +174,8 @@ pub fn write_listing(
     ensures { λ r.
         let drawn = decodeRecords count (now (drawing .entry)) in
         let nodes = centres (now (xs .entry)) (now (ys .entry)) in
-        let text = listText width height nodes (now (flags .entry)) drawn in
-        let writable = listWritable width height nodes (now (flags .entry)) drawn in
+        let text = listText width height nodes (now (flags .entry)) drawn totals in
+        let writable = listWritable width height nodes (now (flags .entry)) drawn totals in
         ⌜ (r ≡ F.writtenOf writable text (length (now (out .entry))))
         × (now (out .exit) ≡ F.outWritten writable text (now (out .entry))) ⌝ }
 {
@@ -190,10 +192,22 @@ pub fn write_listing(
         flags,
         drawing,
         count,
+        totals,
     );
     if out.len() < need {
         return Written::Refused(7);
     }
-    let done = drawing_text::put_listing(out, 0, width, height, xs, ys, flags, drawing, count);
+    let done = drawing_text::put_listing(
+        out,
+        0,
+        width,
+        height,
+        xs,
+        ys,
+        flags,
+        drawing,
+        count,
+        totals,
+    );
     Written::Length(done)
 }

@@ -19,10 +19,11 @@ use Rattle.svg.specs.Reading.{svg-paths}
 use Rattle.shape.specs.Centres.{centres}
 use Rattle.label_spots.specs.declared.Geometry.{Geometry}
 use Rattle.records.specs.Records.{decodeGeometry}
+use Rattle.totals.specs.declared.Totals.{Totals}
 use Rattle.drawing_text.specs.Lines.{pathsOf, pathsWritable, TextLine, textLine, wholeField, pathField, fieldText, fieldsText, bodyText, fieldWritable, fieldsWritable, lineWritable, linesWritable, ListedState, startTip, sizeLine, recordLines, listLines, listText, listWritable}
 use Rattle.demand3.specs.Demand.{Call, Answered, pathAt, textLineAt}
 use Rattle.demand3.specs.Proof.{callRecords, stands, path-is}
-use Rattle.listing_shows.specs.Shown.{Lent, ListAnswered, LayoutAnswered, xsLeft, ysLeft, routeCall, recordsRead, outLeft, recordLine, arrowNumber}
+use Rattle.listing_shows.specs.Shown.{Lent, ListAnswered, LayoutAnswered, xsLeft, ysLeft, routeCall, recordsRead, totalsRead, outLeft, recordLine, arrowNumber}
 use Rattle.listing_shows.specs.Shown as Shown
 use Rattle.listing_shows.specs.Found.{record-in, record-line-inside, record-at, start-in, start-inside, start-at}
 use Rattle.listing_shows.specs.Proof.{numbers-many, read-back, record-read, centres-many, all-writable, listing-shows}
@@ -75,8 +76,11 @@ module _ (c : Lent) (a : ListAnswered c) (l : LayoutAnswered c) (r : Answered (r
   abbrev gs : List Geometry
   gs = recordsRead (routeCall c l) r
 
+  abbrev totals : Totals
+  totals = totalsRead (routeCall c l) r
+
   abbrev its : List TextLine
-  its = listLines (l .width) (l .height) cs flags gs
+  its = listLines (l .width) (l .height) cs flags gs totals
 
   -- past the last line
   abbrev past : TextLine
@@ -85,7 +89,7 @@ module _ (c : Lent) (a : ListAnswered c) (l : LayoutAnswered c) (r : Answered (r
   abbrev tail : List ℕ
   tail = drop (length (Shown.shown c l r)) (c .out)
 
-  line-is : (n : ℕ) → textLineAt n (outLeft c) ≡ textLineAt n (listText (l .width) (l .height) cs flags gs ++ tail)
+  line-is : (n : ℕ) → textLineAt n (outLeft c) ≡ textLineAt n (listText (l .width) (l .height) cs flags gs totals ++ tail)
   line-is n = ap (textLineAt n) (listing-shows .shows c a l r .text)
 
   writable-at : (n : ℕ) → n < length its → lineWritable (getD its n past) ≡ true
@@ -107,14 +111,14 @@ module _ (c : Lent) (a : ListAnswered c) (l : LayoutAnswered c) (r : Answered (r
     text-of j i =
         ap (λ (n : ℕ). textLineAt (recordLine n k + j) (outLeft c)) (sym (centres-many c l))
         ∙ line-is (recordLine (length cs) k + j)
-        ∙ record-at (l .width) (l .height) cs flags gs tail past k j other inside i
+        ∙ record-at (l .width) (l .height) cs flags gs totals tail past k j other inside i
         ∙ ap (λ (g : Geometry). bodyText (getD (recordLines g) j past)) it
 
     test-of : (j : ℕ) → j < 4 → lineWritable (getD (recordLines (recordIn (routeCall c l) k)) j past) ≡ true
     test-of j i =
         sym (ap (λ (g : Geometry). lineWritable (getD (recordLines g) j past)) it)
-        ∙ sym (ap lineWritable (record-in (l .width) (l .height) cs flags gs tail past k j other inside i))
-        ∙ writable-at (recordLine (length cs) k + j) (record-line-inside (l .width) (l .height) cs flags gs tail past k j other inside i)
+        ∙ sym (ap lineWritable (record-in (l .width) (l .height) cs flags gs totals tail past k j other inside i))
+        ∙ writable-at (recordLine (length cs) k + j) (record-line-inside (l .width) (l .height) cs flags gs totals tail past k j other inside i)
 
     pub edge : PathLine (textLineAt (recordLine (l .states) k) (outLeft c)) "edge" (arrowNumber (routeCall c l) k) (curveIn (routeCall c l) k)
     unfolding decodeGeometry curveText
@@ -136,9 +140,9 @@ module _ (c : Lent) (a : ListAnswered c) (l : LayoutAnswered c) (r : Answered (r
       path-line "start" (b .number) (headPath (headOf (startTip (b .centre)) f0)) _
       (ap₂ (λ (n m : ℕ). textLineAt (recordLine n m + j) (outLeft c)) (sym (centres-many c l)) (sym gs-many)
       ∙ line-is (recordLine (length cs) (length gs) + j)
-      ∙ start-at (l .width) (l .height) cs flags gs tail past j s i)
-      (sym (ap lineWritable (start-in (l .width) (l .height) cs flags gs tail past j s i))
-      ∙ writable-at (recordLine (length cs) (length gs) + j) (start-inside (l .width) (l .height) cs flags gs tail past j s i))
+      ∙ start-at (l .width) (l .height) cs flags gs totals tail past j s i)
+      (sym (ap lineWritable (start-in (l .width) (l .height) cs flags gs totals tail past j s i))
+      ∙ writable-at (recordLine (length cs) (length gs) + j) (start-inside (l .width) (l .height) cs flags gs totals tail past j s i))
       (svg-paths .heads (startTip (b .centre)) f0)
 
 pub paths-read : PathsRead

@@ -9,6 +9,7 @@ use borrow.Author.Tests.{ne-eqb}
 use lib.ListN.{set}
 use Rattle.laws.specs.Put.{put}
 use Rattle.laws.specs.Any.{anyOf}
+use Rattle.laws.specs.Loops.{over}
 use native.Mathlib.Numerals.{add-one}
 use Rattle.sheet.specs.Sheet.{next, chainBy}
 
@@ -58,3 +59,17 @@ module _ (s : List ℕ) where
     pub put-step : (n i k : ℕ) (l : List A) → (n ≡ 0 → ⊥) → (i ≡ 0 → ⊥) → put (set l k (f i)) (k + 1) (map f (chainBy s (n - 1) (next s i))) ≡ put l k (map f (chainBy s n i))
     unfolding put
     put-step n i k l h e = rw (chain-step n i h e, add-one)
+
+-- ---- a fold over what each record of a chain is
+module _ {A B : Type 0} (g : A → B → A) (s : List ℕ) (f : ℕ → B) (n i : ℕ) (a : A) where
+  pub things-end : i ≡ 0 → a ≡ over g a (map f (chainBy s n i))
+  unfolding over
+  things-end e = rw (chain-end s n i e)
+
+  pub things-cut : n ≡ 0 → a ≡ over g a (map f (chainBy s n i))
+  unfolding over
+  things-cut e = rw (chain-cut s n i e)
+
+  pub things-step : (b : A) → b ≡ g a (f i) → (n ≡ 0 → ⊥) → (i ≡ 0 → ⊥) → over g b (map f (chainBy s (n - 1) (next s i))) ≡ over g a (map f (chainBy s n i))
+  unfolding over
+  things-step b r h e = rw (chain-step s n i h e, r)

@@ -129,6 +129,8 @@ fn layouts() {
 }
 
 fn listing() {
+    say(b"no states:\n");
+    listed(b"\x01\0\0\0\0\0\0\0\0\0\0\0\0\0\0\0");
     say(b"a start state, a second state, an arrow 0 to 1 with the line `a`:\n");
     listed(
         b"\x01\0\x05\0\x01\0\x03\0\0\0\0\0\0\0\0\0\

@@ -48,6 +48,7 @@ use Rattle.fit.specs.Fit as FitFit
 use Rattle.layout.specs.Layout as LayoutLayout
 use Rattle.number.specs.Number as NumberNumber
 use Rattle.svg.specs.Paths as SvgPaths
+use Rattle.totals.specs.Totals as TotalsTotals
 use Rattle.drawing_text.specs.Lines as LinesLines
 use Rattle.draw.specs.Drawn as DrawDrawn
 use Rattle.float.specs.Constants.{whole}
@@ -58,6 +59,7 @@ use Rattle.label_spots.specs.declared.Geometry.{Geometry}
 use Rattle.beyond.specs.Beyond.{beyond}
 use Rattle.beyond.specs.Beyond as BeyondBeyond
 use Rattle.routing.specs.Sheets.{frameOf, recordsOf}
+use Rattle.totals.specs.Totals.{totalsOf}
 use Rattle.drawing_text.specs.Lines.{pathsText, pathsWritable, listText, listWritable}
 use Rattle.drawing_text.specs.Worked.{workedListing}
 use Rattle.draw.specs.Drawn.{farCentre}
@@ -94,9 +96,9 @@ pub record Computed : Type 0 where
   pub numbers : length (numbersOf smallRecords) ≡ 20
   pub paths : pathsText smallRecords ≡ path
   pub paths-ok : pathsWritable smallRecords ≡ true
-  pub text : listText (whole 244) (whole 76) (centres smallXs smallYs) (flagsOf smallGraph) smallRecords ≡ workedListing
-  pub text-ok : listWritable (whole 244) (whole 76) (centres smallXs smallYs) (flagsOf smallGraph) smallRecords ≡ true
+  pub text : listText (whole 244) (whole 76) (centres smallXs smallYs) (flagsOf smallGraph) smallRecords (totalsOf smallGraph smallRecords) ≡ workedListing
+  pub text-ok : listWritable (whole 244) (whole 76) (centres smallXs smallYs) (flagsOf smallGraph) smallRecords (totalsOf smallGraph smallRecords) ≡ true
 
 pub computed : Computed
-unfolding flatMap trailingZeros LawsBest.best LawsBest.totalFrom LawsCounting.howMany LawsFilter.filterBy LawsFlat.table LawsLoops.stepsFrom LawsLoops.up LawsLoops.down LawsLoops.anyFor LawsLoops.anyUp LawsLoops.over LawsRun.run LawsSort.insert LawsSort.sorted LawsZip.zipBy RootRoot.tryDigits RootRoot.wholeRoot RootRoot.nearestRoot RootRoot.scale RootRoot.rootBits FloatStandins.rootOf FloatStandins.root FloatStandins.round FloatStandins.reduced FloatStandins.series FloatStandins.sin FloatStandins.cos FloatStandins.arcSeries FloatStandins.arctangentOf FloatStandins.quarter FloatStandins.atan2 TextUtf8.payload TextUtf8.codesFrom TextDigits.digitsBy TextDigits.digits LawsAny.anyOf LabelLabel.charWidth LabelLabel.lineWidth LabelLabel.widerLine ShapeClipping.test ShapeClipping.side ShapeClipping.meets ShapeClipping.segmentHitsRect ShapeCurves.at ShapeCurves.tangent ShapePlane.unitOr ShapePlane.overlaps ShapePlane.touches ShapePlane.spanning ShapePlane.outside TraceTraces.sample TraceTraces.samples TraceTraces.boundsOf TraceTraces.traceOf TraceTraces.foreign TraceTraces.anySegment TraceTraces.hitsRect FreeBlocked.intervals FreeChords.chord FreeChords.othersFrom FreeFree.insideSome BowBend.singleBow BowBend.bend BowBend.leads BowBetween.straight BowBetween.withBow BowBetween.between SpotLabels.placeLabel SpotLabels.labelled SpotSpots.normal SpotSpots.isUp SpotSpots.upper SpotSpots.lineSpot SpotSpots.labelSpots PlaceScene.near26 PlaceScene.struck PlaceScene.boxCost PlaceTurn.boxAt RoutingRouting.numberedFrom RoutingRouting.kept RoutingRouting.joined RoutingRouting.routes RoutingRouting.firstScene RoutingRouting.order RoutingRouting.drawing RoutingRouting.records RoutingSheets.frameOf ClutterClutter.crossings ClutterClutter.near24 ClutterClutter.collides ClutterClutter.collisions ClutterClutter.clutterOf SheetMeaning.startFrom RingRing.largest RingRing.aroundRing RingRing.ringed ColumnsColumns.successors ColumnsColumns.elem ColumnsColumns.discover ColumnsColumns.explore ColumnsColumns.columnsAfter ColumnsColumns.reached ColumnsColumns.unreached ColumnsColumns.concat ColumnsColumns.columns SweepSweeps.centreColumn SweepSweeps.otherEnd SweepSweeps.neighbours SweepSweeps.slotTotal SweepSweeps.barycentre SweepSweeps.orderedColumn SweepSweeps.arrange SweepSweeps.sweepDown SweepSweeps.sweepUp SweepSweeps.fourSweeps SweepSweeps.swept LayeredLayered.columnGap LayeredLayered.row LayeredLayered.columnOf LayeredLayered.layeredXs LayeredLayered.layeredYs FitFit.statePoints FitFit.statesPoints FitFit.drawnPoints FitFit.covered FitFit.drawingBounds FitFit.shifted LayoutLayout.layers LayoutLayout.ring LayoutLayout.clutterAt LayoutLayout.isDense LayoutLayout.isTangled LayoutLayout.chosen LayoutLayout.fitted LayoutLayout.layoutOf NumberNumber.roundedSize NumberNumber.minusText NumberNumber.fraction NumberNumber.decimal NumberNumber.numText SvgPaths.headOf SvgPaths.pointText SvgPaths.pointsText SvgPaths.moreText SvgPaths.pathText SvgPaths.curveText SvgPaths.headText SvgPaths.pointsWritable SvgPaths.pathWritable LawsEvery.every LinesLines.pathLine LinesLines.pathsText LinesLines.pathsOf LinesLines.fieldText LinesLines.fieldsText LinesLines.bodyText LinesLines.lineText LinesLines.linesText LinesLines.fieldWritable LinesLines.fieldsWritable LinesLines.lineWritable LinesLines.linesWritable LinesLines.starts LinesLines.listLines LinesLines.pathsWritable LinesLines.statesFrom LinesLines.listText LinesLines.listWritable DrawDrawn.farCentre Ieee.add Ieee.sub Ieee.mul Ieee.div Ieee.rem Ieee.neg Ieee.lt Ieee.le Ieee.eq Ieee.ne Ieee.ofInt Ieee.round Ieee.size Ieee.span Ieee.climb Ieee.units Ieee.odd Ieee.sum Ieee.ofBits Ieee.ofFields Ieee.toBits Ieee.toUnsigned Ieee.isNan BeyondBeyond.isBeyond BeyondBeyond.beyond LayoutLayout.takesRing PlanMeasured.anyBeyond PlanMeasured.measured PlanMeasured.layoutBeyond ShapePlane.extended
+unfolding flatMap trailingZeros LawsBest.best LawsBest.totalFrom LawsCounting.howMany LawsFilter.filterBy LawsFlat.table LawsLoops.stepsFrom LawsLoops.up LawsLoops.down LawsLoops.anyFor LawsLoops.anyUp LawsLoops.over LawsRun.run LawsSort.insert LawsSort.sorted LawsZip.zipBy RootRoot.tryDigits RootRoot.wholeRoot RootRoot.nearestRoot RootRoot.scale RootRoot.rootBits FloatStandins.rootOf FloatStandins.root FloatStandins.round FloatStandins.reduced FloatStandins.series FloatStandins.sin FloatStandins.cos FloatStandins.arcSeries FloatStandins.arctangentOf FloatStandins.quarter FloatStandins.atan2 TextUtf8.payload TextUtf8.codesFrom TextDigits.digitsBy TextDigits.digits LawsAny.anyOf LabelLabel.charWidth LabelLabel.lineWidth LabelLabel.widerLine ShapeClipping.test ShapeClipping.side ShapeClipping.meets ShapeClipping.segmentHitsRect ShapeCurves.at ShapeCurves.tangent ShapePlane.unitOr ShapePlane.overlaps ShapePlane.touches ShapePlane.spanning ShapePlane.outside TraceTraces.sample TraceTraces.samples TraceTraces.boundsOf TraceTraces.traceOf TraceTraces.foreign TraceTraces.anySegment TraceTraces.hitsRect FreeBlocked.intervals FreeChords.chord FreeChords.othersFrom FreeFree.insideSome BowBend.singleBow BowBend.bend BowBend.leads BowBetween.straight BowBetween.withBow BowBetween.between SpotLabels.placeLabel SpotLabels.labelled SpotSpots.normal SpotSpots.isUp SpotSpots.upper SpotSpots.lineSpot SpotSpots.labelSpots PlaceScene.near26 PlaceScene.struck PlaceScene.boxCost PlaceTurn.boxAt RoutingRouting.numberedFrom RoutingRouting.kept RoutingRouting.joined RoutingRouting.routes RoutingRouting.firstScene RoutingRouting.order RoutingRouting.drawing RoutingRouting.records RoutingSheets.frameOf ClutterClutter.crossings ClutterClutter.near24 ClutterClutter.collides ClutterClutter.collisions ClutterClutter.clutterOf SheetMeaning.startFrom RingRing.largest RingRing.aroundRing RingRing.ringed ColumnsColumns.successors ColumnsColumns.elem ColumnsColumns.discover ColumnsColumns.explore ColumnsColumns.columnsAfter ColumnsColumns.reached ColumnsColumns.unreached ColumnsColumns.concat ColumnsColumns.columns SweepSweeps.centreColumn SweepSweeps.otherEnd SweepSweeps.neighbours SweepSweeps.slotTotal SweepSweeps.barycentre SweepSweeps.orderedColumn SweepSweeps.arrange SweepSweeps.sweepDown SweepSweeps.sweepUp SweepSweeps.fourSweeps SweepSweeps.swept LayeredLayered.columnGap LayeredLayered.row LayeredLayered.columnOf LayeredLayered.layeredXs LayeredLayered.layeredYs FitFit.statePoints FitFit.statesPoints FitFit.drawnPoints FitFit.covered FitFit.drawingBounds FitFit.shifted LayoutLayout.layers LayoutLayout.ring LayoutLayout.clutterAt LayoutLayout.isDense LayoutLayout.isTangled LayoutLayout.chosen LayoutLayout.fitted LayoutLayout.layoutOf NumberNumber.roundedSize NumberNumber.minusText NumberNumber.fraction NumberNumber.decimal NumberNumber.numText SvgPaths.headOf SvgPaths.pointText SvgPaths.pointsText SvgPaths.moreText SvgPaths.pathText SvgPaths.curveText SvgPaths.headText SvgPaths.pointsWritable SvgPaths.pathWritable LawsEvery.every TotalsTotals.totalsOf LinesLines.pathLine LinesLines.pathsText LinesLines.pathsOf LinesLines.fieldText LinesLines.fieldsText LinesLines.bodyText LinesLines.lineText LinesLines.linesText LinesLines.fieldWritable LinesLines.fieldsWritable LinesLines.lineWritable LinesLines.linesWritable LinesLines.starts LinesLines.listLines LinesLines.pathsWritable LinesLines.statesFrom LinesLines.listText LinesLines.listWritable DrawDrawn.farCentre Ieee.add Ieee.sub Ieee.mul Ieee.div Ieee.rem Ieee.neg Ieee.lt Ieee.le Ieee.eq Ieee.ne Ieee.ofInt Ieee.round Ieee.size Ieee.span Ieee.climb Ieee.units Ieee.odd Ieee.sum Ieee.ofBits Ieee.ofFields Ieee.toBits Ieee.toUnsigned Ieee.isNan BeyondBeyond.isBeyond BeyondBeyond.beyond LayoutLayout.takesRing PlanMeasured.anyBeyond PlanMeasured.measured PlanMeasured.layoutBeyond ShapePlane.extended
 computed = record { laid = refl; within = refl; near = refl; single = refl; numbers = refl; paths = refl; paths-ok = refl; text = refl; text-ok = refl }

@@ -21,6 +21,7 @@ use Rattle.sheet.specs.Examples.{small, small-means}
 use Rattle.shape.specs.Centres.{centres}
 use Rattle.beyond.specs.Beyond.{beyond}
 use Rattle.routing.specs.Sheets.{frameOf, recordsOf}
+use Rattle.totals.specs.Totals.{totalsOf}
 use Rattle.drawing_text.specs.Lines.{pathsText, pathsWritable, listText, listWritable}
 use Rattle.drawing_text.specs.Worked.{workedListing}
 use Rattle.draw.specs.Drawn.{farCentre}
@@ -41,8 +42,8 @@ pub record WorkedCalls : Type 0 where
   pub routes : (n m : ℕ) → 20 ≤ n → 17 ≤ m → route small smallXs smallYs n m ≡ values (20, 17)
   pub paths : (n : ℕ) (t : List ℕ) → 20 ≤ n → 17 ≤ length t → textAfter small smallXs smallYs n t ≡ onto path t
   -- `list` as Auto: the output, whole
-  pub lists : (n : ℕ) → 180 ≤ n → list small 0 n ≡ values 180
-  pub text : (out : List ℕ) → 180 ≤ length out → listAfter small 0 out ≡ onto workedListing out
+  pub lists : (n : ℕ) → 196 ≤ n → list small 0 n ≡ values 196
+  pub text : (out : List ℕ) → 196 ≤ length out → listAfter small 0 out ≡ onto workedListing out
 
 -- ---- what refuses nothing
 
@@ -74,10 +75,10 @@ route-clear n m h i =
 
 listing-is : listing small 0 ≡ workedListing
 listing-is =
-    ap₂ (λ (g : Graph) (l : Layout). listText (l .width) (l .height) (centres (l .xs) (l .ys)) (flagsOf g) (recordsOf g (l .xs) (l .ys))) small-means laid
+    ap₂ (λ (g : Graph) (l : Layout). listText (l .width) (l .height) (centres (l .xs) (l .ys)) (flagsOf g) (recordsOf g (l .xs) (l .ys)) (totalsOf g (recordsOf g (l .xs) (l .ys)))) small-means laid
     ∙ computed .text
 
-list-clear : (n : ℕ) → 180 ≤ n → Clear (listRefusals small 0 n)
+list-clear : (n : ℕ) → 196 ≤ n → Clear (listRefusals small 0 n)
 list-clear n h =
     let g : Graph = meaning small in
     let p : Layout = layoutFor small 0 in
@@ -87,10 +88,10 @@ list-clear n h =
     let single : (layoutBeyond 0 (planOf g) || beyond (frameOf g (p .xs) (p .ys))) ≡ false =
     ap₂ (λ (g : Graph) (l : Layout). layoutBeyond 0 (planOf g) || beyond (frameOf g (l .xs) (l .ys))) small-means laid
     ∙ or-none _ _ (computed .within) (computed .single) in
-    let ok : not (listWritable (p .width) (p .height) (centres (p .xs) (p .ys)) (flagsOf g) (drawnOf small (p .xs) (p .ys))) ≡ false =
-    ap₂ (λ (g : Graph) (l : Layout). not (listWritable (l .width) (l .height) (centres (l .xs) (l .ys)) (flagsOf g) (recordsOf g (l .xs) (l .ys)))) small-means laid
+    let ok : not (listWritable (p .width) (p .height) (centres (p .xs) (p .ys)) (flagsOf g) (drawnOf small (p .xs) (p .ys)) (totalsOf g (drawnOf small (p .xs) (p .ys)))) ≡ false =
+    ap₂ (λ (g : Graph) (l : Layout). not (listWritable (l .width) (l .height) (centres (l .xs) (l .ys)) (flagsOf g) (recordsOf g (l .xs) (l .ys)) (totalsOf g (recordsOf g (l .xs) (l .ys))))) small-means laid
     ∙ ap not (computed .text-ok) in
-    let o : short n (listing small 0) ≡ false = ap (short n) listing-is ∙ le-ltb n 180 h in
+    let o : short n (listing small 0) ≡ false = ap (short n) listing-is ∙ le-ltb n 196 h in
     clear-from _ _ (refusals mainScreen small) (without 11 refl (without 8 near (without 9 single (without 10 ok (without 7 o clear-none))))) sheet-clear refl
 
 -- ---- what is answered and left
@@ -123,11 +124,11 @@ paths n t h i =
     ∙ ap (λ (g : Graph). onto (pathsText (recordsOf g smallXs smallYs)) t) small-means
     ∙ ap (λ (p : List ℕ). onto p t) (computed .paths)
 
-lists : (n : ℕ) → 180 ≤ n → list small 0 n ≡ values 180
+lists : (n : ℕ) → 196 ≤ n → list small 0 n ≡ values 196
 unfolding list
 lists n h = clear-decides number _ (listRefusals small 0 n) (list-clear n h) ∙ ap (λ (t : List ℕ). values (length t)) listing-is
 
-text : (out : List ℕ) → 180 ≤ length out → listAfter small 0 out ≡ onto workedListing out
+text : (out : List ℕ) → 196 ≤ length out → listAfter small 0 out ≡ onto workedListing out
 unfolding listAfter
 text out h = clear-decides (λ (k : ℕ). out) _ (listRefusals small 0 (length out)) (list-clear (length out) h) ∙ ap (λ (t : List ℕ). onto t out) listing-is
 
@@ -137,10 +138,10 @@ worked-calls = record { lays = lays; across = across; down = down; routes = rout
 -- ---- so the claims of `demand3` and `listing_shows` are about something
 
 abbrev pub workedLent : Lent
-workedLent = record { sheet = small; kind = 0; xs = replicate 2 (whole 0); ys = replicate 2 (whole 0); records = replicate 20 (whole 0); text = replicate 17 0; out = replicate 180 0 }
+workedLent = record { sheet = small; kind = 0; xs = replicate 2 (whole 0); ys = replicate 2 (whole 0); records = replicate 20 (whole 0); text = replicate 17 0; out = replicate 196 0 }
 
 pub worked-listed : ListAnswered workedLent
-worked-listed = record { bytes = 180; answer = worked-calls .lists 180 (omega arith) }
+worked-listed = record { bytes = 196; answer = worked-calls .lists 196 (omega arith) }
 
 abbrev pub laid-out : LayoutAnswered workedLent
 laid-out = record { states = 2; width = whole 244; height = whole 76; answer = worked-calls .lays 2 2 (omega arith) (omega arith) }

@@ -26,17 +26,29 @@ enum-known-drawn c = search needs
 enum-known-drawn-2 : tie.Need-enum-known-drawn-2
 enum-known-drawn-2 c = search needs
 
+slice-aggregate-totals-of : tie.Need-slice-aggregate-totals-of
+slice-aggregate-totals-of c = search needs
+
+totals-of-requires : tie.Need-totals-of-requires
+totals-of-requires c κs =
+    let a = c .before .before .before .before .before .before .before .before .before .before .before .before .before .before .before .before .args in
+    held (now (a .sheet)) (now (a .xs)) (now (a .ys)) (c .before .before .drawn2 .given .0 .0) _ _ (omega arith) (sym (c .before .before .drawn2 .given .1) ∙ c .before .before .before .before .before .draw .ensures .0) (c .before .before .before .before .before .draw .ensures .1) .room
+
 slice-aggregate-write-listing : tie.Need-slice-aggregate-write-listing
 slice-aggregate-write-listing c = search needs
 
 write-listing-requires : tie.Need-write-listing-requires
-write-listing-requires c κs = (omega arith, omega arith, held (now (c .before .before .before .before .before .before .before .before .before .before .before .before .before .before .before .before .before .before .args .sheet)) (now (c .before .before .before .before .before .before .before .before .before .before .before .before .before .before .before .before .before .before .args .xs)) (now (c .before .before .before .before .before .before .before .before .before .before .before .before .before .before .before .before .before .before .args .ys)) (c .before .before .before .before .drawn2 .given .0 .0) _ _ (omega arith) (sym (c .before .before .before .before .drawn2 .given .1) ∙ c .before .before .before .before .before .before .before .draw .ensures .0) (c .before .before .before .before .before .before .before .draw .ensures .1) .room)
+write-listing-requires c κs =
+    let a = c .before .before .before .before .before .before .before .before .before .before .before .before .before .before .before .before .before .before .before .before .args in
+    (omega arith, omega arith, held (now (a .sheet)) (now (a .xs)) (now (a .ys)) (c .before .before .before .before .before .before .drawn2 .given .0 .0) _ _ (omega arith) (sym (c .before .before .before .before .before .before .drawn2 .given .1) ∙ c .before .before .before .before .before .before .before .before .before .draw .ensures .0) (c .before .before .before .before .before .before .before .before .before .draw .ensures .1) .room)
 
 same-length : tie.Need-same-length
 same-length c = search needs
 
 returns : tie.Need-returns
-returns c = at-refused (now (c .before .before .before .before .before .before .before .before .before .before .before .before .before .before .before .args .sheet)) (c .before .before .before .before .before .before .before .before .before .before .before .before .before .before .before .args .width) (c .before .before .before .before .before .before .before .before .before .before .before .before .before .before .before .args .height) (now (c .before .before .before .before .before .before .before .before .before .before .before .before .before .before .before .args .xs)) (now (c .before .before .before .before .before .before .before .before .before .before .before .before .before .before .before .args .ys)) (now (c .before .before .before .before .before .before .before .before .before .before .before .before .before .before .before .args .out)) (c .before .drawn .given .0 .0) (sym (c .before .drawn .given .1) ∙ c .before .before .before .before .draw .ensures .0)
+returns c =
+    let a = c .before .before .before .before .before .before .before .before .before .before .before .before .before .before .before .args in
+    at-refused (now (a .sheet)) (a .width) (a .height) (now (a .xs)) (now (a .ys)) (now (a .out)) (c .before .drawn .given .0 .0) (sym (c .before .drawn .given .1) ∙ c .before .before .before .before .draw .ensures .0)
 
 same-length-2 : tie.Need-same-length-2
 same-length-2 c = search needs
@@ -45,7 +57,12 @@ same-length-3 : tie.Need-same-length-3
 same-length-3 c = search needs
 
 returns-2 : tie.Need-returns-2
-returns-2 c = at-drawn (now (c .before .before .before .before .before .before .before .before .before .before .before .before .before .before .before .before .before .before .before .before .before .args .sheet)) (c .before .before .before .before .before .before .before .before .before .before .before .before .before .before .before .before .before .before .before .before .before .args .width) (c .before .before .before .before .before .before .before .before .before .before .before .before .before .before .before .before .before .before .before .before .before .args .height) (now (c .before .before .before .before .before .before .before .before .before .before .before .before .before .before .before .before .before .before .before .before .before .args .xs)) (now (c .before .before .before .before .before .before .before .before .before .before .before .before .before .before .before .before .before .before .before .before .before .args .ys)) (now (c .before .before .before .before .before .before .before .before .before .before .before .before .before .before .before .before .before .before .before .before .before .args .out)) (c .before .before .before .before .before .before .before .drawn2 .given .0 .0) _ (held (now (c .before .before .before .before .before .before .before .before .before .before .before .before .before .before .before .before .before .before .before .before .before .args .sheet)) (now (c .before .before .before .before .before .before .before .before .before .before .before .before .before .before .before .before .before .before .before .before .before .args .xs)) (now (c .before .before .before .before .before .before .before .before .before .before .before .before .before .before .before .before .before .before .before .before .before .args .ys)) (c .before .before .before .before .before .before .before .drawn2 .given .0 .0) _ _ (omega arith) (sym (c .before .before .before .before .before .before .before .drawn2 .given .1) ∙ c .before .before .before .before .before .before .before .before .before .before .draw .ensures .0) (c .before .before .before .before .before .before .before .before .before .before .draw .ensures .1)) _ (c .before .before .before .before .before .before .before .before .before .before .before .before .before .before .flags-into .ensures ∙ put-whole (now (c .before .before .before .before .before .before .before .before .before .before .before .before .before .before .before .before .before .before .before .before .before .args .flags)) (flagsOf (meaning (now (c .before .before .before .before .before .before .before .before .before .before .before .before .before .before .before .before .before .before .before .before .before .args .sheet)))) (omega (arith, length-map (statesOf (now (c .before .before .before .before .before .before .before .before .before .before .before .before .before .before .before .before .before .before .before .before .before .args .sheet))) (λ a. a .flags)))) _ _ (c .before .before .write-listing .ensures)
+returns-2 c =
+    let a = c .before .before .before .before .before .before .before .before .before .before .before .before .before .before .before .before .before .before .before .before .before .before .before .args in
+    let s = now (a .sheet) in
+    at-drawn s (a .width) (a .height) (now (a .xs)) (now (a .ys)) (now (a .out)) (c .before .before .before .before .before .before .before .before .before .drawn2 .given .0 .0) _
+    (held s (now (a .xs)) (now (a .ys)) (c .before .before .before .before .before .before .before .before .before .drawn2 .given .0 .0) _ _ (omega arith) (sym (c .before .before .before .before .before .before .before .before .before .drawn2 .given .1) ∙ c .before .before .before .before .before .before .before .before .before .before .before .before .draw .ensures .0) (c .before .before .before .before .before .before .before .before .before .before .before .before .draw .ensures .1)) _
+    (c .before .before .before .before .before .before .before .before .before .before .before .before .before .before .before .before .flags-into .ensures ∙ put-whole (now (a .flags)) (flagsOf (meaning s)) (omega (arith, length-map (statesOf s) (λ a. a .flags), c .before .before .before .before .before .before .before .before .before .before .before .before .before .before .before .before .before .before .before .before .before .before .before .pre .1, c .before .before .before .before .before .before .before .before .before .before .before .before .before .before .before .before .before .before .before .before .before .before .before .pre .2))) _ (c .before .before .before .before .before .before .totals-of .ensures) _ _ (c .before .before .write-listing .ensures)
 
 pub list-by-spec : {M : Type 1} → statement M
 list-by-spec =
@@ -56,6 +73,8 @@ list-by-spec =
     draw-requires
     enum-known-drawn
     enum-known-drawn-2
+    slice-aggregate-totals-of
+    totals-of-requires
     slice-aggregate-write-listing
     write-listing-requires
     same-length

@@ -7,7 +7,8 @@ use denote.Ref.{now}
 use Rattle.laws.specs.Loops.{over}
 use Rattle.sheet.specs.Sheet.{chainBy, lineOf, linesFrom}
 use Rattle.label.specs.Label.{widerLine, blockWidth}
-use Rattle.label.proofs.Laws.{things-end, things-cut, things-step, block-start, wider-measured}
+use Rattle.sheet.specs.Chains.{things-end, things-cut, things-step}
+use Rattle.label.proofs.Laws.{block-start, wider-measured}
 use borrow.Author.Needs.{needs}
 use Rattle.label.proofs.widest.Statement.{statement}
 use Rattle.label.proofs.widest.Tie as tie

@@ -1,0 +1,222 @@
+-- The totals of a listing are counts over its sheet and its records. Assumes nothing.
+use mathlib.Core.Path.{_≡_, refl, sym, ap, ap₂, _∙_}
+use mathlib.Core.Bool.{Bool, true, false, cond, not, _&&_, _||_}
+use mathlib.Core.List.{List, [], _∷_, map, flatMap}
+use Prim.Native.Nat.{ℕ, suc, _+_, _*_, _/_, _<_, _≤_}
+use native.Mathlib.Omega.{arith}
+use lib.Dec.{ltb, eqb}
+use lib.ListN.{length, getD, length-map}
+use lib.Ieee.{Float, nan, ofBits}
+use lib.Ieee as Ieee
+use Rattle.laws.specs.Cases.{by-bool}
+use Rattle.laws.specs.Counting.{howMany, howMany-map, howMany-chosen, howMany-same, howMany-both, howMany-rest}
+use Rattle.laws.specs.Flat.{table}
+use Rattle.laws.specs.Tables.{table-of}
+use Rattle.laws.specs.Joined.{map-flat}
+use Rattle.float.specs.Ops.{eq}
+use Rattle.float.specs.Constants.{f0, f2, f3, f4, whole}
+use Rattle.shape.specs.declared.Curve.{Curve}
+use Rattle.shape.specs.declared.Curve.the-variants.{Line, Quad, Cubic}
+use Rattle.sheet.specs.Sheet.{Arrow, Graph, meaning}
+use Rattle.sheet.specs.Meaning.{endsBelow, isKept}
+use Rattle.free.specs.declared.Chord.{Chord}
+use Rattle.bend.specs.Between.{straight, bowed, withBow, between}
+use Rattle.label_spots.specs.declared.Geometry.{Geometry}
+use Rattle.label_spots.specs.Labels.{labelled}
+use Rattle.directions.specs.Loop.{loopCurve}
+use Rattle.self_loop.specs.Looped.{loopAt}
+use Rattle.records.specs.Records.{cornersOf, fields, decodeGeometry}
+use Rattle.routing.specs.Routing.{Frame, BlockSize, Numbered, numberedFrom, numberedBy, numbered, numberedAt, isKeptIn, isLoop, joined, routeOf, isArc, arcShape, Item, loop, label, edgeOf, order, noItem, itemFor, drawnBy, drawnFor, drawing, records}
+use Rattle.routing.specs.Sheets.{endsOf, frameOf, sizesOf, recordsOf}
+use Rattle.routing_laws.specs.Numbers.{flat-numbered}
+use Rattle.routing_laws.specs.Slots.{records-each}
+use Rattle.routing_laws.specs.Demand.{sizeAt, recordFor, record-drawn, turnAt, placeAt, kept-turn, record-held}
+use Rattle.laws.specs.Places.{At}
+use Rattle.totals.specs.Totals.{pointCount, hasPoints, isLeftOut, labelLines, totalsOf}
+use Rattle.demand3.specs.Demand.{Call, Answered, recordAt}
+use Rattle.demand3.specs.Proof.{callRecords, record-is}
+use Rattle.listing_shows.specs.Shown.{Lent, ListAnswered, LayoutAnswered, routeCall, recordsRead, totalsRead}
+use Rattle.listing_shows.specs.Totalled.{pointNumbers, recordsWith, endMissing, endsSame, endsDiffer, Totalled, ListingTotals}
+use Rattle.listing_shows.specs.Proof.{numbers-many, read-back, listing-shows}
+
+-- ---- the points of each record
+
+abbrev pointsOf : Geometry → ℕ
+pointsOf g = pointCount (g .curve)
+
+-- of a kept arrow: a loop has four, an arc three, a straight arrow two
+abbrev pointsFor : Frame → Numbered → ℕ
+pointsFor f a = cond (isLoop a) 4 (cond (isArc (routeOf f a)) 3 2)
+
+bow-points : (c : Chord) (h : Float) → pointCount (withBow c h .curve) ≡ cond (arcShape (withBow c h .shape)) 3 2
+unfolding withBow straight bowed
+bow-points c h = by-bool (eq h f0) (λ t. rw t) (λ t. rw t)
+
+joined-points : (f : Frame) (a : Numbered) → pointCount (joined f a .curve) ≡ cond (isArc (routeOf f a)) 3 2
+unfolding joined between
+joined-points f a = bow-points _ _
+
+loop-points : (f : Frame) (a : Numbered) (z : BlockSize) (j : ℕ) → pointsOf (drawnBy f (loop a) z j) ≡ 4
+unfolding loopAt labelled loopCurve
+loop-points f a z j = refl
+
+label-points : (f : Frame) (a : Numbered) (z : BlockSize) (j : ℕ) → pointsOf (drawnBy f (label (routeOf f a)) z j) ≡ cond (isArc (routeOf f a)) 3 2
+unfolding labelled
+label-points f a z j = joined-points f a
+
+module _ (f : Frame) (sizes : List BlockSize) where
+  -- at turn t, which is i
+  turn-points : (t : ℕ) (i : Item) → t < length (order f) → turnAt f t ≡ i
+      → map pointsOf (recordFor f sizes (edgeOf i)) ≡ pointsOf (drawnBy f i (sizeAt f sizes noItem t) (placeAt f sizes t)) ∷ []
+  turn-points t i h e =
+      ap (λ (i : Item). map pointsOf (recordFor f sizes (edgeOf i))) (sym e)
+      ∙ ap (map pointsOf) (record-held f sizes t h)
+      ∙ ap (λ (i : Item). pointsOf (drawnBy f i (sizeAt f sizes noItem t) (placeAt f sizes t)) ∷ []) e
+
+  record-points : (k : ℕ) → k < length (f .arrows) → map pointsOf (recordFor f sizes k) ≡ cond (isKeptIn f (numberedAt f k)) (pointsFor f (numberedAt f k) ∷ []) []
+  record-points k h =
+      let a : Numbered = numberedAt f k in
+      by-bool (isKeptIn f a)
+      (λ c.
+      let at : At (order f) noItem (itemFor f a) = kept-turn f k h c in
+      by-bool (isLoop a)
+      (λ b.
+      let e : turnAt f (at .place) ≡ loop a = at .there ∙ ap (λ (b : Bool). cond b (loop a) (label (routeOf f a))) b in
+      rw (c, b) (turn-points (at .place) (loop a) (at .inside) e ∙ ap (λ (n : ℕ). n ∷ []) (loop-points f a (sizeAt f sizes noItem (at .place)) (placeAt f sizes (at .place)))))
+      (λ b.
+      let e : turnAt f (at .place) ≡ label (routeOf f a) = at .there ∙ ap (λ (b : Bool). cond b (loop a) (label (routeOf f a))) b in
+      rw (c, b)
+      (turn-points (at .place) (label (routeOf f a)) (at .inside) e ∙ ap (λ (n : ℕ). n ∷ []) (label-points f a (sizeAt f sizes noItem (at .place)) (placeAt f sizes (at .place))))))
+      (λ c.
+      let none : recordFor f sizes k ≡ [] = rw c at (record-drawn f sizes k h) in
+      rw c (ap (map pointsOf) none))
+
+  all-points : map pointsOf (records f sizes) ≡ flatMap (λ a. cond (isKeptIn f a) (pointsFor f a ∷ []) []) (numbered f)
+  all-points =
+      ap (map pointsOf) (records-each f sizes)
+      ∙ map-flat pointsOf (λ a. cond (isKeptIn f a) (drawnFor (drawing f sizes) a) []) (numbered f)
+      ∙ flat-numbered _ _ f (λ k h. ap (map pointsOf) (sym (record-drawn f sizes k h)) ∙ record-points k h)
+
+  points-many : (n : ℕ) → howMany (hasPoints n) (records f sizes) ≡ howMany (λ a. isKeptIn f a && eqb (pointsFor f a) n) (numbered f)
+  points-many n =
+      sym (howMany-map (λ m. eqb m n) pointsOf (records f sizes))
+      ∙ ap (howMany (λ m. eqb m n)) all-points
+      ∙ howMany-chosen (λ m. eqb m n) (isKeptIn f) (pointsFor f) (numbered f)
+
+-- ---- over the arrows of the sheet
+
+numbered-many : (p : Numbered → Bool) (q : Arrow → Bool) → ((k : ℕ) (a : Arrow) → p (numberedBy k (endsOf a)) ≡ q a)
+    → (k : ℕ) (l : List Arrow) → howMany p (numberedFrom k (map endsOf l)) ≡ howMany q l
+unfolding howMany numberedFrom
+numbered-many p q h k [] = refl
+numbered-many p q h k (a ∷ l) = ap₂ (λ (b : Bool) (n : ℕ). cond b 1 0 + n) (h k a) (numbered-many p q h (suc k) l)
+
+-- by whether an arrow is kept, a loop, an arc
+four-points : (k l r : Bool) → (k && eqb (cond l 4 (cond r 3 2)) 4) ≡ (k && l)
+four-points false l r = refl
+four-points true true r = refl
+four-points true false true = refl
+four-points true false false = refl
+
+fewer-points : (k l r : Bool) → cond (k && eqb (cond l 4 (cond r 3 2)) 2) 1 0 + cond (k && eqb (cond l 4 (cond r 3 2)) 3) 1 0 ≡ cond (k && not l) 1 0
+fewer-points false l r = refl
+fewer-points true true r = refl
+fewer-points true false true = refl
+fewer-points true false false = refl
+
+kept-ends : (k s : Bool) → cond (k && not s) 1 0 + cond (k && s) 1 0 ≡ cond k 1 0
+kept-ends false s = refl
+kept-ends true true = refl
+kept-ends true false = refl
+
+not-both : (a b : Bool) → not (a && b) ≡ (not a || not b)
+not-both true b = refl
+not-both false b = refl
+
+module _ (g : Graph) (xs ys : List Float) where
+  abbrev gs : List Geometry
+  gs = recordsOf g xs ys
+
+  kept-is : (k : ℕ) (a : Arrow) → isKeptIn (frameOf g xs ys) (numberedBy k (endsOf a)) ≡ isKept g a
+  unfolding frameOf
+  kept-is k a = ap (λ (n : ℕ). endsBelow n (a .source) (a .target)) (length-map (g .states) (λ s. s .flags))
+
+  arrows-many : (p : Numbered → Bool) (q : Arrow → Bool) → ((k : ℕ) (a : Arrow) → p (numberedBy k (endsOf a)) ≡ q a) → howMany p (numbered (frameOf g xs ys)) ≡ howMany q (g .arrows)
+  unfolding frameOf
+  arrows-many p q h = numbered-many p q h 0 (g .arrows)
+
+  loops-are : howMany (hasPoints 4) gs ≡ howMany (endsSame g) (g .arrows)
+  loops-are =
+      let f : Frame = frameOf g xs ys in
+      points-many f (sizesOf g) 4
+      ∙ arrows-many _ (endsSame g)
+      (λ k a.
+      let n : Numbered = numberedBy k (endsOf a) in
+      four-points (isKeptIn f n) (isLoop n) (isArc (routeOf f n)) ∙ ap (λ (b : Bool). b && eqb (a .source) (a .target)) (kept-is k a))
+
+  others-are : howMany (hasPoints 2) gs + howMany (hasPoints 3) gs ≡ howMany (endsDiffer g) (g .arrows)
+  others-are =
+      let f : Frame = frameOf g xs ys in
+      ap₂ (λ (m n : ℕ). m + n) (points-many f (sizesOf g) 2) (points-many f (sizesOf g) 3)
+      ∙ howMany-both _ _ (λ n. isKeptIn f n && not (isLoop n)) (numbered f) (λ n. fewer-points (isKeptIn f n) (isLoop n) (isArc (routeOf f n)))
+      ∙ arrows-many _ (endsDiffer g) (λ k a. ap (λ (b : Bool). b && not (eqb (a .source) (a .target))) (kept-is k a))
+
+  missing-are : howMany (isLeftOut g) (g .arrows) ≡ howMany (endMissing g) (g .arrows)
+  missing-are = howMany-same (isLeftOut g) (endMissing g) (g .arrows) (λ a. not-both (ltb (a .source) (length (g .states))) (ltb (a .target) (length (g .states))))
+
+  kept-are : howMany (endsDiffer g) (g .arrows) + howMany (endsSame g) (g .arrows) ≡ howMany (isKept g) (g .arrows)
+  kept-are = howMany-both (endsDiffer g) (endsSame g) (isKept g) (g .arrows) (λ a. kept-ends (isKept g a) (eqb (a .source) (a .target)))
+
+  all-are : howMany (hasPoints 2) gs + howMany (hasPoints 3) gs + howMany (hasPoints 4) gs + howMany (isLeftOut g) (g .arrows) ≡ length (g .arrows)
+  all-are = omega (arith, others-are, loops-are, kept-are, howMany-rest (isKept g) (g .arrows))
+
+-- ---- over the records as they are left
+
+-- the written numbers of points are n where the numbers are
+abbrev Tells : ℕ → Type 0
+Tells n = (eq f2 (whole n) ≡ eqb 2 n) × (eq f3 (whole n) ≡ eqb 3 n) × (eq f4 (whole n) ≡ eqb 4 n)
+
+tells : Tells 2 × Tells 3 × Tells 4
+unfolding ofBits Ieee.ofFields Ieee.eq Ieee.round Ieee.size Ieee.span Ieee.climb Ieee.units Ieee.odd
+tells = ((refl, refl, refl), (refl, refl, refl), (refl, refl, refl))
+
+point-number : (n : ℕ) → Tells n → (c : Curve) → eq (cornersOf c .n) (whole n) ≡ eqb (pointCount c) n
+point-number n t (Line p q) = t .0
+point-number n t (Quad p c q) = t .1
+point-number n t (Cubic p c d q) = t .2
+
+module _ (r : Call) (a : Answered r) where
+  numbers-are : pointNumbers r a ≡ map (λ (g : Geometry). cornersOf (g .curve) .n) (callRecords r)
+  numbers-are =
+      let d : Geometry = decodeGeometry [] in
+      let m : a .numbers / 20 ≡ length (callRecords r) = omega (arith, numbers-many r a) in
+      ap (table (λ k. getD (recordAt r k) 1 nan) 0) m
+      ∙ table-of _ (λ (g : Geometry). cornersOf (g .curve) .n) (callRecords r) d (λ k h. ap (λ (l : List Float). getD l 1 nan) (record-is r a k d h))
+
+  records-with : (n : ℕ) → Tells n → howMany (hasPoints n) (recordsRead r a) ≡ recordsWith r a n
+  records-with n t =
+      ap (howMany (hasPoints n)) (read-back r a)
+      ∙ howMany-same (hasPoints n) (λ g. eq (cornersOf (g .curve) .n) (whole n)) (callRecords r) (λ g. sym (point-number n t (g .curve)))
+      ∙ sym (howMany-map (λ v. eq v (whole n)) (λ (g : Geometry). cornersOf (g .curve) .n) (callRecords r))
+      ∙ ap (howMany (λ v. eq v (whole n))) (sym numbers-are)
+
+-- ---- the claim
+
+pub listing-totals : ListingTotals
+unfolding totalsOf
+listing-totals c a l r =
+    let d : Call = routeCall c l in
+    let g : Graph = meaning (c .sheet) in
+    let back : (n : ℕ) → howMany (hasPoints n) (recordsRead d r) ≡ howMany (hasPoints n) (callRecords d) = λ n. ap (howMany (hasPoints n)) (read-back d r) in
+    record {
+      totals = totalsRead d r;
+      line = listing-shows .shows c a l r .total;
+      straight = records-with d r 2 (tells .0);
+      arcs = records-with d r 3 (tells .1);
+      loops = records-with d r 4 (tells .2);
+      left-out = missing-are g (d .xs) (d .ys);
+      lines = refl;
+      same-ends = back 4 ∙ loops-are g (d .xs) (d .ys);
+      other-ends = ap₂ (λ (m n : ℕ). m + n) (back 2) (back 3) ∙ others-are g (d .xs) (d .ys);
+      all = omega (arith, back 2, back 3, back 4, all-are g (d .xs) (d .ys));
+    }

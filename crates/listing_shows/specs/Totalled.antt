@@ -1,0 +1,69 @@
+-- Document 02, T-01: "Each number equals what a count over the sheet and the records gives. The first four add up to the sheet's arrows." On what `list` leaves in its slice, and what `route`
+-- leaves at the layout's centres. Here is what it says; `listing-totals` of Counted proves it.
+use mathlib.Core.Path.{_≡_}
+use mathlib.Core.Bool.{Bool, not, _&&_, _||_}
+use mathlib.Core.List.{List}
+use Prim.Native.Nat.{ℕ, _+_, _/_}
+use lib.Dec.{ltb, eqb}
+use lib.ListN.{length, getD}
+use lib.Ieee.{Float, nan}
+use Rattle.laws.specs.Counting.{howMany}
+use Rattle.laws.specs.Flat.{table}
+use Rattle.float.specs.Ops.{eq}
+use Rattle.float.specs.Constants.{whole}
+use Rattle.sheet.specs.Sheet.{Arrow, Graph, meaning}
+use Rattle.sheet.specs.Meaning.{isKept}
+use Rattle.totals.specs.declared.Totals.{Totals}
+use Rattle.totals.specs.Totals.{labelLines}
+use Rattle.demand3.specs.Demand.{Call, Answered, recordAt}
+use Rattle.listing_shows.specs.Shown.{Lent, ListAnswered, LayoutAnswered, routeCall, wrote, lastLine, totalText}
+
+-- ---- over the records that `route` leaves
+
+-- "2, 3 or 4 points", the second of a record's twenty: that of each record
+abbrev pub pointNumbers : (r : Call) → Answered r → List Float
+pointNumbers r a = table (λ k. getD (recordAt r k) 1 nan) 0 (a .numbers / 20)
+
+-- how many records have n points
+abbrev pub recordsWith : (r : Call) → Answered r → ℕ → ℕ
+recordsWith r a n = howMany (λ v. eq v (whole n)) (pointNumbers r a)
+
+-- ---- over the arrows of the sheet
+
+-- an end that is no state
+abbrev pub endMissing : Graph → Arrow → Bool
+endMissing g a = not (ltb (a .source) (length (g .states))) || not (ltb (a .target) (length (g .states)))
+
+-- both ends the same state
+abbrev pub endsSame : Graph → Arrow → Bool
+endsSame g a = isKept g a && eqb (a .source) (a .target)
+
+-- two different states
+abbrev pub endsDiffer : Graph → Arrow → Bool
+endsDiffer g a = isKept g a && not (eqb (a .source) (a .target))
+
+-- how many arrows of a sheet there are of a sort
+abbrev pub arrowsWith : Lent → (Graph → Arrow → Bool) → ℕ
+arrowsWith c test = howMany (test (meaning (c .sheet))) (meaning (c .sheet) .arrows)
+
+-- ---- the claim: for all byte lists, kinds and lent slices
+
+pub record Totalled (c : Lent) (a : ListAnswered c) (l : LayoutAnswered c) (r : Answered (routeCall c l)) : Type 0 where
+  -- "The listing ends with a line `total`, then the numbers of straight arrows, arcs, loops, left-out arrows and label lines."
+  pub totals : Totals
+  pub line : lastLine (wrote c a) ≡ totalText totals
+  -- "Each number equals what a count over the sheet and the records gives."
+  pub straight : totals .straight ≡ recordsWith (routeCall c l) r 2
+  pub arcs : totals .arcs ≡ recordsWith (routeCall c l) r 3
+  pub loops : totals .loops ≡ recordsWith (routeCall c l) r 4
+  pub left-out : totals .«left_out» ≡ arrowsWith c endMissing
+  -- "Label lines of left-out arrows are not counted."
+  pub lines : totals .lines ≡ length (labelLines (meaning (c .sheet)))
+  -- loops over the sheet alone; straight arrows and arcs together are the arrows between two different states
+  pub same-ends : totals .loops ≡ arrowsWith c endsSame
+  pub other-ends : totals .straight + totals .arcs ≡ arrowsWith c endsDiffer
+  -- "The first four add up to the sheet's arrows."
+  pub all : totals .straight + totals .arcs + totals .loops + totals .«left_out» ≡ length (meaning (c .sheet) .arrows)
+
+abbrev pub ListingTotals : Type 0
+ListingTotals = (c : Lent) (a : ListAnswered c) (l : LayoutAnswered c) (r : Answered (routeCall c l)) → Totalled c a l r
