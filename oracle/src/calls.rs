@@ -320,6 +320,28 @@ mod tests {
         assert_eq!(String::from_utf8(empty).unwrap(), "size 32 32\ntotal 0 0 0 0 0\n");
     }
 
+    /// A straight arrow, a two-way pair, a loop with a line and a line without text, and an arrow to no state.
+    #[test]
+    fn worked_totals() {
+        let arrow = |from, to, lines: &[&str]| Arrow {
+            from,
+            to,
+            lines: lines.iter().map(|l| generate::full_pieces(l.as_bytes())).collect(),
+        };
+        let sheet = Sheet {
+            states: vec![0; 3],
+            arrows: vec![
+                arrow(0, 1, &["a"]),
+                arrow(1, 2, &["b"]),
+                arrow(2, 1, &[]),
+                arrow(2, 2, &["c", ""]),
+                arrow(0, 3, &["d"]),
+            ],
+        };
+        let text = list(&ordered(&sheet), 0, 65_536).unwrap();
+        assert!(text.ends_with(b"\ntotal 1 2 1 1 4\n"));
+    }
+
     /// The points of the records tell loops, arcs and straight arrows as the routing's turns do, and the first four
     /// totals add up to the arrows.
     #[test]

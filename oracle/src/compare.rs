@@ -102,6 +102,7 @@ impl Runs {
             );
         }
         if self.listed > 0 {
+            assert!(self.listed < 1_000 || self.some.iter().all(|&n| n > 0), "a total is 0 in every listing");
             let [straight, arcs, loops, left_out, lines] = self.totals;
             println!(
                 "listed: {straight} straight arrows, {arcs} arcs, {loops} loops, {left_out} left out, {lines} label lines; \

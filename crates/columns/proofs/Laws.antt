@@ -9,6 +9,7 @@ use native.Mathlib.Omega.{arith}
 use borrow.Author.Tests.{eq-eqb, ne-eqb}
 use lib.ListN.{length, getD, take, drop, set, length-append, length-drop, drop-of-length-le}
 use lib.Seq.{drop-cons, take-suc-set, length-take-le, take-take, take-append-le, take-all, getD-take, take-at, drop-at}
+use Rattle.laws.specs.Bools.{and-true}
 use Rattle.laws.specs.Filter.{filterBy, filter-join}
 use Rattle.laws.specs.Flat.{table}
 use Rattle.laws.specs.Loops.{over}
@@ -261,10 +262,6 @@ module _ (sources targets : List ℕ) (start : ℕ) (order order′ sizes : List
 module _ (n v a b : ℕ) where
   pub leaves-from : a ≡ v → isBetween n a b ≡ leaves n v (endPair a b)
   leaves-from e = rw (eq-eqb a v e) (sym (and-true (isBetween n a b)))
-    where
-      and-true : (x : Bool) → x && true ≡ x
-      and-true true = refl
-      and-true false = refl
 
   pub leaves-not : (a ≡ v → ⊥) → false ≡ leaves n v (endPair a b)
   leaves-not d = rw (ne-eqb a v d) (sym (and-false (isBetween n a b)))

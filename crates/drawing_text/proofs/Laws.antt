@@ -1,5 +1,5 @@
 -- What a loop meets at number k: the record, the state, and what is left. How lines grow field by field, and tests in a row. Assumes nothing.
-use mathlib.Core.Path.{_≡_, refl, sym, ap, _∙_}
+use mathlib.Core.Path.{_≡_, sym, ap, _∙_}
 use mathlib.Core.Bool.{Bool, true, false, not, _&&_}
 use mathlib.Core.List.{List, [], _∷_, _++_, append-assoc, append-nil, map, flatMap}
 use Prim.Native.Nat.{ℕ, _+_, _-_, _≤_, _<_}
@@ -11,7 +11,7 @@ use Rattle.laws.specs.Writers.{Wrote, wrote-as, wrote-more}
 use Rattle.laws.specs.Zip.{zip-past}
 use Rattle.laws.specs.Every.{every, every-join}
 use Rattle.laws.specs.Joined.{flat-join}
-use Rattle.laws.specs.Bools.{and-no, and-yes}
+use Rattle.laws.specs.Bools.{and-no, and-true, and-yes}
 use Rattle.shape.specs.declared.«V».{«V»}
 use Rattle.shape.specs.Plane.{vec}
 use Rattle.shape.specs.Centres.{centres, centre}
@@ -79,10 +79,6 @@ pub and-stopped : {a r : Bool} (b : Bool) → r ≡ a → not r ≡ true → fal
 and-stopped {r = r} b e n = and-no b (sym e ∙ not-true r n)
 
 -- the last test of all
-and-true : (b : Bool) → (b && true) ≡ b
-and-true true = refl
-and-true false = refl
-
 pub last : {a r : Bool} → r ≡ a → r ≡ (a && true)
 last {a} e = e ∙ sym (and-true a)
 

@@ -45,7 +45,7 @@ workedListing =
     ++ ascii "total 1 0 0 0 1\n"
 
 -- one straight arrow, and its one line
-abbrev pub workedTotals : Totals
+abbrev workedTotals : Totals
 workedTotals = record { straight = 1; arcs = 0; loops = 0; «left_out» = 0; lines = 1 }
 
 pub worked-listing : listText (whole 244) (whole 76) (vec (whole 66) (whole 38) ∷ vec (whole 206) (whole 38) ∷ []) (1 ∷ 0 ∷ []) (workedArrow ∷ []) workedTotals ≡ workedListing

@@ -10,6 +10,7 @@ use lib.ListN.{length, getD, length-append, length-map, List·getD-append}
 use lib.Seq.{getD-append-add}
 use lib.Ieee.{Float}
 use Rattle.laws.specs.Counting.{howMany, howMany-join}
+use Rattle.laws.specs.Joined.{flat-snoc}
 use Rattle.laws.specs.Lists.{map-at}
 use Rattle.laws.specs.Flats.{flat-at, length-flat}
 use Rattle.shape.specs.declared.«V».{«V»}
@@ -242,10 +243,23 @@ module _ (w h : Float) (cs : List «V») (flags : List ℕ) (gs : List Geometry)
       ∙ behind-records (length a + 0)
       ∙ getD-append-add a (totalLine t ∷ []) 0 d
 
-  pub total-at : lastLine (listText w h cs flags gs t) ≡ totalText t
+  pub last-at : lastLine (listText w h cs flags gs t) ≡ totalText t
   unfolding listText
-  total-at =
+  last-at =
       ap (λ (n : ℕ). textLineAt (n - 1) (linesText its)) (newlines-many its all-single)
       ∙ ap (textLineAt (length its - 1)) (sym (append-nil (linesText its)))
       ∙ line-at its [] (length its - 1) d all-single (omega (arith, its-many))
       ∙ ap bodyText total-in
+
+  -- and what stands before it
+  abbrev pub linesBefore : List ℕ
+  linesBefore = linesText (sizeLine w h ∷ (map stateLine (statesFrom 0 cs) ++ (flatMap recordLines gs ++ map startLine (starts flags (statesFrom 0 cs)))))
+
+  pub total-ends : listText w h cs flags gs t ≡ linesBefore ++ lineText (totalLine t)
+  unfolding listText listLines linesText
+  total-ends =
+      let a : List TextLine = map stateLine (statesFrom 0 cs) in
+      let b : List TextLine = flatMap recordLines gs in
+      let d : List TextLine = map startLine (starts flags (statesFrom 0 cs)) in
+      ap (λ (l : List TextLine). flatMap lineText (sizeLine w h ∷ l)) (ap (λ (l : List TextLine). a ++ l) (sym (append-assoc b d (totalLine t ∷ []))) ∙ sym (append-assoc a (b ++ d) (totalLine t ∷ [])))
+      ∙ flat-snoc lineText (sizeLine w h ∷ (a ++ (b ++ d))) (totalLine t)

@@ -2,5 +2,5 @@ pub mod Shown
 pub mod Found
 pub mod Proof
 pub mod Totalled
-pub mod Counted
+pub mod TotalsProof
 pub mod Measured

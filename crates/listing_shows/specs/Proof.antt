@@ -40,9 +40,9 @@ use Rattle.calls.specs.Calls.{number, values, mainScreen, short, onto, drawnOf,
 use Rattle.calls.specs.Decided.{answered-clear}
 use Rattle.demand3.specs.Demand.{Call, Answered, recordsLeft, recordAt, pathAt, textLineAt}
 use Rattle.demand3.specs.Proof.{callRecords, stands, path-is}
-use Rattle.listing_shows.specs.Shown.{Lent, ListAnswered, LayoutAnswered, xsLeft, ysLeft, routeCall, recordsRead, totalsRead, outLeft, wrote, lastLine, recordLine, edgeText, totalText, arrowNumber, Shows, Enough, ListingShows}
+use Rattle.listing_shows.specs.Shown.{Lent, ListAnswered, LayoutAnswered, xsLeft, ysLeft, routeCall, recordsRead, totalsRead, outLeft, listWrote, lastLine, recordLine, edgeText, totalText, arrowNumber, Shows, Enough, ListingShows}
 use Rattle.listing_shows.specs.Shown as Spec
-use Rattle.listing_shows.specs.Found.{edge-at, total-at}
+use Rattle.listing_shows.specs.Found.{edge-at, last-at}
 
 -- ---- a listing whose numbers may be written has paths that may be written
 
@@ -147,6 +147,16 @@ module _ (c : Lent) (a : ListAnswered c) where
   unfolding list
   heard = answered-clear (listRefusals (c .sheet) (c .kind) (length (c .out))) (length (listing (c .sheet) (c .kind))) (a .bytes) (sym (a .answer))
 
+  -- what is left in the slice lent to `list`, and what was written of it
+  out-is : outLeft c ≡ onto (listing (c .sheet) (c .kind)) (c .out)
+  unfolding listAfter
+  out-is = clear-decides (λ (n : ℕ). c .out) (onto (listing (c .sheet) (c .kind)) (c .out)) (listRefusals (c .sheet) (c .kind) (length (c .out))) (heard .0)
+
+  pub wrote-is : listWrote c a ≡ listing (c .sheet) (c .kind)
+  wrote-is =
+      let t : List ℕ = listing (c .sheet) (c .kind) in
+      ap₂ (λ (n : ℕ) (o : List ℕ). take n o) (heard .1) out-is ∙ take-at t (drop (length t) (c .out)) (length t) refl
+
   not-refused : refused ≡ false
   not-refused = or-false-left refused (beyond (frameOf (meaning (c .sheet)) (plan .xs) (plan .ys))) (heard .0 .none 9)
 
@@ -191,8 +201,8 @@ module _ (c : Lent) (a : ListAnswered c) where
     }
 
     module _ (r : Answered (routeCall c l)) where
-      read : recordsRead (routeCall c l) r ≡ gs
-      read = read-back (routeCall c l) r ∙ ap₂ (drawnOf (c .sheet)) (xs-are c l) (ys-are c l)
+      pub listed-records : recordsRead (routeCall c l) r ≡ gs
+      listed-records = read-back (routeCall c l) r ∙ ap₂ (drawnOf (c .sheet)) (xs-are c l) (ys-are c l)
 
       -- whatever is made of the size, the centres, the flags and the records
       module _ {A : Type 0} (f : Float → Float → List «V» → List ℕ → List Geometry → A) where
@@ -202,7 +212,7 @@ module _ (c : Lent) (a : ListAnswered c) where
             let flags = flagsOf (meaning (c .sheet)) in
             ap₂ (λ (w h : Float). f w h (centres (xsLeft c l) (ysLeft c l)) flags (recordsRead (routeCall c l) r)) (ap (λ (t : ℕ × Float × Float). t .1) (laying c l .1)) (ap (λ (t : ℕ × Float × Float). t .2) (laying c l .1))
             ∙ ap₂ (λ (xs ys : List Float). f (plan .width) (plan .height) (centres xs ys) flags (recordsRead (routeCall c l) r)) (xs-are c l) (ys-are c l)
-            ∙ ap (f (plan .width) (plan .height) (centres (plan .xs) (plan .ys)) flags) read
+            ∙ ap (f (plan .width) (plan .height) (centres (plan .xs) (plan .ys)) flags) listed-records
 
       same-text : Spec.shown c l r ≡ listing (c .sheet) (c .kind)
       same-text = same-listed (λ w h cs flags gs. listText w h cs flags gs (totalsOf (meaning (c .sheet)) gs))
@@ -211,10 +221,7 @@ module _ (c : Lent) (a : ListAnswered c) where
       all-writable = same-listed (λ w h cs flags gs. listWritable w h cs flags gs (totalsOf (meaning (c .sheet)) gs)) ∙ not-false (listingWritable (c .sheet) (c .kind)) (heard .0 .none 10)
 
       text : outLeft c ≡ onto (Spec.shown c l r) (c .out)
-      unfolding listAfter
-      text =
-          clear-decides (λ (n : ℕ). c .out) (onto (listing (c .sheet) (c .kind)) (c .out)) (listRefusals (c .sheet) (c .kind) (length (c .out))) (heard .0)
-          ∙ ap (λ (t : List ℕ). onto t (c .out)) (sym same-text)
+      text = out-is ∙ ap (λ (t : List ℕ). onto t (c .out)) (sym same-text)
 
       module _ (k : ℕ) (h : 20 * k + 20 ≤ r .numbers) where
         -- past the last record
@@ -238,17 +245,13 @@ module _ (c : Lent) (a : ListAnswered c) where
             (omega (arith, numbers-many (routeCall c l) r, ap length (read-back (routeCall c l) r)))
             ∙ ap₂ edgeText arrow path
 
-      bytes : a .bytes ≡ length (Spec.shown c l r)
-      bytes = heard .1 ∙ ap length (sym same-text)
-
-      total : lastLine (wrote c a) ≡ totalText (totalsRead (routeCall c l) r)
+      total : lastLine (listWrote c a) ≡ totalText (totalsRead (routeCall c l) r)
       total =
-          let t : List ℕ = Spec.shown c l r in
-          ap lastLine (ap₂ (λ (n : ℕ) (o : List ℕ). take n o) bytes text ∙ take-at t (drop (length t) (c .out)) (length t) refl)
-          ∙ total-at (l .width) (l .height) (centres (xsLeft c l) (ysLeft c l)) (flagsOf (meaning (c .sheet))) (recordsRead (routeCall c l) r) (totalsRead (routeCall c l) r) [] (sizeLine (l .width) (l .height))
+          ap lastLine (wrote-is ∙ sym same-text)
+          ∙ last-at (l .width) (l .height) (centres (xsLeft c l) (ysLeft c l)) (flagsOf (meaning (c .sheet))) (recordsRead (routeCall c l) r) (totalsRead (routeCall c l) r) [] (sizeLine (l .width) (l .height))
 
       shows : Shows c a l r
-      shows = record { bytes = bytes; text = text; edge = edge; total = total }
+      shows = record { bytes = heard .1 ∙ ap length (sym same-text); text = text; edge = edge; total = total }
 
 pub listing-shows : ListingShows
 listing-shows = record { lays = lays; routes = routes; shows = shows }

@@ -75,10 +75,10 @@ abbrev pub outLeft : Lent → List ℕ
 outLeft c = listAfter (c .sheet) (c .kind) (c .out)
 
 -- what `list` wrote of it
-abbrev pub wrote : (c : Lent) → ListAnswered c → List ℕ
-wrote c a = take (a .bytes) (outLeft c)
+abbrev pub listWrote : (c : Lent) → ListAnswered c → List ℕ
+listWrote c a = take (a .bytes) (outLeft c)
 
--- "Every line ends in a newline": the last line of a text
+-- "Every line ends in a newline": the last line of such a text
 abbrev pub lastLine : List ℕ → List ℕ
 lastLine t = textLineAt (howMany (eqb (code "\n")) t - 1) t
 
@@ -104,7 +104,7 @@ pub record Shows (c : Lent) (a : ListAnswered c) (l : LayoutAnswered c) (r : Ans
   -- path text included: the edge line of record k has path k of the text that `route` leaves
   pub edge : (k : ℕ) → 20 * k + 20 ≤ r .numbers → textLineAt (recordLine (l .states) k) (outLeft c) ≡ edgeText (arrowNumber (routeCall c l) k) (pathAt (routeCall c l) k)
   -- the last line has the totals
-  pub total : lastLine (wrote c a) ≡ totalText (totalsRead (routeCall c l) r)
+  pub total : lastLine (listWrote c a) ≡ totalText (totalsRead (routeCall c l) r)
 
 -- ---- the claim: for all byte lists, kinds and lent slices
 

@@ -1,12 +1,13 @@
 -- Document 02, T-01: "Each number equals what a count over the sheet and the records gives. The first four add up to the sheet's arrows." On what `list` leaves in its slice, and what `route`
--- leaves at the layout's centres. Here is what it says; `listing-totals` of Counted proves it.
+-- leaves at the layout's centres. Here is what it says; `listing-totals` of TotalsProof proves it.
 use mathlib.Core.Path.{_≡_}
-use mathlib.Core.Bool.{Bool, not, _&&_, _||_}
-use mathlib.Core.List.{List}
-use Prim.Native.Nat.{ℕ, _+_, _/_}
+use mathlib.Core.Bool.{Bool, cond, not, _&&_, _||_}
+use mathlib.Core.List.{List, _++_, map}
+use Prim.Native.Nat.{ℕ, _+_, _*_, _/_}
 use lib.Dec.{ltb, eqb}
 use lib.ListN.{length, getD}
 use lib.Ieee.{Float, nan}
+use Rattle.laws.specs.Best.{totalFrom}
 use Rattle.laws.specs.Counting.{howMany}
 use Rattle.laws.specs.Flat.{table}
 use Rattle.float.specs.Ops.{eq}
@@ -14,13 +15,13 @@ use Rattle.float.specs.Constants.{whole}
 use Rattle.sheet.specs.Sheet.{Arrow, Graph, meaning}
 use Rattle.sheet.specs.Meaning.{isKept}
 use Rattle.totals.specs.declared.Totals.{Totals}
-use Rattle.totals.specs.Totals.{labelLines}
+use Rattle.drawing_text.specs.Lines.{lineText, totalLine}
 use Rattle.demand3.specs.Demand.{Call, Answered, recordAt}
-use Rattle.listing_shows.specs.Shown.{Lent, ListAnswered, LayoutAnswered, routeCall, wrote, lastLine, totalText}
+use Rattle.listing_shows.specs.Shown.{Lent, ListAnswered, LayoutAnswered, routeCall, listWrote, lastLine, totalText}
 
 -- ---- over the records that `route` leaves
 
--- "2, 3 or 4 points", the second of a record's twenty: that of each record
+-- document 01: "2, 3 or 4 points", the second of a record's twenty: that of each record
 abbrev pub pointNumbers : (r : Call) → Answered r → List Float
 pointNumbers r a = table (λ k. getD (recordAt r k) 1 nan) 0 (a .numbers / 20)
 
@@ -46,24 +47,34 @@ endsDiffer g a = isKept g a && not (eqb (a .source) (a .target))
 abbrev pub arrowsWith : Lent → (Graph → Arrow → Bool) → ℕ
 arrowsWith c test = howMany (test (meaning (c .sheet))) (meaning (c .sheet) .arrows)
 
--- ---- the claim: for all byte lists, kinds and lent slices
+-- the lines of an arrow; "Label lines of left-out arrows are not counted."
+abbrev pub linesOfKept : Graph → Arrow → ℕ
+linesOfKept g a = cond (endMissing g a) 0 (length (a .lines))
 
-pub record Totalled (c : Lent) (a : ListAnswered c) (l : LayoutAnswered c) (r : Answered (routeCall c l)) : Type 0 where
+-- their sum over all arrows
+abbrev pub linesInAll : Graph → ℕ
+linesInAll g = totalFrom 0 (map (linesOfKept g) (g .arrows))
+
+-- ---- the claim: for all byte lists, kinds and lent slices, where `list` answers
+
+pub record Totalled (c : Lent) (a : ListAnswered c) : Type 0 where
   -- "The listing ends with a line `total`, then the numbers of straight arrows, arcs, loops, left-out arrows and label lines."
   pub totals : Totals
-  pub line : lastLine (wrote c a) ≡ totalText totals
-  -- "Each number equals what a count over the sheet and the records gives."
-  pub straight : totals .straight ≡ recordsWith (routeCall c l) r 2
-  pub arcs : totals .arcs ≡ recordsWith (routeCall c l) r 3
-  pub loops : totals .loops ≡ recordsWith (routeCall c l) r 4
+  pub before : List ℕ
+  pub ends : listWrote c a ≡ before ++ lineText (totalLine totals)
+  pub line : lastLine (listWrote c a) ≡ totalText totals
+  -- over the sheet
   pub left-out : totals .«left_out» ≡ arrowsWith c endMissing
-  -- "Label lines of left-out arrows are not counted."
-  pub lines : totals .lines ≡ length (labelLines (meaning (c .sheet)))
-  -- loops over the sheet alone; straight arrows and arcs together are the arrows between two different states
+  pub lines : totals .lines ≡ linesInAll (meaning (c .sheet))
   pub same-ends : totals .loops ≡ arrowsWith c endsSame
   pub other-ends : totals .straight + totals .arcs ≡ arrowsWith c endsDiffer
   -- "The first four add up to the sheet's arrows."
   pub all : totals .straight + totals .arcs + totals .loops + totals .«left_out» ≡ length (meaning (c .sheet) .arrows)
+  -- over the records that `route` leaves at the layout's centres: straight arrows, arcs and loops by their points, and no others
+  pub straight : (l : LayoutAnswered c) (r : Answered (routeCall c l)) → totals .straight ≡ recordsWith (routeCall c l) r 2
+  pub arcs : (l : LayoutAnswered c) (r : Answered (routeCall c l)) → totals .arcs ≡ recordsWith (routeCall c l) r 3
+  pub loops : (l : LayoutAnswered c) (r : Answered (routeCall c l)) → totals .loops ≡ recordsWith (routeCall c l) r 4
+  pub every-record : (l : LayoutAnswered c) (r : Answered (routeCall c l)) → 20 * (totals .straight + totals .arcs + totals .loops) ≡ r .numbers
 
 abbrev pub ListingTotals : Type 0
-ListingTotals = (c : Lent) (a : ListAnswered c) (l : LayoutAnswered c) (r : Answered (routeCall c l)) → Totalled c a l r
+ListingTotals = (c : Lent) (a : ListAnswered c) → Totalled c a

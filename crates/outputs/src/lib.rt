@@ -197,17 +197,6 @@ pub fn write_listing(
     if out.len() < need {
         return Written::Refused(7);
     }
-    let done = drawing_text::put_listing(
-        out,
-        0,
-        width,
-        height,
-        xs,
-        ys,
-        flags,
-        drawing,
-        count,
-        totals,
-    );
-    Written::Length(done)
+    let n = drawing_text::put_listing(out, 0, width, height, xs, ys, flags, drawing, count, totals);
+    Written::Length(n)
 }

@@ -1,6 +1,6 @@
 -- Finite numbers that are not negative are in the order of their bits. Assumes nothing.
 use mathlib.Core.Path.{_≡_, refl, sym, ap, ap₂, _∙_, subst}
-use mathlib.Core.Bool.{Bool, true, false, _&&_, _||_, true≢false}
+use mathlib.Core.Bool.{Bool, true, false, _||_, true≢false}
 use Prim.Native.Nat.{ℕ, _-_, _*_, _^_, _≤_, _<_}
 use native.Mathlib.Nat.{mul-le-mul-right, le-of-mul-le-mul-right, le-antisymm, le-of-eq, lt-of-lt-of-le, lt-irrefl}
 use native.Mathlib.Omega.{arith}
@@ -11,6 +11,7 @@ use lib.Ieee.{Float, nan, inf, fin, binary64, ofBits, lt, le, eq, up, down}
 use lib.Ieee.Exact.{HasValue}
 use lib.Ieee.Fits.{down-pos}
 use lib.Ieee.Order.{transfer}
+use Rattle.laws.specs.Bools.{and-true}
 use Rattle.root.specs.Rounded.{magnitude, bits-value}
 use Rattle.root.specs.Closest.{magnitude-lt, magnitude-le}
 
@@ -42,10 +43,6 @@ le-or a b = go (ltb a b) refl
             let h : b ≤ a = ltb-false a b e in
             let g : a ≡ b → ⊥ = eqb-false a b f in
             rw (f, lt-leb a b (omega arith))
-
-and-true : (b : Bool) → (b && true) ≡ b
-and-true true = refl
-and-true false = refl
 
 -- the fractions x / de, which is a / n, and y / dd, which is b / n
 module _ (x y de dd a b n : ℕ) (N : 0 < n) (E : 0 < de) (D : 0 < dd) (p : x * n ≡ a * de) (q : y * n ≡ b * dd) where

@@ -57,6 +57,10 @@ abbrev pub manyTexts : ℕ → ℕ → ℕ → List ℕ
 manyTexts k zero m = textBytes 0 (replicate m 97)
 manyTexts k (suc n) m = textBytes (suc k) (replicate 12 97) ++ manyTexts (suc k) n m
 
+-- a sheet without records
+abbrev pub emptySheet : List ℕ
+emptySheet = header 0 0 0
+
 -- a start state, a second state, an arrow 0 to 1 with the line `a`
 abbrev pub small : List ℕ
 small = header 5 1 3 ++ stateBytes 1 2 ++ stateBytes 0 0 ++ arrowBytes 0 0 1 4 ++ lineBytes 0 5 ++ textBytes 0 (ascii "a")
@@ -88,8 +92,8 @@ allGive (e ∷ es) = eqb (checkedNumber (checkOf mainScreen (e .sheet))) (e .ans
 
 abbrev pub sheetExamples : List Example
 sheetExamples =
-    (header 0 0 0 gives 0)  -- count 0, 16 bytes
-    ∷ (header 0 0 0 ++ zeros 1 gives 1)  -- 17 bytes
+    (emptySheet gives 0)  -- count 0, 16 bytes
+    ∷ (emptySheet ++ zeros 1 gives 1)  -- 17 bytes
     ∷ ([] gives 1)
     ∷ (header 1 1 0 gives 1)  -- a record is missing
     ∷ (2 ∷ zeros 15 gives 2)
@@ -124,6 +128,13 @@ worked-examples = tt
 -- ---- meanings
 abbrev pub smallGraph : Graph
 smallGraph = record { states = record { flags = 1 } ∷ record { flags = 0 } ∷ []; arrows = record { source = 0; target = 1; lines = ascii "a" ∷ [] } ∷ [] }
+
+abbrev pub emptyGraph : Graph
+emptyGraph = record { states = []; arrows = [] }
+
+pub empty-means : meaning emptySheet ≡ emptyGraph
+unfolding statesOf arrowsOf chainBy
+empty-means = refl
 
 pub small-means : meaning small ≡ smallGraph
 unfolding statesOf arrowsOf arrowOf linesFrom lineOf chainBy flatMap

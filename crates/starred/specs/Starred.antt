@@ -27,7 +27,7 @@ use Rattle.text.specs.Ascii.{ascii}
 use Rattle.number.specs.Number.{numText, decimal, roundedSize, minusText, fraction}
 use Rattle.sheet.specs.Sheet as Sheet
 use Rattle.sheet.specs.Refusals as Refusals
-use Rattle.sheet.specs.Examples.{header, stateBytes}
+use Rattle.sheet.specs.Examples.{header, stateBytes, emptySheet}
 use Rattle.shape.specs.declared.«V».{«V»}
 use Rattle.shape.specs.declared.Rect.{Rect}
 use Rattle.shape.specs.Plane.{vec, rect, overlaps, touches, spanning, unitOr, extended}
@@ -87,10 +87,6 @@ allHold [] = Unit
 allHold (d ∷ ds) = drawingHolds d × allHold ds
 
 -- ---- the drawings
-
--- a sheet without records
-abbrev pub emptySheet : List ℕ
-emptySheet = header 0 0 0
 
 -- a sheet of one state with this flag byte
 abbrev pub aloneSheet : ℕ → List ℕ

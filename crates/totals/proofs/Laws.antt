@@ -14,8 +14,8 @@ use Rattle.reader.specs.declared.Record.{Record}
 use Rattle.reader.specs.Reading.{recordOf}
 use Rattle.totals.specs.declared.ArrowCounts.{ArrowCounts}
 use Rattle.totals.specs.declared.Totals.{Totals}
-use Rattle.totals.specs.Totals.{pointCount, hasPoints, isLeftOut, labelLines, totalsOf}
-use Rattle.totals.specs.Arrows.{arrowCounts, noArrows, leftOutAdd, linesAdd, withArrow, arrows-counted}
+use Rattle.totals.specs.Totals.{pointCount, hasPoints, isLeftOut, countedLines, totalsOf}
+use Rattle.totals.specs.Arrows.{arrowCounts, noneCounted, leftOutAdd, linesAdd, withArrow, arrows-counted}
 
 -- g is the record as the code read it
 pub points-tell : (n m : ℕ) (g x : Geometry) → g ≡ x → m ≡ pointCount (g .curve) → eqb m n ≡ hasPoints n x
@@ -45,10 +45,10 @@ unfolding arrowsOf
 arrows-start g a s i m e q = rw (e, q)
 
 -- t are the arrows as the code counted them
-pub totals-are : (g : Graph) (gs : List Geometry) (n : ℕ) (t : ArrowCounts) (a b c : ℕ) → n ≡ length (g .states) → t ≡ over (withArrow n) noArrows (g .arrows)
+pub totals-are : (g : Graph) (gs : List Geometry) (n : ℕ) (t : ArrowCounts) (a b c : ℕ) → n ≡ length (g .states) → t ≡ over (withArrow n) noneCounted (g .arrows)
     → a ≡ howMany (hasPoints 2) gs → b ≡ howMany (hasPoints 3) gs → c ≡ howMany (hasPoints 4) gs
     → _≡_ {A = Totals} (record { straight = a; arcs = b; loops = c; «left_out» = t .«left_out»; lines = t .lines }) (totalsOf g gs)
 unfolding totalsOf
 totals-are g gs n t a b c en et ea eb ec =
-    let e : t ≡ arrowCounts (howMany (isLeftOut g) (g .arrows)) (length (labelLines g)) = et ∙ ap (λ (n : ℕ). over (withArrow n) noArrows (g .arrows)) en ∙ arrows-counted g in
+    let e : t ≡ arrowCounts (howMany (isLeftOut g) (g .arrows)) (length (countedLines g)) = et ∙ ap (λ (n : ℕ). over (withArrow n) noneCounted (g .arrows)) en ∙ arrows-counted g in
     rw (ea, eb, ec, e)

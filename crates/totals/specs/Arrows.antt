@@ -1,6 +1,6 @@
 -- The arrows of a sheet one after another, as the code counts them: those that are left out, and the lines of the others. Assumes nothing.
-use mathlib.Core.Path.{_≡_, refl, sym, ap₂, _∙_}
-use mathlib.Core.Bool.{not, cond}
+use mathlib.Core.Path.{_≡_, ap₂, _∙_}
+use mathlib.Core.Bool.{cond}
 use mathlib.Core.List.{List, [], _∷_, flatMap}
 use Prim.Native.Nat.{ℕ, _+_}
 use native.Mathlib.Omega.{arith}
@@ -12,13 +12,13 @@ use Rattle.laws.specs.Loops.{over}
 use Rattle.sheet.specs.Sheet.{Arrow, Graph}
 use Rattle.sheet.specs.Meaning.{endsBelow, isKept}
 use Rattle.totals.specs.declared.ArrowCounts.{ArrowCounts}
-use Rattle.totals.specs.Totals.{isLeftOut, labelLines}
+use Rattle.totals.specs.Totals.{isLeftOut, countedLines}
 
 abbrev pub arrowCounts : ℕ → ℕ → ArrowCounts
 arrowCounts out lines = record { «left_out» = out; lines = lines }
 
-abbrev pub noArrows : ArrowCounts
-noArrows = arrowCounts 0 0
+abbrev pub noneCounted : ArrowCounts
+noneCounted = arrowCounts 0 0
 
 -- what an arrow adds in a drawing of n states
 unfoldable pub leftOutAdd : ℕ → Arrow → ℕ
@@ -47,5 +47,5 @@ module _ (g : Graph) where
       (λ k. rw k (ap₂ arrowCounts (omega arith) (omega (arith, length-append (a .lines) more))))
       (λ k. rw k (ap₂ arrowCounts (omega arith) (omega arith)))
 
-  pub arrows-counted : over (withArrow (length (g .states))) noArrows (g .arrows) ≡ arrowCounts (howMany (isLeftOut g) (g .arrows)) (length (labelLines g))
-  arrows-counted = counted noArrows (g .arrows) ∙ ap₂ arrowCounts (omega arith) (omega arith)
+  pub arrows-counted : over (withArrow (length (g .states))) noneCounted (g .arrows) ≡ arrowCounts (howMany (isLeftOut g) (g .arrows)) (length (countedLines g))
+  arrows-counted = counted noneCounted (g .arrows) ∙ ap₂ arrowCounts (omega arith) (omega arith)

@@ -28,8 +28,8 @@ abbrev pub isLeftOut : Graph → Arrow → Bool
 isLeftOut g a = not (isKept g a)
 
 -- "Label lines of left-out arrows are not counted."
-abbrev pub labelLines : Graph → List (List ℕ)
-labelLines g = flatMap (λ a. a .lines) (filterBy (isKept g) (g .arrows))
+abbrev pub countedLines : Graph → List (List ℕ)
+countedLines g = flatMap (λ a. a .lines) (filterBy (isKept g) (g .arrows))
 
 -- "the numbers of straight arrows, arcs, loops, left-out arrows and label lines": straight arrows have two points, arcs three, loops four
 unfoldable pub totalsOf : Graph → List Geometry → Totals
@@ -38,5 +38,5 @@ totalsOf g gs = record {
   arcs = howMany (hasPoints 3) gs;
   loops = howMany (hasPoints 4) gs;
   «left_out» = howMany (isLeftOut g) (g .arrows);
-  lines = length (labelLines g);
+  lines = length (countedLines g);
 }

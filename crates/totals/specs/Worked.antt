@@ -1,4 +1,4 @@
--- The totals of a small drawing: a line without text is counted, the line of a left-out arrow is not. Assumes nothing.
+-- The totals of a small drawing. Assumes nothing.
 use mathlib.Core.Path.{_≡_, refl}
 use mathlib.Core.List.{List, [], _∷_, flatMap}
 use Prim.Native.Nat.{ℕ}
@@ -13,7 +13,6 @@ use Rattle.shape.specs.Plane.{vec, rect}
 use Rattle.label_spots.specs.declared.Anchor.the-variants.{Middle}
 use Rattle.label_spots.specs.declared.Geometry.{Geometry}
 use Rattle.sheet.specs.Sheet.{State, Arrow, Graph}
-use Rattle.totals.specs.declared.Totals.{Totals}
 use Rattle.totals.specs.Totals.{totalsOf}
 
 abbrev plain : State
@@ -44,11 +43,7 @@ fourRecords =
     let o : «V» = vec f0 f0 in
     drawnAs (Line o o) ∷ drawnAs (Quad o o o) ∷ drawnAs (Quad o o o) ∷ drawnAs (Cubic o o o o) ∷ []
 
+-- a line without text is counted, the line of a left-out arrow is not
 pub worked-totals : totalsOf fiveArrows fourRecords ≡ record { straight = 1; arcs = 2; loops = 1; «left_out» = 1; lines = 4 }
 unfolding totalsOf howMany filterBy flatMap
 worked-totals = refl
-
--- "no states"
-pub empty-totals : totalsOf (record { states = []; arrows = [] }) [] ≡ record { straight = 0; arcs = 0; loops = 0; «left_out» = 0; lines = 0 }
-unfolding totalsOf howMany filterBy flatMap
-empty-totals = refl

@@ -128,7 +128,7 @@ fn with_arrow(s: &[u8], k: usize, n: usize, t: ArrowCounts) -> ArrowCounts
 
 // All arrows of the sheet, which has n states.
 fn count_arrows(s: &[u8], n: usize) -> ArrowCounts
-    ensures { λ r. ⌜ r ≡ over (W.withArrow n) W.noArrows (G.arrowsOf (now (s .entry))) ⌝ }
+    ensures { λ r. ⌜ r ≡ over (W.withArrow n) W.noneCounted (G.arrowsOf (now (s .entry))) ⌝ }
 {
     let mut t = ArrowCounts {
         left_out: 0,

@@ -1,4 +1,5 @@
-// The worked drawings of document 01 that are not starred, each with what the program gives.
+// The worked drawings of document 01 that are not starred, and the listing of a sheet without states, each with what
+// the program gives.
 use calls::Counted;
 use calls::LaidOut;
 use libc::STDOUT_FILENO;

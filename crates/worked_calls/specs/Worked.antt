@@ -17,7 +17,7 @@ use Rattle.sheet.specs.Sheet.{Graph, meaning, flagsOf}
 use Rattle.sheet.specs.Refusals as Refusals
 use Rattle.sheet.specs.Refusals.{refusals}
 use Rattle.sheet.specs.Order.{accepted-exactly}
-use Rattle.sheet.specs.Examples.{small, small-means}
+use Rattle.sheet.specs.Examples.{emptySheet, small, emptyGraph, smallGraph, empty-means, small-means}
 use Rattle.shape.specs.Centres.{centres}
 use Rattle.beyond.specs.Beyond.{beyond}
 use Rattle.routing.specs.Sheets.{frameOf, recordsOf}
@@ -27,10 +27,10 @@ use Rattle.drawing_text.specs.Worked.{workedListing}
 use Rattle.draw.specs.Drawn.{farCentre}
 use Rattle.layout.specs.Layout.{Layout, planOf, layoutOf}
 use Rattle.plan.specs.Measured.{layoutBeyond}
-use Rattle.calls.specs.Calls.{number, values, mainScreen, short, onto, drawnOf, numbersOf, routeRefusals, route, textAfter, layoutFor, layoutRefusals, layout, xsAfter, ysAfter, listing, listRefusals, list, listAfter}
+use Rattle.calls.specs.Calls.{number, values, mainScreen, short, onto, drawnOf, numbersOf, routeRefusals, route, textAfter, layoutFor, layoutRefusals, layout, xsAfter, ysAfter, listing, listingWritable, listRefusals, list, listAfter}
 use Rattle.demand3.specs.Demand.{Answered}
 use Rattle.listing_shows.specs.Shown.{Lent, ListAnswered, LayoutAnswered, routeCall}
-use Rattle.worked_calls.specs.Numbers.{smallXs, smallYs, smallLayout, path, smallRecords, computed}
+use Rattle.worked_calls.specs.Numbers.{smallXs, smallYs, smallLayout, path, smallRecords, emptyLayout, emptyListing, AutoListed, computed}
 
 -- with every lent slice that is long enough
 pub record WorkedCalls : Type 0 where
@@ -44,55 +44,75 @@ pub record WorkedCalls : Type 0 where
   -- `list` as Auto: the output, whole
   pub lists : (n : ℕ) → 196 ≤ n → list small 0 n ≡ values 196
   pub text : (out : List ℕ) → 196 ≤ length out → listAfter small 0 out ≡ onto workedListing out
+  -- and of a sheet without records
+  pub lists-none : (n : ℕ) → 27 ≤ n → list emptySheet 0 n ≡ values 27
+  pub text-none : (out : List ℕ) → 27 ≤ length out → listAfter emptySheet 0 out ≡ onto emptyListing out
 
 -- ---- what refuses nothing
 
-sheet-clear : Clear (refusals mainScreen small)
+small-clear : Clear (refusals mainScreen small)
 unfolding decide Refusals.checkOf flatMap over anyFor anyUp anyOf Refusals.repeats Refusals.isSet Refusals.wrongRecord Refusals.wrongBytes Refusals.indices Refusals.wrongChains Refusals.largeArrow Refusals.overLimits Refusals.illArrow Refusals.illFormed Sheet.chainBy Sheet.metLine Sheet.metArrow Sheet.met Sheet.lineOf Sheet.linesFrom Sheet.arrowOf Sheet.statesOf Sheet.arrowsOf
-sheet-clear = accepted-exactly mainScreen small .0 refl
+small-clear = accepted-exactly mainScreen small .0 refl
+
+empty-clear : Clear (refusals mainScreen emptySheet)
+unfolding decide Refusals.checkOf flatMap anyFor anyUp anyOf Refusals.repeats Refusals.isSet Refusals.wrongBytes Refusals.indices Refusals.wrongChains Refusals.overLimits Refusals.illFormed Sheet.chainBy Sheet.met Sheet.statesOf Sheet.arrowsOf
+empty-clear = accepted-exactly mainScreen emptySheet .0 refl
 
 laid : layoutFor small 0 ≡ smallLayout
-laid = ap (λ (g : Graph). layoutOf 0 (planOf g)) small-means ∙ computed .laid
+laid = ap (λ (g : Graph). layoutOf 0 (planOf g)) small-means ∙ computed .small .laid
 
 within : layoutBeyond 0 (planOf (meaning small)) ≡ false
-within = ap (λ (g : Graph). layoutBeyond 0 (planOf g)) small-means ∙ computed .within
+within = ap (λ (g : Graph). layoutBeyond 0 (planOf g)) small-means ∙ computed .small .within
 
 layout-clear : (n m : ℕ) → 2 ≤ n → 2 ≤ m → Clear (layoutRefusals small 0 n m)
 layout-clear n m h i =
     let o : (short n (layoutFor small 0 .xs) || short m (layoutFor small 0 .ys)) ≡ false =
     ap (λ (l : Layout). short n (l .xs) || short m (l .ys)) laid ∙ or-none _ _ (le-ltb n 2 h) (le-ltb m 2 i) in
-    clear-from _ _ (refusals mainScreen small) (without 11 refl (without 9 within (without 7 o clear-none))) sheet-clear refl
+    clear-from _ _ (refusals mainScreen small) (without 11 refl (without 9 within (without 7 o clear-none))) small-clear refl
 
 route-clear : (n m : ℕ) → 20 ≤ n → 17 ≤ m → Clear (routeRefusals small smallXs smallYs n m)
 route-clear n m h i =
-    let near : farCentre (length (meaning small .states)) smallXs smallYs ≡ false = ap (λ (g : Graph). farCentre (length (g .states)) smallXs smallYs) small-means ∙ computed .near in
-    let single : beyond (frameOf (meaning small) smallXs smallYs) ≡ false = ap (λ (g : Graph). beyond (frameOf g smallXs smallYs)) small-means ∙ computed .single in
+    let near : farCentre (length (meaning small .states)) smallXs smallYs ≡ false = ap (λ (g : Graph). farCentre (length (g .states)) smallXs smallYs) small-means ∙ computed .small .near in
+    let single : beyond (frameOf (meaning small) smallXs smallYs) ≡ false = ap (λ (g : Graph). beyond (frameOf g smallXs smallYs)) small-means ∙ computed .small .single in
     let ok : not (pathsWritable (drawnOf small smallXs smallYs)) ≡ false = ap (λ (g : Graph). not (pathsWritable (recordsOf g smallXs smallYs))) small-means ∙ ap not (computed .paths-ok) in
     let o : (short n (numbersOf (drawnOf small smallXs smallYs)) || short m (pathsText (drawnOf small smallXs smallYs))) ≡ false =
     ap (λ (g : Graph). short n (numbersOf (recordsOf g smallXs smallYs)) || short m (pathsText (recordsOf g smallXs smallYs))) small-means
     ∙ or-none _ _ (le-ltb n (length (numbersOf smallRecords)) (omega (arith, computed .numbers))) (le-ltb m (length (pathsText smallRecords)) (omega (arith, ap length (computed .paths)))) in
-    clear-from _ _ (refusals mainScreen small) (without 8 near (without 9 single (without 10 ok (without 7 o clear-none)))) sheet-clear refl
+    clear-from _ _ (refusals mainScreen small) (without 8 near (without 9 single (without 10 ok (without 7 o clear-none)))) small-clear refl
 
-listing-is : listing small 0 ≡ workedListing
-listing-is =
-    ap₂ (λ (g : Graph) (l : Layout). listText (l .width) (l .height) (centres (l .xs) (l .ys)) (flagsOf g) (recordsOf g (l .xs) (l .ys)) (totalsOf g (recordsOf g (l .xs) (l .ys)))) small-means laid
-    ∙ computed .text
+-- a sheet that means a graph listed as Auto
+module _ (s : List ℕ) (g : Graph) (p : Layout) (t : List ℕ) (clear : Clear (refusals mainScreen s)) (means : meaning s ≡ g) (c : AutoListed g p t) where
+  lay : layoutFor s 0 ≡ p
+  lay = ap (λ (g : Graph). layoutOf 0 (planOf g)) means ∙ c .laid
 
-list-clear : (n : ℕ) → 196 ≤ n → Clear (listRefusals small 0 n)
-list-clear n h =
-    let g : Graph = meaning small in
-    let p : Layout = layoutFor small 0 in
-    let near : (not (layoutBeyond 0 (planOf g)) && farCentre (length (g .states)) (p .xs) (p .ys)) ≡ false =
-    ap₂ (λ (g : Graph) (l : Layout). not (layoutBeyond 0 (planOf g)) && farCentre (length (g .states)) (l .xs) (l .ys)) small-means laid
-    ∙ ap₂ (λ (a b : Bool). not a && b) (computed .within) (computed .near) in
-    let single : (layoutBeyond 0 (planOf g) || beyond (frameOf g (p .xs) (p .ys))) ≡ false =
-    ap₂ (λ (g : Graph) (l : Layout). layoutBeyond 0 (planOf g) || beyond (frameOf g (l .xs) (l .ys))) small-means laid
-    ∙ or-none _ _ (computed .within) (computed .single) in
-    let ok : not (listWritable (p .width) (p .height) (centres (p .xs) (p .ys)) (flagsOf g) (drawnOf small (p .xs) (p .ys)) (totalsOf g (drawnOf small (p .xs) (p .ys)))) ≡ false =
-    ap₂ (λ (g : Graph) (l : Layout). not (listWritable (l .width) (l .height) (centres (l .xs) (l .ys)) (flagsOf g) (recordsOf g (l .xs) (l .ys)) (totalsOf g (recordsOf g (l .xs) (l .ys))))) small-means laid
-    ∙ ap not (computed .text-ok) in
-    let o : short n (listing small 0) ≡ false = ap (short n) listing-is ∙ le-ltb n 196 h in
-    clear-from _ _ (refusals mainScreen small) (without 11 refl (without 8 near (without 9 single (without 10 ok (without 7 o clear-none))))) sheet-clear refl
+  listing-is : listing s 0 ≡ t
+  listing-is =
+      ap₂ (λ (g : Graph) (l : Layout). listText (l .width) (l .height) (centres (l .xs) (l .ys)) (flagsOf g) (recordsOf g (l .xs) (l .ys)) (totalsOf g (recordsOf g (l .xs) (l .ys)))) means lay
+      ∙ c .text
+
+  list-clear : (n : ℕ) → length t ≤ n → Clear (listRefusals s 0 n)
+  list-clear n h =
+      let m : Graph = meaning s in
+      let q : Layout = layoutFor s 0 in
+      let near : (not (layoutBeyond 0 (planOf m)) && farCentre (length (m .states)) (q .xs) (q .ys)) ≡ false =
+      ap₂ (λ (g : Graph) (l : Layout). not (layoutBeyond 0 (planOf g)) && farCentre (length (g .states)) (l .xs) (l .ys)) means lay
+      ∙ ap₂ (λ (a b : Bool). not a && b) (c .within) (c .near) in
+      let single : (layoutBeyond 0 (planOf m) || beyond (frameOf m (q .xs) (q .ys))) ≡ false =
+      ap₂ (λ (g : Graph) (l : Layout). layoutBeyond 0 (planOf g) || beyond (frameOf g (l .xs) (l .ys))) means lay
+      ∙ or-none _ _ (c .within) (c .single) in
+      let ok : not (listingWritable s 0) ≡ false =
+      ap₂ (λ (g : Graph) (l : Layout). not (listWritable (l .width) (l .height) (centres (l .xs) (l .ys)) (flagsOf g) (recordsOf g (l .xs) (l .ys)) (totalsOf g (recordsOf g (l .xs) (l .ys))))) means lay
+      ∙ ap not (c .text-ok) in
+      let o : short n (listing s 0) ≡ false = ap (short n) listing-is ∙ le-ltb n (length t) h in
+      clear-from _ _ (refusals mainScreen s) (without 11 refl (without 8 near (without 9 single (without 10 ok (without 7 o clear-none))))) clear refl
+
+  auto-lists : (n : ℕ) → length t ≤ n → list s 0 n ≡ values (length t)
+  unfolding list
+  auto-lists n h = clear-decides number _ (listRefusals s 0 n) (list-clear n h) ∙ ap (λ (t : List ℕ). values (length t)) listing-is
+
+  auto-text : (out : List ℕ) → length t ≤ length out → listAfter s 0 out ≡ onto t out
+  unfolding listAfter
+  auto-text out h = clear-decides (λ (k : ℕ). out) _ (listRefusals s 0 (length out)) (list-clear (length out) h) ∙ ap (λ (t : List ℕ). onto t out) listing-is
 
 -- ---- what is answered and left
 
@@ -124,16 +144,18 @@ paths n t h i =
     ∙ ap (λ (g : Graph). onto (pathsText (recordsOf g smallXs smallYs)) t) small-means
     ∙ ap (λ (p : List ℕ). onto p t) (computed .paths)
 
-lists : (n : ℕ) → 196 ≤ n → list small 0 n ≡ values 196
-unfolding list
-lists n h = clear-decides number _ (listRefusals small 0 n) (list-clear n h) ∙ ap (λ (t : List ℕ). values (length t)) listing-is
-
-text : (out : List ℕ) → 196 ≤ length out → listAfter small 0 out ≡ onto workedListing out
-unfolding listAfter
-text out h = clear-decides (λ (k : ℕ). out) _ (listRefusals small 0 (length out)) (list-clear (length out) h) ∙ ap (λ (t : List ℕ). onto t out) listing-is
-
 pub worked-calls : WorkedCalls
-worked-calls = record { lays = lays; across = across; down = down; routes = routes; paths = paths; lists = lists; text = text }
+worked-calls = record {
+  lays = lays;
+  across = across;
+  down = down;
+  routes = routes;
+  paths = paths;
+  lists = auto-lists small smallGraph smallLayout workedListing small-clear small-means (computed .small);
+  text = auto-text small smallGraph smallLayout workedListing small-clear small-means (computed .small);
+  lists-none = auto-lists emptySheet emptyGraph emptyLayout emptyListing empty-clear empty-means (computed .none);
+  text-none = auto-text emptySheet emptyGraph emptyLayout emptyListing empty-clear empty-means (computed .none);
+}
 
 -- ---- so the claims of `demand3` and `listing_shows` are about something
 

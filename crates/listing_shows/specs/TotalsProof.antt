@@ -2,14 +2,16 @@
 use mathlib.Core.Path.{_≡_, refl, sym, ap, ap₂, _∙_}
 use mathlib.Core.Bool.{Bool, true, false, cond, not, _&&_, _||_}
 use mathlib.Core.List.{List, [], _∷_, map, flatMap}
-use Prim.Native.Nat.{ℕ, suc, _+_, _*_, _/_, _<_, _≤_}
+use Prim.Native.Nat.{ℕ, suc, _+_, _/_, _<_}
 use native.Mathlib.Omega.{arith}
 use lib.Dec.{ltb, eqb}
-use lib.ListN.{length, getD, length-map}
+use lib.ListN.{length, getD, length-map, length-append}
 use lib.Ieee.{Float, nan, ofBits}
 use lib.Ieee as Ieee
+use Rattle.laws.specs.Best.{totalFrom}
 use Rattle.laws.specs.Cases.{by-bool}
 use Rattle.laws.specs.Counting.{howMany, howMany-map, howMany-chosen, howMany-same, howMany-both, howMany-rest}
+use Rattle.laws.specs.Filter.{filterBy}
 use Rattle.laws.specs.Flat.{table}
 use Rattle.laws.specs.Tables.{table-of}
 use Rattle.laws.specs.Joined.{map-flat}
@@ -17,7 +19,7 @@ use Rattle.float.specs.Ops.{eq}
 use Rattle.float.specs.Constants.{f0, f2, f3, f4, whole}
 use Rattle.shape.specs.declared.Curve.{Curve}
 use Rattle.shape.specs.declared.Curve.the-variants.{Line, Quad, Cubic}
-use Rattle.sheet.specs.Sheet.{Arrow, Graph, meaning}
+use Rattle.sheet.specs.Sheet.{Arrow, Graph, meaning, flagsOf}
 use Rattle.sheet.specs.Meaning.{endsBelow, isKept}
 use Rattle.free.specs.declared.Chord.{Chord}
 use Rattle.bend.specs.Between.{straight, bowed, withBow, between}
@@ -25,19 +27,25 @@ use Rattle.label_spots.specs.declared.Geometry.{Geometry}
 use Rattle.label_spots.specs.Labels.{labelled}
 use Rattle.directions.specs.Loop.{loopCurve}
 use Rattle.self_loop.specs.Looped.{loopAt}
-use Rattle.records.specs.Records.{cornersOf, fields, decodeGeometry}
+use Rattle.records.specs.Records.{cornersOf, decodeGeometry}
 use Rattle.routing.specs.Routing.{Frame, BlockSize, Numbered, numberedFrom, numberedBy, numbered, numberedAt, isKeptIn, isLoop, joined, routeOf, isArc, arcShape, Item, loop, label, edgeOf, order, noItem, itemFor, drawnBy, drawnFor, drawing, records}
 use Rattle.routing.specs.Sheets.{endsOf, frameOf, sizesOf, recordsOf}
 use Rattle.routing_laws.specs.Numbers.{flat-numbered}
 use Rattle.routing_laws.specs.Slots.{records-each}
 use Rattle.routing_laws.specs.Demand.{sizeAt, recordFor, record-drawn, turnAt, placeAt, kept-turn, record-held}
 use Rattle.laws.specs.Places.{At}
-use Rattle.totals.specs.Totals.{pointCount, hasPoints, isLeftOut, labelLines, totalsOf}
+use Rattle.totals.specs.declared.Totals.{Totals}
+use Rattle.totals.specs.Totals.{pointCount, hasPoints, isLeftOut, totalsOf}
+use Rattle.drawing_text.specs.Lines.{totalLine}
+use Rattle.shape.specs.Centres.{centres}
+use Rattle.layout.specs.Layout.{Layout}
+use Rattle.calls.specs.Calls.{drawnOf, layoutFor}
 use Rattle.demand3.specs.Demand.{Call, Answered, recordAt}
 use Rattle.demand3.specs.Proof.{callRecords, record-is}
-use Rattle.listing_shows.specs.Shown.{Lent, ListAnswered, LayoutAnswered, routeCall, recordsRead, totalsRead}
-use Rattle.listing_shows.specs.Totalled.{pointNumbers, recordsWith, endMissing, endsSame, endsDiffer, Totalled, ListingTotals}
-use Rattle.listing_shows.specs.Proof.{numbers-many, read-back, listing-shows}
+use Rattle.listing_shows.specs.Shown.{Lent, ListAnswered, LayoutAnswered, routeCall, recordsRead, lastLine}
+use Rattle.listing_shows.specs.Totalled.{pointNumbers, recordsWith, endMissing, endsSame, endsDiffer, linesOfKept, Totalled, ListingTotals}
+use Rattle.listing_shows.specs.Found.{last-at, linesBefore, total-ends}
+use Rattle.listing_shows.specs.Proof.{numbers-many, read-back, wrote-is, listed-records}
 
 -- ---- the points of each record
 
@@ -129,9 +137,21 @@ kept-ends false s = refl
 kept-ends true true = refl
 kept-ends true false = refl
 
-not-both : (a b : Bool) → not (a && b) ≡ (not a || not b)
-not-both true b = refl
-not-both false b = refl
+one-missing : (a b : Bool) → not (a && b) ≡ (not a || not b)
+one-missing true b = refl
+one-missing false b = refl
+
+-- the lines of the arrows, from n on
+lines-from : (g : Graph) (n : ℕ) (l : List Arrow) → totalFrom n (map (linesOfKept g) l) ≡ n + length (flatMap (λ (a : Arrow). a .lines) (filterBy (isKept g) l))
+unfolding totalFrom filterBy flatMap
+lines-from g n [] = omega arith
+lines-from g n (a ∷ l) =
+    let more : List (List ℕ) = flatMap (λ (a : Arrow). a .lines) (filterBy (isKept g) l) in
+    let e : endMissing g a ≡ not (isKept g a) = sym (one-missing (ltb (a .source) (length (g .states))) (ltb (a .target) (length (g .states)))) in
+    lines-from g (n + linesOfKept g a) l
+    ∙ by-bool (isKept g a)
+    (λ t. rw (e, t) (omega (arith, length-append (a .lines) more)))
+    (λ t. rw (e, t) (omega arith))
 
 module _ (g : Graph) (xs ys : List Float) where
   abbrev gs : List Geometry
@@ -162,7 +182,7 @@ module _ (g : Graph) (xs ys : List Float) where
       ∙ arrows-many _ (endsDiffer g) (λ k a. ap (λ (b : Bool). b && not (eqb (a .source) (a .target))) (kept-is k a))
 
   missing-are : howMany (isLeftOut g) (g .arrows) ≡ howMany (endMissing g) (g .arrows)
-  missing-are = howMany-same (isLeftOut g) (endMissing g) (g .arrows) (λ a. not-both (ltb (a .source) (length (g .states))) (ltb (a .target) (length (g .states))))
+  missing-are = howMany-same (isLeftOut g) (endMissing g) (g .arrows) (λ a. one-missing (ltb (a .source) (length (g .states))) (ltb (a .target) (length (g .states))))
 
   kept-are : howMany (endsDiffer g) (g .arrows) + howMany (endsSame g) (g .arrows) ≡ howMany (isKept g) (g .arrows)
   kept-are = howMany-both (endsDiffer g) (endsSame g) (isKept g) (g .arrows) (λ a. kept-ends (isKept g a) (eqb (a .source) (a .target)))
@@ -200,23 +220,58 @@ module _ (r : Call) (a : Answered r) where
       ∙ sym (howMany-map (λ v. eq v (whole n)) (λ (g : Geometry). cornersOf (g .curve) .n) (callRecords r))
       ∙ ap (howMany (λ v. eq v (whole n))) (sym numbers-are)
 
+-- every curve has two, three or four
+all-counted : (gs : List Geometry) → howMany (hasPoints 2) gs + howMany (hasPoints 3) gs + howMany (hasPoints 4) gs ≡ length gs
+unfolding howMany
+all-counted [] = refl
+all-counted (g ∷ gs) = go (g .curve) (all-counted gs)
+  where
+    go : (c : Curve) → howMany (hasPoints 2) gs + howMany (hasPoints 3) gs + howMany (hasPoints 4) gs ≡ length gs
+        → (cond (eqb (pointCount c) 2) 1 0 + howMany (hasPoints 2) gs) + (cond (eqb (pointCount c) 3) 1 0 + howMany (hasPoints 3) gs) + (cond (eqb (pointCount c) 4) 1 0 + howMany (hasPoints 4) gs) ≡ suc (length gs)
+    go (Line p q) e = omega arith
+    go (Quad p c q) e = omega arith
+    go (Cubic p c d q) e = omega arith
+
 -- ---- the claim
 
+module _ (c : Lent) (a : ListAnswered c) where
+  abbrev graph : Graph
+  graph = meaning (c .sheet)
+
+  abbrev plan : Layout
+  plan = layoutFor (c .sheet) (c .kind)
+
+  -- what is listed
+  abbrev listed : List Geometry
+  listed = drawnOf (c .sheet) (plan .xs) (plan .ys)
+
+  abbrev counts : Totals
+  counts = totalsOf graph listed
+
+  -- with these points, as `route` leaves them
+  left-with : (n : ℕ) → Tells n → (l : LayoutAnswered c) (r : Answered (routeCall c l)) → howMany (hasPoints n) listed ≡ recordsWith (routeCall c l) r n
+  left-with n t l r = ap (howMany (hasPoints n)) (sym (listed-records c a l r)) ∙ records-with (routeCall c l) r n t
+
+  totalled : Totalled c a
+  unfolding totalsOf
+  totalled =
+      let cs = centres (plan .xs) (plan .ys) in
+      let flags = flagsOf graph in
+      record {
+        totals = counts;
+        before = linesBefore (plan .width) (plan .height) cs flags listed counts [] (totalLine counts);
+        ends = wrote-is c a ∙ total-ends (plan .width) (plan .height) cs flags listed counts [] (totalLine counts);
+        line = ap lastLine (wrote-is c a) ∙ last-at (plan .width) (plan .height) cs flags listed counts [] (totalLine counts);
+        left-out = missing-are graph (plan .xs) (plan .ys);
+        lines = omega (arith, lines-from graph 0 (graph .arrows));
+        same-ends = loops-are graph (plan .xs) (plan .ys);
+        other-ends = others-are graph (plan .xs) (plan .ys);
+        all = all-are graph (plan .xs) (plan .ys);
+        straight = left-with 2 (tells .0);
+        arcs = left-with 3 (tells .1);
+        loops = left-with 4 (tells .2);
+        every-record = λ l r. omega (arith, all-counted listed, ap length (listed-records c a l r), ap length (read-back (routeCall c l) r), numbers-many (routeCall c l) r);
+      }
+
 pub listing-totals : ListingTotals
-unfolding totalsOf
-listing-totals c a l r =
-    let d : Call = routeCall c l in
-    let g : Graph = meaning (c .sheet) in
-    let back : (n : ℕ) → howMany (hasPoints n) (recordsRead d r) ≡ howMany (hasPoints n) (callRecords d) = λ n. ap (howMany (hasPoints n)) (read-back d r) in
-    record {
-      totals = totalsRead d r;
-      line = listing-shows .shows c a l r .total;
-      straight = records-with d r 2 (tells .0);
-      arcs = records-with d r 3 (tells .1);
-      loops = records-with d r 4 (tells .2);
-      left-out = missing-are g (d .xs) (d .ys);
-      lines = refl;
-      same-ends = back 4 ∙ loops-are g (d .xs) (d .ys);
-      other-ends = ap₂ (λ (m n : ℕ). m + n) (back 2) (back 3) ∙ others-are g (d .xs) (d .ys);
-      all = omega (arith, back 2, back 3, back 4, all-are g (d .xs) (d .ys));
-    }
+listing-totals = totalled
