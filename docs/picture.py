@@ -1,5 +1,5 @@
 """Draws a listing as SVG: picture.py SHEET LISTING > SVG. The listing has no label text; it is read from the sheet.
-The arrows and label lines drawn must be those that the listing's last line counts."""
+The arrows drawn and left out, and the label lines drawn, must be as many as the listing's last line counts."""
 import sys
 
 sheet = open(sys.argv[1], "rb").read()

@@ -8,7 +8,7 @@
  * A pointer with a length is to that many elements. No pointer is null, each is aligned for its type, and what a call
  * may write overlaps nothing else that the call is lent. No heap is used, and nothing is kept between calls. The working
  * space is on the stack: at most about 450,000 bytes for murshogi_list, 409,000 for murshogi_layout, 365,000 for
- * murshogi_clutter, 364,000 for murshogi_route, 5,400 for murshogi_check, 1,500 for murshogi_write_num and 1,200 for
+ * murshogi_clutter, 364,000 for murshogi_route, 4,200 for murshogi_check, 1,500 for murshogi_write_num and 1,200 for
  * murshogi_label_size.
  */
 #ifndef MURSHOGI_H
@@ -36,10 +36,11 @@ enum {
 };
 
 /* The most bytes that path text and a listing can have. A written number has at most 17 bytes, so a path with its newline
- * has at most 148 and the four lines of an arrow 397; the last line of a listing has at most 27. */
+ * has at most 148 and the four lines of an arrow 397; the last line of a listing has at most 25, as its first four
+ * numbers add up to 256 at most. */
 enum {
     MURSHOGI_PATHS = 148 * MURSHOGI_ARROWS,
-    MURSHOGI_LISTING = 41 + (45 + 125) * MURSHOGI_STATES + 397 * MURSHOGI_ARROWS + 27
+    MURSHOGI_LISTING = 41 + (45 + 125) * MURSHOGI_STATES + 397 * MURSHOGI_ARROWS + 25
 };
 
 /* Checks a sheet: 0 where it is accepted. */

@@ -99,8 +99,8 @@ unfolding listWritable listLines linesWritable every
 list-tests w h cs flags gs t =
     let states : List TextLine = map stateLine (statesFrom 0 cs) in
     let begun : List TextLine = map startLine (starts flags (statesFrom 0 cs)) in
-    let last : List TextLine = begun ++ (totalLine t ∷ []) in
+    let ending : List TextLine = begun ++ (totalLine t ∷ []) in
     ap (λ (b : Bool). lineWritable (sizeLine w h) && b)
-    (every-join lineWritable states (flatMap recordLines gs ++ last)
+    (every-join lineWritable states (flatMap recordLines gs ++ ending)
     ∙ ap (λ (b : Bool). every lineWritable states && b)
-    (every-join lineWritable (flatMap recordLines gs) last ∙ ap (λ (b : Bool). every lineWritable (flatMap recordLines gs) && b) (total-passes begun t)))
+    (every-join lineWritable (flatMap recordLines gs) ending ∙ ap (λ (b : Bool). every lineWritable (flatMap recordLines gs) && b) (total-passes begun t)))

@@ -28,11 +28,11 @@ pub and-assoc : (a b c : Bool) → ((a && b) && c) ≡ (a && (b && c))
 and-assoc true b c = refl
 and-assoc false b c = refl
 
--- by what the code found of the first: the second decides, or neither need be looked at
 pub and-true : (b : Bool) → (b && true) ≡ b
 and-true true = refl
 and-true false = refl
 
+-- by what the code found of the first: the second decides, or neither need be looked at
 pub and-yes : {a b r : Bool} → a ≡ true → r ≡ b → r ≡ (a && b)
 and-yes e f = rw (e, f)
 

@@ -149,6 +149,22 @@ unfolding statesFrom
 states-many k [] = refl
 states-many k (c ∷ cs) = ap suc (states-many (suc k) cs)
 
+-- the lines before the last
+abbrev pub linesBefore : Float → Float → List «V» → List ℕ → List Geometry → List TextLine
+linesBefore w h cs flags gs =
+    let states = statesFrom 0 cs in
+    sizeLine w h ∷ (map stateLine states ++ (flatMap recordLines gs ++ map startLine (starts flags states)))
+
+pub total-ends : (w h : Float) (cs : List «V») (flags : List ℕ) (gs : List Geometry) (t : Totals) → listText w h cs flags gs t ≡ linesText (linesBefore w h cs flags gs) ++ lineText (totalLine t)
+unfolding listText listLines linesText
+total-ends w h cs flags gs t =
+    let states : List TextLine = map stateLine (statesFrom 0 cs) in
+    let drawn : List TextLine = flatMap recordLines gs in
+    let begun : List TextLine = map startLine (starts flags (statesFrom 0 cs)) in
+    ap (λ (l : List TextLine). flatMap lineText (sizeLine w h ∷ l))
+    (ap (λ (l : List TextLine). states ++ l) (sym (append-assoc drawn begun (totalLine t ∷ []))) ∙ sym (append-assoc states (drawn ++ begun) (totalLine t ∷ [])))
+    ∙ flat-snoc lineText (linesBefore w h cs flags gs) (totalLine t)
+
 module _ (w h : Float) (cs : List «V») (flags : List ℕ) (gs : List Geometry) (t : Totals) (tail : List ℕ) (d : TextLine) where
   abbrev its : List TextLine
   its = listLines w h cs flags gs t
@@ -250,16 +266,3 @@ module _ (w h : Float) (cs : List «V») (flags : List ℕ) (gs : List Geometry)
       ∙ ap (textLineAt (length its - 1)) (sym (append-nil (linesText its)))
       ∙ line-at its [] (length its - 1) d all-single (omega (arith, its-many))
       ∙ ap bodyText total-in
-
-  -- and what stands before it
-  abbrev pub linesBefore : List ℕ
-  linesBefore = linesText (sizeLine w h ∷ (map stateLine (statesFrom 0 cs) ++ (flatMap recordLines gs ++ map startLine (starts flags (statesFrom 0 cs)))))
-
-  pub total-ends : listText w h cs flags gs t ≡ linesBefore ++ lineText (totalLine t)
-  unfolding listText listLines linesText
-  total-ends =
-      let a : List TextLine = map stateLine (statesFrom 0 cs) in
-      let b : List TextLine = flatMap recordLines gs in
-      let d : List TextLine = map startLine (starts flags (statesFrom 0 cs)) in
-      ap (λ (l : List TextLine). flatMap lineText (sizeLine w h ∷ l)) (ap (λ (l : List TextLine). a ++ l) (sym (append-assoc b d (totalLine t ∷ []))) ∙ sym (append-assoc a (b ++ d) (totalLine t ∷ [])))
-      ∙ flat-snoc lineText (sizeLine w h ∷ (a ++ (b ++ d))) (totalLine t)

@@ -70,7 +70,7 @@ pub record Totalled (c : Lent) (a : ListAnswered c) : Type 0 where
   pub other-ends : totals .straight + totals .arcs ≡ arrowsWith c endsDiffer
   -- "The first four add up to the sheet's arrows."
   pub all : totals .straight + totals .arcs + totals .loops + totals .«left_out» ≡ length (meaning (c .sheet) .arrows)
-  -- over the records that `route` leaves at the layout's centres: straight arrows, arcs and loops by their points, and no others
+  -- over the records that `route` leaves at the layout's centres: straight arrows, arcs and loops by their points, and no others (with slices long enough both answer: `lays` and `routes` of ListingShows)
   pub straight : (l : LayoutAnswered c) (r : Answered (routeCall c l)) → totals .straight ≡ recordsWith (routeCall c l) r 2
   pub arcs : (l : LayoutAnswered c) (r : Answered (routeCall c l)) → totals .arcs ≡ recordsWith (routeCall c l) r 3
   pub loops : (l : LayoutAnswered c) (r : Answered (routeCall c l)) → totals .loops ≡ recordsWith (routeCall c l) r 4

@@ -36,7 +36,7 @@ use Rattle.routing_laws.specs.Demand.{sizeAt, recordFor, record-drawn, turnAt, 
 use Rattle.laws.specs.Places.{At}
 use Rattle.totals.specs.declared.Totals.{Totals}
 use Rattle.totals.specs.Totals.{pointCount, hasPoints, isLeftOut, totalsOf}
-use Rattle.drawing_text.specs.Lines.{totalLine}
+use Rattle.drawing_text.specs.Lines.{linesText, totalLine}
 use Rattle.shape.specs.Centres.{centres}
 use Rattle.layout.specs.Layout.{Layout}
 use Rattle.calls.specs.Calls.{drawnOf, layoutFor}
@@ -259,8 +259,8 @@ module _ (c : Lent) (a : ListAnswered c) where
       let flags = flagsOf graph in
       record {
         totals = counts;
-        before = linesBefore (plan .width) (plan .height) cs flags listed counts [] (totalLine counts);
-        ends = wrote-is c a ∙ total-ends (plan .width) (plan .height) cs flags listed counts [] (totalLine counts);
+        before = linesText (linesBefore (plan .width) (plan .height) cs flags listed);
+        ends = wrote-is c a ∙ total-ends (plan .width) (plan .height) cs flags listed counts;
         line = ap lastLine (wrote-is c a) ∙ last-at (plan .width) (plan .height) cs flags listed counts [] (totalLine counts);
         left-out = missing-are graph (plan .xs) (plan .ys);
         lines = omega (arith, lines-from graph 0 (graph .arrows));

@@ -40,9 +40,9 @@ module _ (s : List ℕ) (k n : ℕ) (d : Record) (e : d ≡ recordOf s k) (b : B
   unfolding linesAdd arrowOf
   lines-none h = rw (← ends, h)
 
-pub arrows-start : {A : Type 0} (g : A → Arrow → A) (a : A) (s : List ℕ) (i m : ℕ) → i ≡ firstArrow s → m ≡ count s → over g a (map (arrowOf s) (chainBy s (m + 1) i)) ≡ over g a (arrowsOf s)
+pub fold-start : {A : Type 0} (g : A → Arrow → A) (a : A) (s : List ℕ) (i m : ℕ) → i ≡ firstArrow s → m ≡ count s → over g a (map (arrowOf s) (chainBy s (m + 1) i)) ≡ over g a (arrowsOf s)
 unfolding arrowsOf
-arrows-start g a s i m e q = rw (e, q)
+fold-start g a s i m e q = rw (e, q)
 
 -- t are the arrows as the code counted them
 pub totals-are : (g : Graph) (gs : List Geometry) (n : ℕ) (t : ArrowCounts) (a b c : ℕ) → n ≡ length (g .states) → t ≡ over (withArrow n) noneCounted (g .arrows)

@@ -90,7 +90,7 @@ smallRecords = recordsOf smallGraph smallXs smallYs
 abbrev pub emptyLayout : Layout
 emptyLayout = record { xs = []; ys = []; width = whole 32; height = whole 32 }
 
--- document 02, T-01: without arrows and labels the last line has five zeros
+-- no arrows and no lines
 abbrev pub emptyListing : List ℕ
 emptyListing = ascii "size 32 32\n" ++ ascii "total 0 0 0 0 0\n"
 

@@ -58,28 +58,6 @@ empty-clear : Clear (refusals mainScreen emptySheet)
 unfolding decide Refusals.checkOf flatMap anyFor anyUp anyOf Refusals.repeats Refusals.isSet Refusals.wrongBytes Refusals.indices Refusals.wrongChains Refusals.overLimits Refusals.illFormed Sheet.chainBy Sheet.met Sheet.statesOf Sheet.arrowsOf
 empty-clear = accepted-exactly mainScreen emptySheet .0 refl
 
-laid : layoutFor small 0 ≡ smallLayout
-laid = ap (λ (g : Graph). layoutOf 0 (planOf g)) small-means ∙ computed .small .laid
-
-within : layoutBeyond 0 (planOf (meaning small)) ≡ false
-within = ap (λ (g : Graph). layoutBeyond 0 (planOf g)) small-means ∙ computed .small .within
-
-layout-clear : (n m : ℕ) → 2 ≤ n → 2 ≤ m → Clear (layoutRefusals small 0 n m)
-layout-clear n m h i =
-    let o : (short n (layoutFor small 0 .xs) || short m (layoutFor small 0 .ys)) ≡ false =
-    ap (λ (l : Layout). short n (l .xs) || short m (l .ys)) laid ∙ or-none _ _ (le-ltb n 2 h) (le-ltb m 2 i) in
-    clear-from _ _ (refusals mainScreen small) (without 11 refl (without 9 within (without 7 o clear-none))) small-clear refl
-
-route-clear : (n m : ℕ) → 20 ≤ n → 17 ≤ m → Clear (routeRefusals small smallXs smallYs n m)
-route-clear n m h i =
-    let near : farCentre (length (meaning small .states)) smallXs smallYs ≡ false = ap (λ (g : Graph). farCentre (length (g .states)) smallXs smallYs) small-means ∙ computed .small .near in
-    let single : beyond (frameOf (meaning small) smallXs smallYs) ≡ false = ap (λ (g : Graph). beyond (frameOf g smallXs smallYs)) small-means ∙ computed .small .single in
-    let ok : not (pathsWritable (drawnOf small smallXs smallYs)) ≡ false = ap (λ (g : Graph). not (pathsWritable (recordsOf g smallXs smallYs))) small-means ∙ ap not (computed .paths-ok) in
-    let o : (short n (numbersOf (drawnOf small smallXs smallYs)) || short m (pathsText (drawnOf small smallXs smallYs))) ≡ false =
-    ap (λ (g : Graph). short n (numbersOf (recordsOf g smallXs smallYs)) || short m (pathsText (recordsOf g smallXs smallYs))) small-means
-    ∙ or-none _ _ (le-ltb n (length (numbersOf smallRecords)) (omega (arith, computed .numbers))) (le-ltb m (length (pathsText smallRecords)) (omega (arith, ap length (computed .paths)))) in
-    clear-from _ _ (refusals mainScreen small) (without 8 near (without 9 single (without 10 ok (without 7 o clear-none)))) small-clear refl
-
 -- a sheet that means a graph listed as Auto
 module _ (s : List ℕ) (g : Graph) (p : Layout) (t : List ℕ) (clear : Clear (refusals mainScreen s)) (means : meaning s ≡ g) (c : AutoListed g p t) where
   lay : layoutFor s 0 ≡ p
@@ -113,6 +91,30 @@ module _ (s : List ℕ) (g : Graph) (p : Layout) (t : List ℕ) (clear : Clear (
   auto-text : (out : List ℕ) → length t ≤ length out → listAfter s 0 out ≡ onto t out
   unfolding listAfter
   auto-text out h = clear-decides (λ (k : ℕ). out) _ (listRefusals s 0 (length out)) (list-clear (length out) h) ∙ ap (λ (t : List ℕ). onto t out) listing-is
+
+-- ---- the worked sheet by `layout` and `route`
+
+laid : layoutFor small 0 ≡ smallLayout
+laid = lay small smallGraph smallLayout workedListing small-clear small-means (computed .small)
+
+within : layoutBeyond 0 (planOf (meaning small)) ≡ false
+within = ap (λ (g : Graph). layoutBeyond 0 (planOf g)) small-means ∙ computed .small .within
+
+layout-clear : (n m : ℕ) → 2 ≤ n → 2 ≤ m → Clear (layoutRefusals small 0 n m)
+layout-clear n m h i =
+    let o : (short n (layoutFor small 0 .xs) || short m (layoutFor small 0 .ys)) ≡ false =
+    ap (λ (l : Layout). short n (l .xs) || short m (l .ys)) laid ∙ or-none _ _ (le-ltb n 2 h) (le-ltb m 2 i) in
+    clear-from _ _ (refusals mainScreen small) (without 11 refl (without 9 within (without 7 o clear-none))) small-clear refl
+
+route-clear : (n m : ℕ) → 20 ≤ n → 17 ≤ m → Clear (routeRefusals small smallXs smallYs n m)
+route-clear n m h i =
+    let near : farCentre (length (meaning small .states)) smallXs smallYs ≡ false = ap (λ (g : Graph). farCentre (length (g .states)) smallXs smallYs) small-means ∙ computed .small .near in
+    let single : beyond (frameOf (meaning small) smallXs smallYs) ≡ false = ap (λ (g : Graph). beyond (frameOf g smallXs smallYs)) small-means ∙ computed .small .single in
+    let ok : not (pathsWritable (drawnOf small smallXs smallYs)) ≡ false = ap (λ (g : Graph). not (pathsWritable (recordsOf g smallXs smallYs))) small-means ∙ ap not (computed .paths-ok) in
+    let o : (short n (numbersOf (drawnOf small smallXs smallYs)) || short m (pathsText (drawnOf small smallXs smallYs))) ≡ false =
+    ap (λ (g : Graph). short n (numbersOf (recordsOf g smallXs smallYs)) || short m (pathsText (recordsOf g smallXs smallYs))) small-means
+    ∙ or-none _ _ (le-ltb n (length (numbersOf smallRecords)) (omega (arith, computed .numbers))) (le-ltb m (length (pathsText smallRecords)) (omega (arith, ap length (computed .paths)))) in
+    clear-from _ _ (refusals mainScreen small) (without 8 near (without 9 single (without 10 ok (without 7 o clear-none)))) small-clear refl
 
 -- ---- what is answered and left
 

@@ -116,7 +116,7 @@ macro_rules! theirs {
 }
 
 impl Case {
-    fn port(&mut self, call: Call) -> u8 {
+    pub fn port(&mut self, call: Call) -> u8 {
         let (s, n) = (self.sheet.as_ptr(), self.sheet.len());
         let (text, room) = (self.text.as_mut_ptr(), self.text.len());
         let (x, y) = (&self.x, &self.y);

@@ -3,7 +3,7 @@
 use std::ffi::c_void;
 use std::hint::black_box;
 
-use super::calls::{CALLS, Case, Side, cases, figure};
+use super::calls::{CALLS, Case, cases, figure};
 
 const ROOM: usize = 8 << 20;
 const PAINT: u8 = 0xa5;
@@ -55,7 +55,7 @@ pub fn print() {
     println!("| call | {} |", cases.iter().map(|c| c.name).collect::<Vec<_>>().join(" | "));
     println!("|---|---|---|---|");
     for (call, name) in CALLS {
-        let bytes = |c: &mut Case| figure((depth(&mut || c.run(Side::Port, call)) - nothing) as f64);
+        let bytes = |c: &mut Case| figure((depth(&mut || c.port(call)) - nothing) as f64);
         println!("| {name} | {} |", cases.iter_mut().map(bytes).collect::<Vec<_>>().join(" | "));
     }
 }

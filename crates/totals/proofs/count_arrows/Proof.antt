@@ -8,7 +8,7 @@ use Rattle.laws.specs.Loops.{over}
 use Rattle.sheet.specs.Sheet.{chainBy, arrowOf, arrowsOf}
 use Rattle.sheet.specs.Chains.{things-end, things-cut, things-step}
 use Rattle.totals.specs.Arrows.{noneCounted, withArrow}
-use Rattle.totals.proofs.Laws.{arrows-start}
+use Rattle.totals.proofs.Laws.{fold-start}
 use borrow.Author.Needs.{needs}
 use Rattle.totals.proofs.count_arrows.Statement.{statement}
 use Rattle.totals.proofs.count_arrows.Tie as tie
@@ -33,7 +33,7 @@ add-left : tie.Need-add-left Inv-loop μ-loop
 add-left c = search needs
 
 loop-holds : tie.Need-loop-holds Inv-loop μ-loop
-loop-holds c = (arrows-start (withArrow (c .before .before .before .args .n)) noneCounted (now (c .before .before .before .args .s)) _ _ (c .before .word-at .ensures .0) (c .word-at2 .ensures .0), omega arith, omega arith, omega arith)
+loop-holds c = (fold-start (withArrow (c .before .before .before .args .n)) noneCounted (now (c .before .before .before .args .s)) _ _ (c .before .word-at .ensures .0) (c .word-at2 .ensures .0), omega arith, omega arith, omega arith)
 
 returns : tie.Need-returns Inv-loop μ-loop
 returns c = let s = now (c .before .before .before .before .before .before .args .s) in things-cut (withArrow (c .before .before .before .before .before .before .args .n)) s (arrowOf s) (c .before .before .loop .left) (c .before .before .loop .i) (c .before .before .loop .t) (c .if1 .taken) ∙ c .before .before .loop .inv .0
