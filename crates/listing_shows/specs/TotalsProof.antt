@@ -49,8 +49,8 @@ use Rattle.listing_shows.specs.Proof.{numbers-many, read-back, wrote-is,
 
 -- ---- the points of each record
 
-abbrev pointsOf : Geometry → ℕ
-pointsOf g = pointCount (g .curve)
+abbrev recordPoints : Geometry → ℕ
+recordPoints g = pointCount (g .curve)
 
 -- of a kept arrow: a loop has four, an arc three, a straight arrow two
 abbrev pointsFor : Frame → Numbered → ℕ
@@ -64,24 +64,24 @@ joined-points : (f : Frame) (a : Numbered) → pointCount (joined f a .curve) �
 unfolding joined between
 joined-points f a = bow-points _ _
 
-loop-points : (f : Frame) (a : Numbered) (z : BlockSize) (j : ℕ) → pointsOf (drawnBy f (loop a) z j) ≡ 4
+loop-points : (f : Frame) (a : Numbered) (z : BlockSize) (j : ℕ) → recordPoints (drawnBy f (loop a) z j) ≡ 4
 unfolding loopAt labelled loopCurve
 loop-points f a z j = refl
 
-label-points : (f : Frame) (a : Numbered) (z : BlockSize) (j : ℕ) → pointsOf (drawnBy f (label (routeOf f a)) z j) ≡ cond (isArc (routeOf f a)) 3 2
+label-points : (f : Frame) (a : Numbered) (z : BlockSize) (j : ℕ) → recordPoints (drawnBy f (label (routeOf f a)) z j) ≡ cond (isArc (routeOf f a)) 3 2
 unfolding labelled
 label-points f a z j = joined-points f a
 
 module _ (f : Frame) (sizes : List BlockSize) where
   -- at turn t, which is i
   turn-points : (t : ℕ) (i : Item) → t < length (order f) → turnAt f t ≡ i
-      → map pointsOf (recordFor f sizes (edgeOf i)) ≡ pointsOf (drawnBy f i (sizeAt f sizes noItem t) (placeAt f sizes t)) ∷ []
+      → map recordPoints (recordFor f sizes (edgeOf i)) ≡ recordPoints (drawnBy f i (sizeAt f sizes noItem t) (placeAt f sizes t)) ∷ []
   turn-points t i h e =
-      ap (λ (i : Item). map pointsOf (recordFor f sizes (edgeOf i))) (sym e)
-      ∙ ap (map pointsOf) (record-held f sizes t h)
-      ∙ ap (λ (i : Item). pointsOf (drawnBy f i (sizeAt f sizes noItem t) (placeAt f sizes t)) ∷ []) e
+      ap (λ (i : Item). map recordPoints (recordFor f sizes (edgeOf i))) (sym e)
+      ∙ ap (map recordPoints) (record-held f sizes t h)
+      ∙ ap (λ (i : Item). recordPoints (drawnBy f i (sizeAt f sizes noItem t) (placeAt f sizes t)) ∷ []) e
 
-  record-points : (k : ℕ) → k < length (f .arrows) → map pointsOf (recordFor f sizes k) ≡ cond (isKeptIn f (numberedAt f k)) (pointsFor f (numberedAt f k) ∷ []) []
+  record-points : (k : ℕ) → k < length (f .arrows) → map recordPoints (recordFor f sizes k) ≡ cond (isKeptIn f (numberedAt f k)) (pointsFor f (numberedAt f k) ∷ []) []
   record-points k h =
       let a : Numbered = numberedAt f k in
       by-bool (isKeptIn f a)
@@ -97,17 +97,17 @@ module _ (f : Frame) (sizes : List BlockSize) where
       (turn-points (at .place) (label (routeOf f a)) (at .inside) e ∙ ap (λ (n : ℕ). n ∷ []) (label-points f a (sizeAt f sizes noItem (at .place)) (placeAt f sizes (at .place))))))
       (λ c.
       let none : recordFor f sizes k ≡ [] = rw c at (record-drawn f sizes k h) in
-      rw c (ap (map pointsOf) none))
+      rw c (ap (map recordPoints) none))
 
-  all-points : map pointsOf (records f sizes) ≡ flatMap (λ a. cond (isKeptIn f a) (pointsFor f a ∷ []) []) (numbered f)
+  all-points : map recordPoints (records f sizes) ≡ flatMap (λ a. cond (isKeptIn f a) (pointsFor f a ∷ []) []) (numbered f)
   all-points =
-      ap (map pointsOf) (records-each f sizes)
-      ∙ map-flat pointsOf (λ a. cond (isKeptIn f a) (drawnFor (drawing f sizes) a) []) (numbered f)
-      ∙ flat-numbered _ _ f (λ k h. ap (map pointsOf) (sym (record-drawn f sizes k h)) ∙ record-points k h)
+      ap (map recordPoints) (records-each f sizes)
+      ∙ map-flat recordPoints (λ a. cond (isKeptIn f a) (drawnFor (drawing f sizes) a) []) (numbered f)
+      ∙ flat-numbered _ _ f (λ k h. ap (map recordPoints) (sym (record-drawn f sizes k h)) ∙ record-points k h)
 
   points-many : (n : ℕ) → howMany (hasPoints n) (records f sizes) ≡ howMany (λ a. isKeptIn f a && eqb (pointsFor f a) n) (numbered f)
   points-many n =
-      sym (howMany-map (λ m. eqb m n) pointsOf (records f sizes))
+      sym (howMany-map (λ m. eqb m n) recordPoints (records f sizes))
       ∙ ap (howMany (λ m. eqb m n)) all-points
       ∙ howMany-chosen (λ m. eqb m n) (isKeptIn f) (pointsFor f) (numbered f)
 
