@@ -116,12 +116,15 @@ macro_rules! theirs {
 }
 
 impl Case {
+    #[inline(never)]
     pub fn port(&mut self, call: Call) -> u8 {
+        super::stack::mark();
         let (s, n) = (self.sheet.as_ptr(), self.sheet.len());
         let (text, room) = (self.text.as_mut_ptr(), self.text.len());
         let (x, y) = (&self.x, &self.y);
         let (mut nx, mut ny, mut size, mut lengths) = ([0.0; 64], [0.0; 64], [0.0; 2], [0; 2]);
-        unsafe {
+        // the answer is used here, so that no call takes the place of this function's own frame
+        black_box(unsafe {
             match call {
                 Call::Check => murshogi_check(s, n),
                 Call::LabelSize => murshogi_label_size(
@@ -141,7 +144,7 @@ impl Case {
                 ),
                 Call::List => murshogi_list(s, n, 0, text, room, lengths.as_mut_ptr()),
             }
-        }
+        })
     }
 
     /// The answer: 0, or a refusal's number.

@@ -2,8 +2,20 @@
 
 use std::ffi::c_void;
 use std::hint::black_box;
+use std::sync::atomic::{AtomicUsize, Ordering};
 
 use super::calls::{CALLS, Case, cases, figure};
+
+/// The stack pointer where the port was last called from: what lies below it is the port's.
+static CALLED: AtomicUsize = AtomicUsize::new(0);
+
+/// Notes the stack pointer of the function that it is written into, which is the same all through that function.
+#[inline(always)]
+pub fn mark() {
+    let pointer: usize;
+    unsafe { std::arch::asm!("mov {}, rsp", out(reg) pointer, options(nomem, nostack, preserves_flags)) };
+    CALLED.store(pointer, Ordering::Relaxed);
+}
 
 const ROOM: usize = 8 << 20;
 const PAINT: u8 = 0xa5;
@@ -19,21 +31,18 @@ unsafe extern "C" {
 
 struct Job<'a> {
     f: &'a mut dyn FnMut() -> u8,
-    top: usize,
 }
 
 extern "C" fn work(job: *mut c_void) -> *mut c_void {
     let job = unsafe { &mut *job.cast::<Job>() };
-    let mark = 0_u8;
-    job.top = (&raw const mark).addr();
     assert!(black_box((job.f)()) == 0);
     std::ptr::null_mut()
 }
 
-/// How far below its caller `f` paints over.
+/// How far below the place where it calls the port `f` paints over.
 fn depth(f: &mut dyn FnMut() -> u8) -> usize {
     let layout = std::alloc::Layout::from_size_align(ROOM, 4096).unwrap();
-    let mut job = Job { f, top: 0 };
+    let mut job = Job { f };
     unsafe {
         let low = std::alloc::alloc(layout);
         low.write_bytes(PAINT, ROOM);
@@ -44,18 +53,17 @@ fn depth(f: &mut dyn FnMut() -> u8) -> usize {
         assert!(pthread_join(thread, std::ptr::null_mut()) == 0);
         let clean = std::slice::from_raw_parts(low, ROOM).iter().take_while(|b| **b == PAINT).count();
         std::alloc::dealloc(low, layout);
-        job.top - (low.addr() + clean)
+        CALLED.load(Ordering::Relaxed) - (low.addr() + clean)
     }
 }
 
 /// Bytes of stack of the port's calls, on each sheet.
 pub fn print() {
     let mut cases = cases();
-    let nothing = depth(&mut || 0);
     println!("| call | {} |", cases.iter().map(|c| c.name).collect::<Vec<_>>().join(" | "));
     println!("|---|---|---|---|");
     for (call, name) in CALLS {
-        let bytes = |c: &mut Case| figure((depth(&mut || c.port(call)) - nothing) as f64);
+        let bytes = |c: &mut Case| figure(depth(&mut || c.port(call)) as f64);
         println!("| {name} | {} |", cases.iter_mut().map(bytes).collect::<Vec<_>>().join(" | "));
     }
 }
