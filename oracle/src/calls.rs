@@ -357,6 +357,32 @@ mod tests {
         }
     }
 
+    /// Sheets that differ in accents alone are laid out, routed, counted and listed alike. About half of the sheets
+    /// have accents, and in some of these a piece ends within one.
+    #[test]
+    fn accents_change_nothing() {
+        let rng = &mut Random::new(23);
+        let (mut some, mut parted) = (0, 0);
+        for i in 0..2_000 {
+            let by = (i % 3) as u8;
+            let sheet = generate::drawing(rng);
+            let sort = generate::sort_of_accents(&sheet);
+            some += usize::from(sort.0);
+            parted += usize::from(sort.1);
+            let plain = generate::without_accents(rng, &sheet);
+            assert!(!generate::sort_of_accents(&plain).0);
+            let (sheet, plain) = (ordered(&sheet), ordered(&plain));
+            let l = layout(&sheet, by, 64, 64).unwrap();
+            assert_eq!(layout(&plain, by, 64, 64).as_ref(), Ok(&l));
+            let routed = |s: &[u8]| route(s, &l.x, &l.y, (5120, 65_536)).map(|r| (r.records, r.text));
+            assert_eq!(routed(&sheet), routed(&plain));
+            assert_eq!(clutter(&sheet, &l.x, &l.y), clutter(&plain, &l.x, &l.y));
+            assert_eq!(list(&sheet, by, 65_536), list(&plain, by, 65_536));
+        }
+        assert!((900..1_100).contains(&some), "accents in {some}");
+        assert!(parted > 500, "in two pieces in {parted}");
+    }
+
     #[test]
     fn worked_bows() {
         for (length, bow) in [(140.0, 42.0), (50.0, 28.0), (300.0, 64.0)] {

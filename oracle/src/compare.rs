@@ -4,7 +4,7 @@
 use std::collections::BTreeMap;
 
 use crate::calls::{self, Turns};
-use crate::generate::{SORTS, centres, drawing, shuffled, sort_of_starts};
+use crate::generate::{SORTS, centres, drawing, has_accent, shuffled, sort_of_accents, sort_of_starts};
 use crate::port::{
     murshogi_check, murshogi_clutter, murshogi_label_size, murshogi_layout, murshogi_list, murshogi_route,
     murshogi_write_num,
@@ -40,6 +40,8 @@ struct Runs {
     counts: BTreeMap<&'static str, [usize; 12]>,
     /// The sorts of starts of the sheets of answered calls.
     starts: BTreeMap<&'static str, [usize; SORTS.len()]>,
+    /// The answered calls whose sheet or label block has an accent in some line, and those whose has none.
+    accents: BTreeMap<&'static str, [usize; 2]>,
     differ: usize,
     turns: Turns,
     left_out: usize,
@@ -53,9 +55,8 @@ impl Runs {
     /// Counts an answer; where the two differ, keeps the sheet and the centres in files.
     fn note(&mut self, call: &'static str, answer: u8, ok: bool, sheet: &[u8], xs: &[f64], ys: &[f64]) {
         self.counts.entry(call).or_default()[usize::from(answer)] += 1;
-        let read = if answer == 0 { crate::sheet::read(sheet).ok() } else { None };
-        if let Some(s) = read {
-            self.starts.entry(call).or_default()[sort_of_starts(&s.graph())] += 1;
+        if answer == 0 {
+            self.answered(call, sheet);
         }
         if ok {
             return;
@@ -67,6 +68,20 @@ impl Runs {
             std::fs::write(format!("{name}.centres"), format!("{xs:?}\n{ys:?}\n")).unwrap();
         }
         println!("{name}: the oracle says {answer}");
+    }
+
+    /// Counts an answered call by the starts and the accents of its sheet, or by the accents of its label's text.
+    fn answered(&mut self, call: &'static str, sheet: &[u8]) {
+        let some = match call {
+            "write_num" => return,
+            "label_size" => has_accent(sheet),
+            _ => {
+                let s = crate::sheet::read(sheet).unwrap();
+                self.starts.entry(call).or_default()[sort_of_starts(&s.graph())] += 1;
+                sort_of_accents(&s).0
+            }
+        };
+        self.accents.entry(call).or_default()[usize::from(!some)] += 1;
     }
 
     /// Counts the turns of a routing with so many records.
@@ -92,6 +107,11 @@ impl Runs {
         let heads: Vec<String> = (1..12).map(|n| format!("by {n}")).collect();
         table("calls", ["answered"].into_iter().chain(heads.iter().map(String::as_str)), &self.counts);
         table("answered, by starts", SORTS, &self.starts);
+        table("answered, by accents", ["some", "none"], &self.accents);
+        for (call, [some, none]) in &self.accents {
+            let all = some + none;
+            assert!(all < 1_000 || (3 * some > all && 3 * none > all), "accents in {some} of {all} calls of {call}");
+        }
         let Turns { taken: [loops, arcs, straight], later } = self.turns;
         let all = loops + arcs + straight;
         if all > 0 {
@@ -118,10 +138,13 @@ impl Runs {
     }
 }
 
-/// Prints a table of counts, a row for each call.
+/// Prints a table of counts, a row for each call; nothing where there is no row.
 fn table<'a, const N: usize>(
     title: &str, heads: impl IntoIterator<Item = &'a str>, rows: &BTreeMap<&'static str, [usize; N]>,
 ) {
+    if rows.is_empty() {
+        return;
+    }
     let line = |name: &str, cells: Vec<String>| println!("| {name} | {} |", cells.join(" | "));
     line(title, heads.into_iter().map(str::to_string).collect());
     println!("|{}", "---|".repeat(N + 1));
@@ -176,6 +199,16 @@ pub fn layouts(count: usize, seed: u64) {
 
 pub fn listings(count: usize, seed: u64) {
     by_kinds(count, seed, listed);
+}
+
+/// Label blocks alone.
+pub fn labels(count: usize, seed: u64) {
+    let rng = &mut Random::new(seed);
+    let mut runs = Runs::default();
+    for _ in 0..count {
+        measured(&mut runs, rng);
+    }
+    runs.end();
 }
 
 /// An accepted sheet of 65,536 bytes, or that and one byte more.

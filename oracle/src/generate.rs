@@ -3,7 +3,7 @@
 use crate::graph::Graph;
 use crate::layout::{LayoutKind, layout};
 use crate::random::Random;
-use crate::sheet::{Arrow, Line, Sheet};
+use crate::sheet::{Arrow, LINE_BYTES, Line, SHEET_BYTES, Sheet};
 
 /// Characters of every length, at the borders of each length too.
 const CHARACTERS: [char; 24] = [
@@ -44,9 +44,7 @@ pub fn full_pieces(bytes: &[u8]) -> Line {
 /// A line of at most 96 bytes.
 pub fn line(rng: &mut Random, characters: usize) -> Line {
     let mut t = text(rng, characters);
-    while t.len() > 96 {
-        t.pop();
-    }
+    shorten(&mut t, LINE_BYTES);
     pieces(rng, t.as_bytes())
 }
 
@@ -61,11 +59,140 @@ pub struct Size {
     pub characters: usize,
 }
 
-/// A sheet of that size, with starts of every sort.
+/// A sheet of that size, with starts of every sort; about every second has accents.
 pub fn sheet(rng: &mut Random, size: Size) -> Sheet {
     let mut list = from_first(rng, size);
     starts(rng, &mut list.states);
+    if gets_accents(rng) {
+        accented(rng, &mut list);
+    }
     list
+}
+
+/// Whether a sheet or a label gets accents: in five of nine, since some have no line to take them.
+pub fn gets_accents(rng: &mut Random) -> bool {
+    rng.below(9) < 5
+}
+
+/// The characters that have no width.
+pub fn is_accent(c: char) -> bool {
+    ('\u{300}'..='\u{36f}').contains(&c)
+}
+
+/// The first and the last accent, and the characters beside them.
+const BORDERS: [char; 4] = ['\u{2ff}', '\u{300}', '\u{36f}', '\u{370}'];
+
+/// Any accent; one in four is the first or the last.
+fn accent(rng: &mut Random) -> char {
+    let n = if rng.once_in(4) { rng.pick(&[0, 111]) } else { rng.below(112) };
+    char::from_u32(0x300 + n as u32).unwrap()
+}
+
+/// So many accents, in one of three cases the same one again and again.
+pub fn accents(rng: &mut Random, n: usize) -> String {
+    if rng.once_in(3) {
+        accent(rng).to_string().repeat(n)
+    } else {
+        (0..n).map(|_| accent(rng)).collect()
+    }
+}
+
+/// Puts more characters into a text, in one place: at its start, or behind any of its characters.
+fn insert(rng: &mut Random, text: &mut String, more: &str) {
+    let place = rng.below(text.chars().count() + 1);
+    let at = text.char_indices().nth(place).map_or(text.len(), |(at, _)| at);
+    text.insert_str(at, more);
+}
+
+/// Takes characters from the end of a text until it has no more than so many bytes.
+fn shorten(text: &mut String, most: usize) {
+    while text.len() > most {
+        text.pop();
+    }
+}
+
+/// A line's text with accents, within 96 bytes. One accent is left at the least.
+pub fn with_accents(rng: &mut Random, mut text: String) -> String {
+    shorten(&mut text, LINE_BYTES - 8);
+    let few = 1 + rng.below(3);
+    let way = if text.is_empty() { 0 } else { rng.below(20) };
+    match way {
+        // Accents alone: a few, or 46 to 48.
+        0..=3 => text = accents(rng, few),
+        4 => text = accents(rng, LINE_BYTES / 2 - few + 1),
+        5..=8 => text.insert_str(0, &accents(rng, few)),
+        9..=12 => {
+            let more = accents(rng, few);
+            insert(rng, &mut text, &more);
+        }
+        13..=15 => text = text.chars().map(|c| format!("{c}{}", accents(rng, 1))).collect(),
+        16 | 17 => BORDERS.iter().for_each(|c| insert(rng, &mut text, &c.to_string())),
+        18 => insert(rng, &mut text, &String::from_iter(BORDERS)),
+        // Up to the limit.
+        _ => {
+            while text.len() + 2 <= LINE_BYTES {
+                let more = accents(rng, 1);
+                insert(rng, &mut text, &more);
+            }
+        }
+    }
+    shorten(&mut text, LINE_BYTES);
+    text
+}
+
+/// A text with accents in pieces cut anywhere; in every second line one piece ends within an accent.
+pub fn accented_line(rng: &mut Random, text: String) -> Line {
+    let text = with_accents(rng, text);
+    let within: Vec<usize> = text.char_indices().filter(|p| is_accent(p.1)).map(|p| p.0 + 1).collect();
+    let at = if rng.once_in(2) { rng.pick(&within) } else { 0 };
+    let (before, after) = text.as_bytes().split_at(at);
+    let mut line = pieces(rng, before);
+    line.extend(pieces(rng, after));
+    line
+}
+
+/// Puts accents into a third of a sheet's lines, into one at the least, as long as there is room for their records.
+pub fn accented(rng: &mut Random, list: &mut Sheet) {
+    let mut room = (SHEET_BYTES / 16 - 1).saturating_sub(list.records());
+    let lines: Vec<&mut Line> = list.arrows.iter_mut().flat_map(|a| &mut a.lines).collect();
+    let sure = rng.below(lines.len().max(1));
+    for (i, line) in lines.into_iter().enumerate() {
+        if i != sure && !rng.once_in(3) {
+            continue;
+        }
+        let text = String::from_utf8(line.concat()).unwrap();
+        let new = accented_line(rng, text);
+        if new.len() <= room + line.len() {
+            room = room + line.len() - new.len();
+            *line = new;
+        }
+    }
+}
+
+/// The sheet without the accents of its lines.
+pub fn without_accents(rng: &mut Random, list: &Sheet) -> Sheet {
+    let mut list = list.clone();
+    for line in list.arrows.iter_mut().flat_map(|a| &mut a.lines) {
+        let text = String::from_utf8(line.concat()).unwrap();
+        let rest: String = text.chars().filter(|c| !is_accent(*c)).collect();
+        *line = pieces(rng, rest.as_bytes());
+    }
+    list
+}
+
+/// Whether a text, which is well-formed, has an accent.
+pub fn has_accent(text: &[u8]) -> bool {
+    std::str::from_utf8(text).unwrap().chars().any(is_accent)
+}
+
+/// Whether a line of a sheet has an accent, and whether the two bytes of one stand in two pieces.
+pub fn sort_of_accents(list: &Sheet) -> (bool, bool) {
+    let lines = || list.arrows.iter().flat_map(|a| &a.lines);
+    let parted = |pair: &[Vec<u8>]| {
+        let ends: Vec<u8> = pair[0].last().into_iter().chain(pair[1].first()).copied().collect();
+        std::str::from_utf8(&ends).is_ok_and(|t| t.chars().any(is_accent))
+    };
+    (lines().any(|l| has_accent(&l.concat())), lines().any(|l| l.windows(2).any(parted)))
 }
 
 /// Makes some of the states starts, and no other: none of them, the first, any one, or several.

@@ -54,11 +54,13 @@ fn main() {
         #[cfg(port = "murshogi")]
         ["compare", "listings", count, seed] => compare::listings(count.parse().unwrap(), seed.parse().unwrap()),
         #[cfg(port = "murshogi")]
+        ["compare", "labels", count, seed] => compare::labels(count.parse().unwrap(), seed.parse().unwrap()),
+        #[cfg(port = "murshogi")]
         ["compare"] => compare::run(15_000, 5),
         #[cfg(port = "murshogi")]
         ["compare", turns, seed] => compare::run(turns.parse().unwrap(), seed.parse().unwrap()),
         _ => {
-            eprintln!("usage: oracle vectors FILE | differ (route | layout) COUNT SEED | bench (root | angles | check | calls | counts | stack | sheet NAME) | list KIND < SHEET | compare [[routings | layouts | listings | remainders] COUNT SEED]");
+            eprintln!("usage: oracle vectors FILE | differ (route | layout) COUNT SEED | bench (root | angles | check | calls | counts | stack | sheet NAME) | list KIND < SHEET | compare [[routings | layouts | listings | labels | remainders] COUNT SEED]");
             std::process::exit(2);
         }
     }

@@ -225,4 +225,41 @@ mod tests {
         put(&mut bytes, 18, 1);
         assert_eq!(read(&bytes), Err(3));
     }
+
+    fn line(text: &str) -> Result<(f64, f64), u8> {
+        label_block(text.as_bytes(), &[text.len()])
+    }
+
+    /// Document 02's T-02: U+0300 to U+036F have width 0, the characters beside them 12. A line of accents alone is a
+    /// line.
+    #[test]
+    fn accents() {
+        for (text, width) in [
+            ("\u{2ff}", 12.0), ("\u{300}", 0.0), ("\u{33f}", 0.0), ("\u{340}", 0.0), ("\u{36f}", 0.0), ("\u{370}", 12.0),
+            ("a", 0.6 * 12.0), ("a\u{301}", 0.6 * 12.0), ("\u{301}a", 0.6 * 12.0), ("\u{301}↦\u{36f}\u{300}", 12.0),
+        ] {
+            assert_eq!(line(text), Ok((width, 15.0)), "{text:?}");
+        }
+        let all = (0..0x11_0000).filter_map(char::from_u32).filter(|c| line(&c.to_string()) == Ok((0.0, 15.0)));
+        assert!(all.eq('\u{300}'..='\u{36f}'));
+        assert_eq!(label_block("\u{301}".repeat(8).as_bytes(), &[2; 8]), Ok((0.0, 120.0)));
+        assert_eq!(line(&"\u{301}".repeat(48)), Ok((0.0, 15.0)));
+        assert_eq!(line(&format!("{}a", "\u{301}".repeat(48))), Err(5));
+        assert_eq!(label_block("\u{301}".as_bytes(), &[1, 1]), Err(6));
+    }
+
+    /// A line has the width that it has without its accents.
+    #[test]
+    fn accents_put_anywhere() {
+        use crate::generate::{is_accent, text, with_accents};
+        let rng = &mut crate::random::Random::new(29);
+        for _ in 0..20_000 {
+            let n = rng.below(40);
+            let some = text(rng, n);
+            let some = with_accents(rng, some);
+            let none: String = some.chars().filter(|c| !is_accent(*c)).collect();
+            assert!(none.len() < some.len() && some.len() <= LINE_BYTES);
+            assert_eq!(line(&some), line(&none), "{some:?}");
+        }
+    }
 }

@@ -4,6 +4,7 @@
 //! payload: the arguments and then the oracle's answer. A float is its eight bytes, the least
 //! first. The stream ends with a case of kind 0, whose payload is the number of cases before it.
 
+mod accents;
 mod bows;
 mod calls;
 mod edges;
@@ -150,6 +151,7 @@ pub fn write(file: &str) {
     edges::cases(&mut c);
     graphs::cases(&mut c);
     calls::cases(&mut c);
+    accents::cases(&mut c);
     c.end();
     for (kind, count) in &out.kinds {
         println!("kind {kind}: {count}");

@@ -133,7 +133,7 @@ module _ (c : Call) (a : Answered c) where
 abbrev corners : Curve → List Float
 corners k = let p = cornersOf k in p .n ∷ p .a .x ∷ p .a .y ∷ p .b .x ∷ p .b .y ∷ p .c .x ∷ p .c .y ∷ p .d .x ∷ p .d .y ∷ []
 
-module _ (c d : Call) (a : Answered c) (b : Answered d) (s : Same c d) where
+module _ (c d : Call) (s : Same c d) where
   -- d's sheet at c's centres
   abbrev there : Frame
   there = frameOf (graph d) (c .xs) (c .ys)
@@ -141,14 +141,15 @@ module _ (c d : Call) (a : Answered c) (b : Answered d) (s : Same c d) where
   frame-there : frame c ≡ there
   frame-there = same-frame (graph c) (graph d) (c .xs) (c .ys) (s .ends)
 
-  frames : frame c ≡ frame d
+  pub call-frames : frame c ≡ frame d
   unfolding frameOf
-  frames =
+  call-frames =
       ap (λ (f : Frame). record { flags = f .flags; centres = frame c .centres; arrows = f .arrows }) frame-there
       ∙ ap (λ (l : List «V»). record { flags = there .flags; centres = l; arrows = there .arrows }) (s .centres)
 
-  others : there ≡ frame d
-  others = sym frame-there ∙ frames
+module _ (c d : Call) (a : Answered c) (b : Answered d) (s : Same c d) where
+  others : there c d s ≡ frame d
+  others = sym (frame-there c d s) ∙ call-frames c d s
 
   -- what holds of d's sheet at c's centres
   over-sheets : Agree.GraphDemand (graph c) (c .xs) (c .ys)
@@ -161,7 +162,7 @@ module _ (c d : Call) (a : Answered c) (b : Answered d) (s : Same c d) where
 
   module _ (t : ℕ) (h : t < length (turns c)) (l : (j : ℕ) → j ≤ t → Agree c d j) where
     in-turns : t < length (turns d)
-    in-turns = subst (λ (f : Frame). t < length (order f)) frames h
+    in-turns = subst (λ (f : Frame). t < length (order f)) (call-frames c d s) h
 
     -- what is drawn at that turn
     abbrev drawn-c : Geometry
@@ -181,7 +182,7 @@ module _ (c d : Call) (a : Answered c) (b : Answered d) (s : Same c d) where
         ap (λ (m : List Geometry). getD m 0 (none c))
         (sym (arrow-only c a e (within c a t h) (stays c a t h))
         ∙ both
-        ∙ ap (λ (f : Frame). recordFor (frame d) (sizes d) (edgeAt f t)) frames
+        ∙ ap (λ (f : Frame). recordFor (frame d) (sizes d) (edgeAt f t)) (call-frames c d s)
         ∙ arrow-only d b e′ (within d b t in-turns) (stays d b t in-turns))
 
     numbers-alike : recordAt c (turnNumber c t) ≡ recordAt d (turnNumber d t)
@@ -200,7 +201,7 @@ module _ (c d : Call) (a : Answered c) (b : Answered d) (s : Same c d) where
     alike = record { numbers = numbers-alike; curve = ap₂ (λ (x : List Float) (y : List ℕ). (take 9 (drop 1 x), y)) numbers-alike path-alike }
 
   prefix : Prefix c d
-  prefix = record { order = ap order frames; numbers = λ e. ap (λ (f : Frame). recordNumber f e) frames; alike = alike }
+  prefix = record { order = ap order (call-frames c d s); numbers = λ e. ap (λ (f : Frame). recordNumber f e) (call-frames c d s); alike = alike }
 
   -- ---- (3)
 
@@ -209,7 +210,7 @@ module _ (c d : Call) (a : Answered c) (b : Answered d) (s : Same c d) where
     in-c = omega (arith, arrows-many c a, w .inside)
 
     in-d : e < length (frame d .arrows)
-    in-d = subst (λ (f : Frame). e < length (f .arrows)) frames in-c
+    in-d = subst (λ (f : Frame). e < length (f .arrows)) (call-frames c d s) in-c
 
     kept-c : isKeptIn (frame c) (numberedAt (frame c) e) ≡ true
     kept-c =
@@ -218,7 +219,7 @@ module _ (c d : Call) (a : Answered c) (b : Answered d) (s : Same c d) where
         subst (λ (m : ℕ). isKeptIn (frame c) (numberedAt (frame c) m) ≡ true) n (stays c a (at .place) (at .inside))
 
     kept-d : isKeptIn (frame d) (numberedAt (frame d) e) ≡ true
-    kept-d = subst (λ (f : Frame). isKeptIn f (numberedAt f e) ≡ true) frames kept-c
+    kept-d = subst (λ (f : Frame). isKeptIn f (numberedAt f e) ≡ true) (call-frames c d s) kept-c
 
     strokes : strokeOf (its c a e in-c kept-c) ≡ strokeOf (its d b e in-d kept-d)
     strokes =

@@ -181,7 +181,7 @@ margin = f16
 abbrev pub startArrowLength : Float
 startArrowLength = f28
 
--- route.rs, labels: "Character widths: ASCII 0.6·12, all others 12, line height 15"; the room between an arrow and its label, and from the label to what is not its own
+-- route.rs, labels: "Character widths: ASCII 0.6·12, all others 12, line height 15" (accents: crate `label`); the room between an arrow and its label, and from the label to what is not its own
 abbrev pub labelFontSize : Float
 labelFontSize = f12
 

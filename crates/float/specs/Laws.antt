@@ -1,24 +1,26 @@
--- What later crates cite of the stand-ins: the larger and the smaller, and the arctangent at zeros (roots: RootLaws). Assumes nothing.
+-- What later crates cite of the stand-ins: the larger and the smaller, and the arctangent at zeros (roots: RootLaws); and of numbers without a sign. Assumes nothing.
 -- (`<` of floats is transitive and irreflexive, with NaN and the infinities: `float-lt-trans`, `lt-itself` of laws.)
-use mathlib.Core.Path.{_≡_, refl, ap, _∙_, subst}
+use mathlib.Core.Path.{_≡_, refl, ap, ap₂, _∙_, subst}
 use mathlib.Core.Bool.{Bool, true, false, cond}
-use Prim.Native.Nat.{ℕ, zero, suc, _-_, _*_}
-use native.Mathlib.Nat.{mul-pos, zero-mul}
+use Prim.Native.Nat.{ℕ, zero, suc, _+_, _-_, _*_}
+use native.Mathlib.Nat.{mul-pos, mul-one, zero-mul}
 use native.Mathlib.Omega.{arith}
 use borrow.Author.Tests.{ne-eqb, le-ltb, ltb-false}
 use lib.Dec.{T, ltb}
 use lib.IntN.{ℤ}
-use lib.Ieee.{Float, nan, inf, fin, up, down, binary64, isNan, toBits, ofBits}
+use lib.Ieee.{Float, nan, inf, fin, up, down, binary64, fits, isNan, toBits, ofBits}
 use lib.Ieee as Ieee
 use lib.Ieee.Scale.{round-same}
 use lib.Ieee.Fits.{up-pos}
 use Rattle.laws.specs.Cases.{by-bool, holds}
 use Rattle.laws.specs.Between.{below-num, above-num, self-num, self-inf}
 use Rattle.root.specs.Root.{rootBits}
+use Rattle.remainder.specs.Unique.{fits-sign, round-own}
 use Rattle.float.specs.Constants.{f0, π}
-use Rattle.float.specs.Ops.{_⊘_, neg, lt, eq, ne}
+use Rattle.float.specs.Ops.{_⊕_, _⊘_, neg, lt, eq, ne}
 use Rattle.float.specs.Standins.{negative, abs, min, max, root, rootOf, arctangentOf, share, quarter, atan2, arcSeries}
 use Rattle.float.specs.Signs.{abs-num}
+use Rattle.float.specs.Sizes.{round-form, form-unsigned, equals-itself}
 
 -- ---- the larger and the smaller
 pub max-second : (a b : Float) → lt a b ≡ true → max a b ≡ b
@@ -106,3 +108,39 @@ atan2-zero x n = rw (quarter-zero (abs x) (unsigned x) (abs-num x (abs x) refl n
 pub atan2-minus-zero : (x : Float) → ne x x ≡ false → atan2 (neg f0) x ≡ neg (cond (negative x) π f0)
 unfolding ofBits Ieee.ne Ieee.eq
 atan2-minus-zero x n = atan2-down f0 x refl refl ∙ ap Ieee.neg (atan2-zero x n)
+
+-- ---- numbers without a sign: 0 and what lies above it, infinity too, but not -0
+pub record Unsigned (x : Float) : Type 0 where
+  pub plus : negative x ≡ false
+  pub number : ne x x ≡ false
+
+-- 0 added, or asked for as the larger: the same number (-0 would become 0)
+pub add-zero : (x : Float) → T (fits binary64 x) → Unsigned x → x ⊕ f0 ≡ x
+unfolding Ieee.add ofBits
+add-zero nan h u = refl
+add-zero (inf s) h u = refl
+add-zero (fin s m e) h u =
+    rw (u .plus)
+    (unfold Ieee.sum in (ap₂ (Ieee.round binary64 false) (none (m * up e) (down e)) (mul-one (down e)) ∙ round-own false m e (fits-sign s false m e h)))
+  where
+    none : (a d : ℕ) → a * 1 + 0 * 1 * d ≡ a
+    none a d = omega arith
+
+pub max-zero : (x : Float) → Unsigned x → max x f0 ≡ x
+max-zero x u = max-first x f0 (u .number) (not-below x (u .plus))
+
+-- sums, and the larger of two
+pub add-unsigned : (x y : Float) → Unsigned x → Unsigned y → Unsigned (x ⊕ y)
+unfolding Ieee.add Ieee.ne Ieee.eq
+add-unsigned nan y u v = absurd (subst T (u .number) tt)
+add-unsigned (inf s) nan u v = absurd (subst T (v .number) tt)
+add-unsigned (inf s) (inf t) u v = rw (u .plus, v .plus) (record { plus = refl; number = self-inf false })
+add-unsigned (inf s) (fin t m e) u v = u
+add-unsigned (fin s m e) nan u v = absurd (subst T (v .number) tt)
+add-unsigned (fin s m e) (inf t) u v = v
+add-unsigned (fin s m e) (fin t l d) u v =
+    let f = round-form (m * up e * down d + l * up d * down e) (down e * down d) in
+    rw (u .plus, v .plus) (unfold Ieee.sum in (record { plus = form-unsigned f; number = equals-itself f .0 }))
+
+pub max-unsigned : (x y : Float) → Unsigned x → Unsigned y → Unsigned (max x y)
+max-unsigned x y u v = rw (u .number) (by-bool (lt x y) (λ t. rw t v) (λ t. rw t u))

@@ -1,8 +1,8 @@
 -- The size of a label block, and the answer of the call that gives it.
-use mathlib.Core.Bool.{cond, not}
+use mathlib.Core.Bool.{Bool, cond, not, _&&_}
 use mathlib.Core.List.{List, [], _∷_}
 use Prim.Native.Nat.{ℕ, _+_}
-use lib.Dec.{ltb, eqb}
+use lib.Dec.{leb, ltb, eqb}
 use lib.ListN.{length, take, drop}
 use lib.Ieee.{Float}
 use Rattle.laws.specs.Loops.{over}
@@ -18,9 +18,13 @@ use Rattle.label.specs.declared.Block.{Block}
 use Rattle.label.specs.declared.Sized.{Sized}
 use Rattle.label.specs.declared.Sized.the-variants.{Size, Refused}
 
--- 'Character widths: ASCII 0.6·12, all others 12, line height 15': the width of a code point
+-- Document 02, T-02: 'Characters U+0300 to U+036F now have width 0, in place of a full em; all others stay.'
+abbrev pub accent : ℕ → Bool
+accent c = leb 0x300 c && leb c 0x36f
+
+-- Document 01: 'Character widths: ASCII 0.6·12, all others 12, line height 15'. The width of a code point
 unfoldable pub charWidth : ℕ → Float
-charWidth c = cond (ltb c 0x80) labelCharWidth labelWideCharWidth
+charWidth c = cond (accent c) f0 (cond (ltb c 0x80) labelCharWidth labelWideCharWidth)
 
 abbrev pub widened : Float → ℕ → Float
 widened w c = w ⊕ charWidth c

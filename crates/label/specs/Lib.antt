@@ -1,3 +1,4 @@
+pub mod Accents
 pub mod Label
 pub mod Measuring
 pub mod Worked

@@ -1,6 +1,6 @@
--- Label blocks worked out: the one of the Rust's documentation, and each refusal. Assumes nothing.
+-- Label blocks worked out: the one of the Rust's documentation, accents and what stands beside them, and each refusal. Assumes nothing.
 use mathlib.Core.Bool.{Bool, false, _&&_}
-use mathlib.Core.List.{List, [], _∷_, _++_}
+use mathlib.Core.List.{List, [], _∷_, _++_, flatMap}
 use Prim.Native.Nat.{ℕ}
 use lib.Dec.{T, eqb}
 use lib.ListN.{replicate}
@@ -9,6 +9,7 @@ use Rattle.laws.specs.Loops.{over}
 use Rattle.laws.specs.Refusals.{decide}
 use Rattle.laws.specs.Any.{anyOf}
 use Rattle.text.specs.Utf8.{payload, codesFrom}
+use Rattle.text.specs.Encode.{encode}
 use Rattle.sheet.specs.Refusals.{mainScreen}
 use Rattle.text.specs.Ascii.{ascii}
 use Rattle.label.specs.Label.{charWidth, lineWidth, widerLine, cut, totalLength, sized}
@@ -39,6 +40,17 @@ mapsTo = 0xe2 ∷ 0x86 ∷ 0xa6 ∷ []
 abbrev openBox : List ℕ
 openBox = 0xe2 ∷ 0x90 ∷ 0xa3 ∷ []
 
+-- U+0300 and U+036F
+abbrev grave : List ℕ
+grave = 0xcc ∷ 0x80 ∷ []
+
+abbrev lastAccent : List ℕ
+lastAccent = 0xcd ∷ 0xaf ∷ []
+
+-- n times U+0300
+abbrev graves : ℕ → List ℕ
+graves n = flatMap encode (replicate n 0x300)
+
 -- `a ↦ b, R` and `␣ ↦ ␣, L`
 abbrev first : List ℕ
 first = ascii "a " ++ mapsTo ++ ascii " b, R"
@@ -59,6 +71,14 @@ pub worked-labels : T (
     && refuses first (4 ∷ 6 ∷ []) 6
     && refuses (0xed ∷ 0xa0 ∷ 0x80 ∷ []) (3 ∷ []) 6
     && refuses (0xff ∷ []) (2 ∷ []) 5
+    && gives (grave ++ lastAccent) (4 ∷ []) 0 0x402e000000000000
+    && gives (grave ++ lastAccent) (2 ∷ 2 ∷ []) 0 0x403e000000000000
+    && gives (lastAccent ++ ascii "a" ++ grave ++ grave) (7 ∷ []) 0x401ccccccccccccc 0x402e000000000000
+    && gives (0xcb ∷ 0xbf ∷ []) (2 ∷ []) 0x4028000000000000 0x402e000000000000
+    && gives (0xcd ∷ 0xb0 ∷ []) (2 ∷ []) 0x4028000000000000 0x402e000000000000
+    && gives (graves 48) (96 ∷ []) 0 0x402e000000000000
+    && refuses (graves 49) (98 ∷ []) 5
+    && refuses grave (1 ∷ 1 ∷ []) 6
     )
-unfolding sized decide anyOf cut totalLength lineWidth widerLine charWidth payload codesFrom over add mul lt eq ne ofInt round size span climb units odd sum ofBits ofFields toBits isNan
+unfolding sized decide anyOf cut totalLength flatMap encode lineWidth widerLine charWidth payload codesFrom over add mul lt eq ne ofInt round size span climb units odd sum ofBits ofFields toBits isNan
 worked-labels = tt

@@ -9,7 +9,7 @@ ghost use Rattle.label.specs.Measuring as M;
 use reader::next_of;
 use reader::record_of;
 
-// The font size of labels; the width of an ASCII character, 0.6 em of a monospace font, and of any other; the distance between lines.
+// The font size of labels; the width of an ASCII character, 0.6 em of a monospace font, and of others but accents; the distance of lines.
 const LABEL_FONT_SIZE: f64 = 12.0;
 
 pub const LABEL_CHAR_WIDTH: f64 = 0.6 * LABEL_FONT_SIZE;
@@ -37,12 +37,22 @@ pub enum Sized {
     Refused(u8),
 }
 
+// Whether a code point is an accent, one of U+0300 to U+036F.
+fn is_accent(c: u32) -> bool
+    ensures { λ r. ⌜ r ≡ S.accent c ⌝ }
+{
+    0x300 <= c && c <= 0x36f
+}
+
 // The width of a code point.
 fn char_width(c: u32) -> f64
     ensures { λ r. ⌜ r ≡ S.charWidth c ⌝ }
 {
     if c < 0x80 {
         return LABEL_CHAR_WIDTH;
+    }
+    if is_accent(c) {
+        return 0.0;
     }
     LABEL_WIDE_CHAR_WIDTH
 }

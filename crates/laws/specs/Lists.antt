@@ -1,5 +1,5 @@
 -- Lists read, and in part. Assumes nothing.
-use mathlib.Core.Path.{_≡_, refl, sym, _∙_}
+use mathlib.Core.Path.{_≡_, refl, sym, ap₂, _∙_}
 use mathlib.Core.List.{List, [], _∷_, map}
 use Prim.Native.Nat.{ℕ, zero, suc, _+_, _-_, _≤_, _<_}
 use native.Mathlib.Nat.{not-suc-le-zero, le-of-suc-le-suc, sub-zero, zero-sub}
@@ -15,6 +15,15 @@ getD-any (x ∷ l) (suc i) a b h = getD-any l i a b (le-of-suc-le-suc h)
 
 pub map-at : {A B : Type 0} (f : A → B) (l : List A) (i : ℕ) (a : A) (d : B) → i < length l → f (getD l i a) ≡ getD (map f l) i d
 map-at f l i a d h = sym (List·getD-map f l i a) ∙ getD-any (map f l) i (f a) d (omega (arith, length-map l f))
+
+-- two lists, as long and alike at each place
+pub map-alike : {A B C : Type 0} (f : A → C) (g : B → C) (l : List A) (m : List B) (a : A) (b : B) → length l ≡ length m
+    → ((k : ℕ) → k < length l → f (getD l k a) ≡ g (getD m k b)) → map f l ≡ map g m
+map-alike f g [] [] a b n e = refl
+map-alike f g [] (y ∷ m) a b n e = absurd (omega arith)
+map-alike f g (x ∷ l) [] a b n e = absurd (omega arith)
+map-alike {C = C} f g (x ∷ l) (y ∷ m) a b n e =
+    ap₂ (λ (c : C) (r : List C). c ∷ r) (e 0 (omega arith)) (map-alike f g l m a b (omega arith) (λ k h. e (suc k) (omega arith)))
 
 -- ---- a part of a list
 pub part-length : {A : Type 0} (a k : ℕ) (l : List A) → a + k ≤ length l → length (take k (drop a l)) ≡ k

@@ -8,39 +8,25 @@ use borrow.Author.Tests.{lt-ltb, ne-eqb}
 use lib.Dec.{eqb}
 use lib.ListN.{length, getD, length-map, List·getD-map}
 use lib.Ieee.{Float, ofBits, ofInt, mul, round}
+use Rattle.laws.specs.Lists.{map-alike}
 use Rattle.laws.specs.Loops.{over}
 use Rattle.laws.specs.Places.{At}
-use Rattle.sheet.specs.Sheet.{State, Arrow, Graph, flagsOf}
+use Rattle.sheet.specs.Sheet.{Arrow, Graph, flagsOf}
 use Rattle.sheet.specs.Meaning.{endsBelow, noArrow, arrowAt}
 use Rattle.sheet.specs.Meaning as Meaning
-use Rattle.routing.specs.Sheets.{centresAt, frameWith, endsOf, blockSize, sizeOf, frameOf, sizesOf, noState, SameFrame}
+use Rattle.routing.specs.Sheets.{centresAt, frameWith, endsOf, endsBy, blockSize, sizeOf, frameOf, sizesOf, noState, SameFrame}
 use Rattle.label_spots.specs.declared.Geometry.{Geometry}
 use Rattle.routing.specs.Routing.{Ends, Frame, isKeptIn, isLoop, noSize, Item, edgeOf, order, numberedAt, itemFor, noItem}
 use Rattle.routing_laws.specs.Demand.{sizeAt, prefix, recordFor, edgeAt, kept-turn, TurnCheapest, records-cheapest, records-prefix, strokeOf}
 use Rattle.routing_laws.specs.Demand as Demand
-
-same-flags : (l m : List State) → length l ≡ length m → ((k : ℕ) → k < length l → getD l k noState .flags ≡ getD m k noState .flags)
-    → map (λ a. a .flags) l ≡ map (λ a. a .flags) m
-same-flags [] [] n e = refl
-same-flags [] (b ∷ m) n e = absurd (omega arith)
-same-flags (a ∷ l) [] n e = absurd (omega arith)
-same-flags (a ∷ l) (b ∷ m) n e = ap₂ (λ (x : ℕ) (r : List ℕ). x ∷ r) (e 0 (omega arith)) (same-flags l m (omega arith) (λ k h. e (suc k) (omega arith)))
-
-same-ends : (l m : List Arrow) → length l ≡ length m → ((k : ℕ) → k < length l → getD l k noArrow .source ≡ getD m k noArrow .source)
-    → ((k : ℕ) → k < length l → getD l k noArrow .target ≡ getD m k noArrow .target) → map endsOf l ≡ map endsOf m
-same-ends [] [] n s t = refl
-same-ends [] (b ∷ m) n s t = absurd (omega arith)
-same-ends (a ∷ l) [] n s t = absurd (omega arith)
-same-ends (a ∷ l) (b ∷ m) n s t =
-    ap₂ (λ (e : Ends) (r : List Ends). e ∷ r) (ap₂ (λ (x y : ℕ). record { source = x; target = y }) (s 0 (omega arith)) (t 0 (omega arith)))
-    (same-ends l m (omega arith) (λ k h. s (suc k) (omega arith)) (λ k h. t (suc k) (omega arith)))
 
 -- no label enters the frame, nor the order of the turns
 pub same-frame : (g h : Graph) (xs ys : List Float) → SameFrame g h → frameOf g xs ys ≡ frameOf h xs ys
 unfolding frameOf
 same-frame g h xs ys e =
     ap₂ (λ (flags : List ℕ) (arrows : List Ends). frameWith flags (centresAt xs ys (length (g .states))) arrows)
-    (same-flags (g .states) (h .states) (e .states) (e .flags)) (same-ends (g .arrows) (h .arrows) (e .many) (e .sources) (e .targets))
+    (map-alike (λ a. a .flags) (λ a. a .flags) (g .states) (h .states) noState noState (e .states) (e .flags))
+    (map-alike endsOf endsOf (g .arrows) (h .arrows) noArrow noArrow (e .many) (λ k l. ap₂ endsBy (e .sources k l) (e .targets k l)))
     ∙ ap (λ (n : ℕ). frameWith (flagsOf h) (centresAt xs ys n) (map endsOf (h .arrows))) (e .states)
 
 -- the lines of the arrow of turn j

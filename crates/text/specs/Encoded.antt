@@ -1,7 +1,7 @@
--- A well-formed text is its code points encoded one after the other, and each of them is a scalar value. Assumes nothing.
+-- A well-formed text is its code points encoded one after the other, and each of them is a scalar value; texts joined. Assumes nothing.
 use mathlib.Core.Path.{_≡_, refl, sym, ap, ap₂, _∙_}
 use mathlib.Core.Bool.{true, false, true≢false}
-use mathlib.Core.List.{List, [], _∷_, _++_, flatMap}
+use mathlib.Core.List.{List, [], _∷_, _++_, flatMap, append-assoc}
 use mathlib.Core.Option.{none, some}
 use Prim.Native.Nat.{ℕ, zero, suc, _+_, _-_, _*_, _/_, _%_, _<_, _≤_}
 use native.Mathlib.Nat.{le-refl}
@@ -226,3 +226,31 @@ encoded-by (suc n) s h w = go s h w (λ rest. encoded-by n rest)
 -- A well-formed text is its code points encoded, and each is a scalar value: no surrogate and none beyond 0x10ffff.
 pub encoded : (s : List ℕ) → wellFormed s ≡ true → Encoded s
 encoded s w = encoded-by (length s) s (le-refl (length s)) w
+
+-- ---- texts joined
+
+-- scalar values encoded one after the other, and what follows them
+module _ (rest : List ℕ) where
+  pub codes-flat : (cs : List ℕ) → AllScalar cs → codePoints (flatMap encode cs ++ rest) ≡ cs ++ codePoints rest
+  unfolding flatMap
+  codes-flat [] q = refl
+  codes-flat (c ∷ cs) q =
+      ap codePoints (append-assoc (encode c) (flatMap encode cs) rest)
+      ∙ codes-encode c (flatMap encode cs ++ rest) (q .0)
+      ∙ ap (λ (l : List ℕ). c ∷ l) (codes-flat cs (q .1))
+
+  pub formed-flat : (cs : List ℕ) → AllScalar cs → wellFormed (flatMap encode cs ++ rest) ≡ wellFormed rest
+  unfolding flatMap
+  formed-flat [] q = refl
+  formed-flat (c ∷ cs) q =
+      ap wellFormed (append-assoc (encode c) (flatMap encode cs) rest)
+      ∙ formed-encode c (flatMap encode cs ++ rest) (q .0)
+      ∙ formed-flat cs (q .1)
+
+-- a well-formed text leaves what follows it as it was
+module _ (s t : List ℕ) (w : wellFormed s ≡ true) where
+  pub codes-join : codePoints (s ++ t) ≡ codePoints s ++ codePoints t
+  codes-join = ap (λ (x : List ℕ). codePoints (x ++ t)) (sym (encoded s w .again)) ∙ codes-flat t (codePoints s) (encoded s w .scalars)
+
+  pub formed-join : wellFormed (s ++ t) ≡ wellFormed t
+  formed-join = ap (λ (x : List ℕ). wellFormed (x ++ t)) (sym (encoded s w .again)) ∙ formed-flat t (codePoints s) (encoded s w .scalars)

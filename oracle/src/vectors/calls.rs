@@ -7,7 +7,9 @@ use std::collections::BTreeMap;
 use super::sheets::{self, ILL, damage};
 use super::{Payload, Stream, kind, label_lines, number};
 use crate::calls;
-use crate::generate::{SORTS, Size, centres, drawing, full_pieces, sheet, shuffled, sort_of_starts, starts};
+use crate::generate::{
+    SORTS, Size, centres, drawing, full_pieces, has_accent, sheet, shuffled, sort_of_accents, sort_of_starts, starts,
+};
 use crate::random::Random;
 use crate::sheet::{Arrow, Sheet, label_block, read};
 
@@ -66,6 +68,8 @@ pub struct Calls<'a> {
     answers: BTreeMap<(u8, u8), usize>,
     /// The sorts of starts of the listings that are not refused.
     starts: [usize; SORTS.len()],
+    /// Of each kind the cases that are not refused: with accents, without, and with one that stands in two pieces.
+    accents: BTreeMap<u8, [usize; 3]>,
 }
 
 /// The room for an answer of n: plenty, just enough, one too few, or anything less.
@@ -89,7 +93,14 @@ fn at_centres(d: &Drawn) -> Payload {
 
 impl<'a> Calls<'a> {
     pub fn new(out: &'a mut Stream, spoil: usize) -> Self {
-        Self { out, spoil, rng: Random::new(909), answers: BTreeMap::new(), starts: [0; SORTS.len()] }
+        Self {
+            out,
+            spoil,
+            rng: Random::new(909),
+            answers: BTreeMap::new(),
+            starts: [0; SORTS.len()],
+            accents: BTreeMap::new(),
+        }
     }
 
     /// Adds the case where it is short enough, and where it is small now and then one that is spoiled.
@@ -98,8 +109,8 @@ impl<'a> Calls<'a> {
         if p.0.len() > LONGEST - 1 {
             return;
         }
-        if call.kind == kind::LIST && call.answer == 0 {
-            self.starts[sort_of_starts(&read(&call.sheet).unwrap().graph())] += 1;
+        if call.answer == 0 && call.kind != kind::NUMBER {
+            self.note(call);
         }
         let count = self.answers.entry((call.kind, call.answer)).or_default();
         *count += 1;
@@ -110,11 +121,32 @@ impl<'a> Calls<'a> {
         }
     }
 
+    /// Counts the accents, and of a listing the starts, of a case that is not refused.
+    fn note(&mut self, call: &Call) {
+        let (some, parted) = if call.kind == kind::LABEL_SIZE {
+            (has_accent(&call.sheet), false)
+        } else {
+            let sheet = read(&call.sheet).unwrap();
+            if call.kind == kind::LIST {
+                self.starts[sort_of_starts(&sheet.graph())] += 1;
+            }
+            sort_of_accents(&sheet)
+        };
+        let counts = self.accents.entry(call.kind).or_default();
+        counts[usize::from(!some)] += 1;
+        counts[2] += usize::from(parted);
+    }
+
+    /// The cases so far, spoiled ones left out.
+    pub fn cases(&self) -> usize {
+        self.answers.values().sum()
+    }
+
     fn answered(&self, kind: u8) -> usize {
         self.answers.get(&(kind, 0)).copied().unwrap_or(0)
     }
 
-    /// The counts; every refusal is there, and 1 to 6 by each call that takes a sheet.
+    /// The counts; every refusal is there, and 1 to 6 by each call that takes a sheet, and accents in every kind.
     pub fn end(&self) {
         for refusal in 1..=11 {
             assert!(self.answers.keys().any(|k| k.1 == refusal), "no refusal {refusal}");
@@ -124,6 +156,11 @@ impl<'a> Calls<'a> {
         }
         assert!(self.starts.iter().all(|&n| n > 0), "starts: {:?}", self.starts);
         println!("listings, by starts: {:?}", SORTS.iter().zip(self.starts).collect::<Vec<_>>());
+        for kind in kind::ROUTE..=kind::LABEL_SIZE {
+            let [some, none, parted] = self.accents[&kind];
+            println!("kind {kind}, not refused: {some} with accents, {none} without; in two pieces {parted}");
+            assert!(some > 0 && none > 0 && (parted > 0 || kind == kind::LABEL_SIZE), "accents of kind {kind}");
+        }
         println!("calls, by kind and answer: {:?}", self.answers);
     }
 
@@ -191,9 +228,9 @@ impl<'a> Calls<'a> {
     }
 
     /// Given: the room that is lent. Written: the text.
-    fn list(&mut self, d: &Drawn, by: u8) {
+    pub fn list(&mut self, d: &Drawn, by: u8, lent: fn(&mut Random, usize) -> usize) {
         let n = calls::list(&d.sheet, by, usize::MAX).map_or(20, |t| t.len());
-        let n = room(&mut self.rng, n);
+        let n = lent(&mut self.rng, n);
         let answer = calls::list(&d.sheet, by, n);
         let call = Call {
             kind: kind::LIST,
@@ -263,7 +300,7 @@ impl<'a> Calls<'a> {
             kind::CLUTTER => self.clutter(d),
             kind::LIST => {
                 let by = layout_kind(&mut self.rng);
-                self.list(d, by);
+                self.list(d, by, room);
             }
             kind::CHECK => {
                 self.check(&d.sheet);
@@ -389,11 +426,11 @@ pub fn cases(c: &mut Calls) {
         let drawing = if rng.once_in(40) { drawing(rng) } else { small(rng) };
         let d = drawn(rng, &drawing);
         let by = layout_kind(rng);
-        c.list(&d, by);
+        c.list(&d, by, room);
     }
     let by = rng.below(3) as u8;
     let d = too_long(rng);
-    c.list(&d, by);
+    c.list(&d, by, room);
     for kind in kind::ROUTE..=kind::LIST {
         let d = largest(rng);
         c.call(kind, &d);

@@ -1,17 +1,22 @@
 //! Cases of `check` and of the label block.
 
 use super::Calls;
-use crate::generate::{Size, full_pieces, ordered, pieces, sheet, shuffled, starts, text};
+use crate::generate::{
+    Size, accented_line, full_pieces, gets_accents, ordered, pieces, sheet, shuffled, starts, text, with_accents,
+};
 use crate::random::Random;
 use crate::sheet::{self, Arrow, Line, Sheet, put};
 
 /// Byte strings that are not well-formed UTF-8, or become so by what follows.
-pub const ILL: [&[u8]; 30] = [
+pub const ILL: [&[u8]; 39] = [
     b"\x80", b"\xbf", b"\xc0\x80", b"\xc1\xbf", b"\xc2", b"\xc2\x7f", b"\xc2\xc0", b"\xdf\x00",
     b"\xe0\x80\x80", b"\xe0\x9f\xbf", b"\xe1\x80", b"\xe1", b"\xe2\x82\x28", b"\xe2\x28\xa1",
     b"\xed\xa0\x80", b"\xed\xbf\xbf", b"\xef\xbf", b"\xf0\x80\x80\x80", b"\xf0\x8f\xbf\xbf",
     b"\xf0\x90\x80", b"\xf1\x80", b"\xf3", b"\xf4\x90\x80\x80", b"\xf5\x80\x80\x80", b"\xf8\x88\x80\x80\x80",
     b"\xfc\x84\x80\x80\x80\x80", b"\xfe", b"\xff", b"\xf4\x8f\xbf\xc0", b"\xe2\x82\xac\x80",
+    // The bytes of accents: half of one, one and a half, two first halves, a second half too many.
+    b"\xcc", b"\xcd", b"a\xcc", b"\xcc\x7f", b"\xcd\xc0", b"\xcd\xaf\xcd", b"\xcc\xcc\x80", b"\xcc\x80\x80",
+    b"\xcc\xcd\xaf",
 ];
 
 /// The longest well-formed strings at each border of Table 3-7.
@@ -296,13 +301,14 @@ pub fn largest(rng: &mut Random) -> Sheet {
             lines: vec![],
         })
         .collect();
+    let accents = gets_accents(rng);
     let mut i = 0;
     while left > 0 {
         let a = &mut arrows[i % 256];
         i += 1;
         let n = 1 + rng.below(20);
         let short = text(rng, n);
-        let mut line = pieces(rng, short.as_bytes());
+        let mut line = if accents && rng.once_in(2) { accented_line(rng, short) } else { pieces(rng, short.as_bytes()) };
         if line.len() + 1 > left {
             line = vec![b"x".to_vec(); left - 1];
         }
@@ -343,13 +349,18 @@ fn label_blocks(c: &mut Calls, rng: &mut Random) {
     }
 }
 
-/// A text and the lengths of its lines, some of them damaged.
+/// A text and the lengths of its lines, some of them damaged; about every second has accents.
 pub fn lines(rng: &mut Random, i: usize) -> (Vec<u8>, Vec<usize>) {
     let mut bytes = Vec::new();
     let mut lengths: Vec<usize> = Vec::new();
-    for _ in 0..rng.below(9) {
+    let accents = gets_accents(rng);
+    for k in 0..rng.below(9) {
         let n = rng.below(24);
-        let mut line = text(rng, n).into_bytes();
+        let mut line = text(rng, n);
+        if accents && (k == 0 || rng.once_in(2)) {
+            line = with_accents(rng, line);
+        }
+        let mut line = line.into_bytes();
         if i % 4 == 0 && rng.once_in(5) {
             line.extend(rng.pick(&ILL));
         }

@@ -1,0 +1,75 @@
+-- Document 02, T-02: sheets and label blocks that differ in accents only are measured, placed and drawn alike. Here is what it says; `accents-take-no-width` of Proof proves it.
+use mathlib.Core.Path.{_≡_}
+use mathlib.Core.Bool.{true, false, cond}
+use mathlib.Core.List.{List, [], _∷_, _++_, map, flatMap}
+use Prim.Native.Nat.{ℕ, suc, _<_}
+use lib.Dec.{ltb}
+use lib.ListN.{length}
+use lib.Ieee.{Float}
+use Rattle.sheet.specs.Sheet.{Graph, meaning}
+use Rattle.sheet.specs.Meaning.{arrowAt}
+use Rattle.laws.specs.Every.{every}
+use Rattle.float.specs.Constants.{f0, f12, labelCharWidth, labelWideCharWidth}
+use Rattle.text.specs.Utf8.{wellFormed}
+use Rattle.text.specs.Encode.{encode}
+use Rattle.label.specs.Label.{accent, charWidth, lineWidth, blockWidth, blockHeight, block, cut}
+use Rattle.label.specs.Accents.{AmongAccents, bare, accented}
+use Rattle.routing.specs.Routing.{kept}
+use Rattle.routing.specs.Sheets.{sizesOf, SameFrame}
+use Rattle.calls.specs.Calls.{values, check, labelSize, route, recordsAfter, textAfter, clutter, layout, xsAfter, ysAfter, list, listAfter}
+use Rattle.demand3.specs.Demand.{Call, Answered, recordAt, pathAt, graph, frame}
+
+-- The same states and arrow ends; each arrow has as many lines in both, each of the same characters once its accents are left out.
+pub record AccentsOnly (g h : Graph) : Type 0 where
+  pub ends : SameFrame g h
+  pub lines : (k : ℕ) → k < length (g .arrows) → map bare (arrowAt g k .lines) ≡ map bare (arrowAt h k .lines)
+
+-- The same states and arrow ends; each arrow has as many lines in both, and the two blocks have the same size.
+pub record SameSizes (g h : Graph) : Type 0 where
+  pub ends : SameFrame g h
+  pub lines : (k : ℕ) → k < length (g .arrows) → length (arrowAt g k .lines) ≡ length (arrowAt h k .lines)
+  pub sizes : sizesOf g ≡ sizesOf h
+
+-- The calls that draw, place or list answer alike, refusals too, and leave the same in what they are lent: at all centres, by every kind, whatever is lent.
+pub record AnsweredAlike (s t : List ℕ) : Type 0 where
+  pub routed : (xs ys : List Float) (room textRoom : ℕ) → route s xs ys room textRoom ≡ route t xs ys room textRoom
+  pub records : (xs ys lent : List Float) (textRoom : ℕ) → recordsAfter s xs ys lent textRoom ≡ recordsAfter t xs ys lent textRoom
+  pub paths : (xs ys : List Float) (room : ℕ) (lent : List ℕ) → textAfter s xs ys room lent ≡ textAfter t xs ys room lent
+  pub counted : (xs ys : List Float) → clutter s xs ys ≡ clutter t xs ys
+  pub placed : (kind xRoom yRoom : ℕ) → layout s kind xRoom yRoom ≡ layout t kind xRoom yRoom
+  pub xs : (kind : ℕ) (lent : List Float) (yRoom : ℕ) → xsAfter s kind lent yRoom ≡ xsAfter t kind lent yRoom
+  pub ys : (kind xRoom : ℕ) (lent : List Float) → ysAfter s kind xRoom lent ≡ ysAfter t kind xRoom lent
+  pub listed : (kind room : ℕ) → list s kind room ≡ list t kind room
+  pub lines : (kind : ℕ) (lent : List ℕ) → listAfter s kind lent ≡ listAfter t kind lent
+
+-- Two routings that are answered: as many numbers and bytes, every record alike in all twenty numbers, and its path.
+pub record RecordsAlike (c d : Call) (a : Answered c) (b : Answered d) : Type 0 where
+  pub numbers : a .numbers ≡ b .numbers
+  pub bytes : a .bytes ≡ b .bytes
+  pub records : (k : ℕ) → k < length (kept (frame c)) → recordAt c k ≡ recordAt d k
+  pub paths : (k : ℕ) → k < length (kept (frame c)) → pathAt c k ≡ pathAt d k
+
+pub record AccentsTakeNoWidth : Type 0 where
+  -- "Characters U+0300 to U+036F now have width 0": these and no others
+  pub exactly : (c : ℕ) → (charWidth c ≡ f0 → AmongAccents c) × (AmongAccents c → charWidth c ≡ f0)
+  -- "all others stay", U+02FF and U+0370 among them
+  pub others : (c : ℕ) → accent c ≡ false → charWidth c ≡ cond (ltb c 0x80) labelCharWidth labelWideCharWidth
+  pub borders : (charWidth 0x2ff ≡ f12) × (charWidth 0x300 ≡ f0) × (charWidth 0x36f ≡ f0) × (charWidth 0x370 ≡ f12)
+  -- accents put into a line, before, between or after its characters: the line has the other characters that it had, and its width
+  pub put : (before marks after : List ℕ) → wellFormed before ≡ true → every accent marks ≡ true
+      → (bare (accented before marks after) ≡ bare (before ++ after)) × (lineWidth (accented before marks after) ≡ lineWidth (before ++ after))
+  -- a line of accents alone has width 0 and counts as a line
+  pub alone : (l m : List (List ℕ)) (marks : List ℕ) → every accent marks ≡ true
+      → block (l ++ (flatMap encode marks ∷ m)) ≡ record { width = blockWidth (l ++ m); height = blockHeight (suc (length (l ++ m))) }
+  -- two label blocks that are measured, and differ in accents only
+  pub blocks : (text lengths text′ lengths′ : List ℕ) (a b : Float × Float) → labelSize text lengths ≡ values a → labelSize text′ lengths′ ≡ values b
+      → map bare (cut text lengths) ≡ map bare (cut text′ lengths′) → a ≡ b
+  -- "Column gaps, rings, boxes and label choice follow from the new width": labels enter by their sizes and their numbers of lines
+  pub bySizes : (s t : List ℕ) → check s ≡ values tt → check t ≡ values tt → SameSizes (meaning s) (meaning t) → AnsweredAlike s t
+  pub recordsBySizes : (c d : Call) (a : Answered c) (b : Answered d) → SameSizes (graph c) (graph d) → frame c .centres ≡ frame d .centres → RecordsAlike c d a b
+  -- and these are the same where accents alone differ
+  pub sameSizes : (g h : Graph) → AccentsOnly g h → SameSizes g h
+  -- so two accepted sheets that differ in accents only are answered alike,
+  pub sheets : (s t : List ℕ) → check s ≡ values tt → check t ≡ values tt → AccentsOnly (meaning s) (meaning t) → AnsweredAlike s t
+  -- and at the same centres, whatever else is lent, their records are alike
+  pub routings : (c d : Call) (a : Answered c) (b : Answered d) → AccentsOnly (graph c) (graph d) → frame c .centres ≡ frame d .centres → RecordsAlike c d a b

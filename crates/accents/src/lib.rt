@@ -1,0 +1,1 @@
+// No code: what document 02 says of accents, over the calls, in specs/.
