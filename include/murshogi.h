@@ -46,8 +46,8 @@ enum {
 /* Checks a sheet: 0 where it is accepted. */
 uint8_t murshogi_check(const uint8_t *sheet, size_t sheet_len);
 
-/* The size of a label block, given its text and the length of each line: size[0] the width, size[1] the height. An ASCII
- * character is 0.6 * 12 wide, an accent (U+0300 to U+036F) 0, any other 12; every line is 15 high, one of accents too. */
+/* The size of a label block, given its text and the length of each line: size[0] the width, that of its widest line,
+ * size[1] the height, 15 a line. An ASCII character is 0.6 * 12 wide, an accent (U+0300 to U+036F) 0, any other 12. */
 uint8_t murshogi_label_size(const uint8_t *text, size_t text_len,
                             const size_t *lengths, size_t lines,
                             double size[2]);

@@ -1,3 +1,4 @@
 pub mod Sheets
+pub mod BySizes
 pub mod Proof
 pub mod Worked

@@ -2,33 +2,52 @@
 use mathlib.Core.Path.{_≡_}
 use mathlib.Core.Bool.{true, false, cond}
 use mathlib.Core.List.{List, [], _∷_, _++_, map, flatMap}
-use Prim.Native.Nat.{ℕ, suc, _<_}
+use Prim.Native.Nat.{ℕ, suc, _≤_, _<_}
 use lib.Dec.{ltb}
 use lib.ListN.{length}
 use lib.Ieee.{Float}
+use Rattle.laws.specs.Every.{every}
+use Rattle.float.specs.Constants.{f0, f12, f15, labelCharWidth, labelWideCharWidth}
+use Rattle.text.specs.Utf8.{wellFormed}
+use Rattle.text.specs.Encode.{encode, Scalar}
 use Rattle.sheet.specs.Sheet.{Graph, meaning}
 use Rattle.sheet.specs.Meaning.{arrowAt}
-use Rattle.laws.specs.Every.{every}
-use Rattle.float.specs.Constants.{f0, f12, labelCharWidth, labelWideCharWidth}
-use Rattle.text.specs.Utf8.{wellFormed}
-use Rattle.text.specs.Encode.{encode}
+use Rattle.sheet.specs.Refusals.{wrongLength, wrongVersion, wrongBytes, wrongChains}
+use Rattle.sheet.specs.Accepted.{lineAt}
 use Rattle.label.specs.Label.{accent, charWidth, lineWidth, blockWidth, blockHeight, block, cut}
-use Rattle.label.specs.Accents.{AmongAccents, bare, accented}
+use Rattle.label.specs.Accents.{AmongAccents, bare, WithAccents}
 use Rattle.routing.specs.Routing.{kept}
 use Rattle.routing.specs.Sheets.{sizesOf, SameFrame}
 use Rattle.calls.specs.Calls.{values, check, labelSize, route, recordsAfter, textAfter, clutter, layout, xsAfter, ysAfter, list, listAfter}
 use Rattle.demand3.specs.Demand.{Call, Answered, recordAt, pathAt, graph, frame}
+
+-- ---- two sheets
 
 -- The same states and arrow ends; each arrow has as many lines in both, each of the same characters once its accents are left out.
 pub record AccentsOnly (g h : Graph) : Type 0 where
   pub ends : SameFrame g h
   pub lines : (k : ℕ) → k < length (g .arrows) → map bare (arrowAt g k .lines) ≡ map bare (arrowAt h k .lines)
 
--- The same states and arrow ends; each arrow has as many lines in both, and the two blocks have the same size.
+-- The same, and each line of the second is that of the first with accents put in.
+pub record AccentsPut (g h : Graph) : Type 0 where
+  pub ends : SameFrame g h
+  pub many : (k : ℕ) → k < length (g .arrows) → length (arrowAt g k .lines) ≡ length (arrowAt h k .lines)
+  pub lines : (k j : ℕ) → k < length (g .arrows) → j < length (arrowAt g k .lines) → WithAccents (lineAt g k j) (lineAt h k j)
+
+-- The same states and arrow ends, and the labels have the same sizes.
 pub record SameSizes (g h : Graph) : Type 0 where
   pub ends : SameFrame g h
-  pub lines : (k : ℕ) → k < length (g .arrows) → length (arrowAt g k .lines) ≡ length (arrowAt h k .lines)
   pub sizes : sizesOf g ≡ sizesOf h
+
+-- No cause of 1, 2, 4 and 3 holds, and no line has more than 96 bytes.
+pub record Sound (t : List ℕ) : Type 0 where
+  pub right : wrongLength t ≡ false
+  pub first : wrongVersion t ≡ false
+  pub plain : wrongBytes t ≡ false
+  pub chained : wrongChains t ≡ false
+  pub bytes : (k j : ℕ) → k < length (meaning t .arrows) → j < length (arrowAt (meaning t) k .lines) → length (lineAt (meaning t) k j) ≤ 96
+
+-- ---- answered alike
 
 -- The calls that draw, place or list answer alike, refusals too, and leave the same in what they are lent: at all centres, by every kind, whatever is lent.
 pub record AnsweredAlike (s t : List ℕ) : Type 0 where
@@ -49,22 +68,26 @@ pub record RecordsAlike (c d : Call) (a : Answered c) (b : Answered d) : Type 0 
   pub records : (k : ℕ) → k < length (kept (frame c)) → recordAt c k ≡ recordAt d k
   pub paths : (k : ℕ) → k < length (kept (frame c)) → pathAt c k ≡ pathAt d k
 
+-- ---- the claim
+
 pub record AccentsTakeNoWidth : Type 0 where
   -- "Characters U+0300 to U+036F now have width 0": these and no others
   pub exactly : (c : ℕ) → (charWidth c ≡ f0 → AmongAccents c) × (AmongAccents c → charWidth c ≡ f0)
   -- "all others stay", U+02FF and U+0370 among them
-  pub others : (c : ℕ) → accent c ≡ false → charWidth c ≡ cond (ltb c 0x80) labelCharWidth labelWideCharWidth
+  pub others : (c : ℕ) → (AmongAccents c → ⊥) → charWidth c ≡ cond (ltb c 0x80) labelCharWidth labelWideCharWidth
   pub borders : (charWidth 0x2ff ≡ f12) × (charWidth 0x300 ≡ f0) × (charWidth 0x36f ≡ f0) × (charWidth 0x370 ≡ f12)
-  -- accents put into a line, before, between or after its characters: the line has the other characters that it had, and its width
-  pub put : (before marks after : List ℕ) → wellFormed before ≡ true → every accent marks ≡ true
-      → (bare (accented before marks after) ≡ bare (before ++ after)) × (lineWidth (accented before marks after) ≡ lineWidth (before ++ after))
-  -- a line of accents alone has width 0 and counts as a line
-  pub alone : (l m : List (List ℕ)) (marks : List ℕ) → every accent marks ≡ true
-      → block (l ++ (flatMap encode marks ∷ m)) ≡ record { width = blockWidth (l ++ m); height = blockHeight (suc (length (l ++ m))) }
+  -- what `label_size` answers to a line of one character
+  pub one : (c : ℕ) → Scalar c → labelSize (encode c) (length (encode c) ∷ []) ≡ values (charWidth c, f15)
+  -- accents put into a line anywhere: it has the other characters that it had, its width, and is well-formed exactly where it was
+  pub put : (line l : List ℕ) → WithAccents line l → (bare l ≡ bare line) × (lineWidth l ≡ lineWidth line) × (wellFormed l ≡ wellFormed line)
+  -- a line of accents alone has width 0, and counts as a line
+  pub alone : (marks : List ℕ) → every accent marks ≡ true
+      → (lineWidth (flatMap encode marks) ≡ f0)
+      × ((l m : List (List ℕ)) → block (l ++ (flatMap encode marks ∷ m)) ≡ record { width = blockWidth (l ++ m); height = blockHeight (suc (length (l ++ m))) })
   -- two label blocks that are measured, and differ in accents only
   pub blocks : (text lengths text′ lengths′ : List ℕ) (a b : Float × Float) → labelSize text lengths ≡ values a → labelSize text′ lengths′ ≡ values b
       → map bare (cut text lengths) ≡ map bare (cut text′ lengths′) → a ≡ b
-  -- "Column gaps, rings, boxes and label choice follow from the new width": labels enter by their sizes and their numbers of lines
+  -- "Column gaps, rings, boxes and label choice follow from the new width": labels enter by their sizes alone
   pub bySizes : (s t : List ℕ) → check s ≡ values tt → check t ≡ values tt → SameSizes (meaning s) (meaning t) → AnsweredAlike s t
   pub recordsBySizes : (c d : Call) (a : Answered c) (b : Answered d) → SameSizes (graph c) (graph d) → frame c .centres ≡ frame d .centres → RecordsAlike c d a b
   -- and these are the same where accents alone differ
@@ -73,3 +96,6 @@ pub record AccentsTakeNoWidth : Type 0 where
   pub sheets : (s t : List ℕ) → check s ≡ values tt → check t ≡ values tt → AccentsOnly (meaning s) (meaning t) → AnsweredAlike s t
   -- and at the same centres, whatever else is lent, their records are alike
   pub routings : (c d : Call) (a : Answered c) (b : Answered d) → AccentsOnly (graph c) (graph d) → frame c .centres ≡ frame d .centres → RecordsAlike c d a b
+  -- accents put into the lines of an accepted sheet: the two differ in accents only, and where the bytes stay within the limits the second is accepted
+  pub only : (g h : Graph) → AccentsPut g h → AccentsOnly g h
+  pub accepted : (s t : List ℕ) → check s ≡ values tt → AccentsPut (meaning s) (meaning t) → Sound t → check t ≡ values tt

@@ -1,22 +1,36 @@
--- Two sheets that differ in accents only, worked out: accents before and after a letter, doubled, and across pieces. Assumes nothing.
-use mathlib.Core.Path.{_≡_, refl}
-use mathlib.Core.List.{List, [], _∷_, _++_, map, flatMap}
-use Prim.Native.Nat.{ℕ, zero, suc, _<_}
+-- Document 01's worked sheet with accents put into its line, worked out: before and after the letter, one of them twice, and two across pieces. Assumes nothing.
+use mathlib.Core.Path.{_≡_, refl, sym, ap, _∙_}
+use mathlib.Core.List.{List, [], _∷_, _++_, flatMap}
+use Prim.Native.Nat.{ℕ, zero, suc, _≤_, _<_}
+use native.Mathlib.Omega.{arith}
+use lib.ListN.{length, replicate}
 use Rattle.laws.specs.Any.{anyOf}
-use Rattle.laws.specs.Filter.{filterBy}
+use Rattle.laws.specs.Every.{every}
 use Rattle.laws.specs.Loops.{anyFor, anyUp, over}
 use Rattle.laws.specs.Refusals.{decide}
-use Rattle.text.specs.Utf8.{payload, codesFrom}
+use Rattle.float.specs.Constants.{whole}
+use Rattle.text.specs.Ascii.{ascii}
+use Rattle.text.specs.Encode.{encode}
 use Rattle.sheet.specs.Sheet.{chainBy, metLine, metArrow, met, lineOf, linesFrom, Graph, arrowOf, statesOf, arrowsOf, meaning}
-use Rattle.sheet.specs.Refusals.{repeats, isSet, wrongRecord, wrongBytes, indices, wrongChains, largeArrow, overLimits, illArrow, illFormed}
 use Rattle.sheet.specs.Meaning.{arrowAt}
-use Rattle.label.specs.Accents.{bare}
+use Rattle.sheet.specs.Refusals.{repeats, isSet, wrongRecord, wrongBytes, indices, wrongChains, largeArrow, overLimits, illArrow, illFormed}
+use Rattle.sheet.specs.Accepted.{lineAt}
 use Rattle.sheet.specs.Examples.{header, stateBytes, arrowBytes, lineBytes, textBytes, small, smallGraph, small-means}
-use Rattle.calls.specs.Calls.{values, check}
-use Rattle.accents.specs.Sheets.{AccentsOnly, AnsweredAlike}
+use Rattle.label.specs.Accents.{WithAccents, as-it-was, more}
+use Rattle.drawing_text.specs.Worked.{workedListing}
+use Rattle.routing.specs.Routing.{Frame}
+use Rattle.routing_laws.specs.Agree.{same-frame}
+use Rattle.calls.specs.Calls.{values, check, onto, listAfter}
+use Rattle.demand3.specs.Demand.{Call, Answered}
+use Rattle.worked_calls.specs.Numbers.{smallXs, smallYs}
+use Rattle.worked_calls.specs.Worked.{worked-calls}
+use Rattle.accents.specs.Sheets.{AccentsPut, AccentsOnly, AnsweredAlike, RecordsAlike}
 use Rattle.accents.specs.Proof.{accents-take-no-width}
 
--- the sheet `small`, whose line is `a`, with U+0301 before the letter and U+0300 and U+036F after it
+-- U+0301, the letter `a`, U+0300 twice, U+036F
+abbrev pub accentedLine : List ℕ
+accentedLine = 0xcc ∷ 0x81 ∷ 0x61 ∷ 0xcc ∷ 0x80 ∷ 0xcc ∷ 0x80 ∷ 0xcd ∷ 0xaf ∷ []
+
 abbrev pub smallAccented : List ℕ
 smallAccented =
     header 7 1 3
@@ -25,32 +39,37 @@ smallAccented =
     ++ arrowBytes 0 0 1 4
     ++ lineBytes 0 5
     ++ textBytes 6 (0xcc ∷ [])
-    ++ textBytes 7 (0x81 ∷ 0x61 ∷ 0xcc ∷ 0x80 ∷ 0xcd ∷ [])
+    ++ textBytes 7 (0x81 ∷ 0x61 ∷ 0xcc ∷ 0x80 ∷ 0xcc ∷ 0x80 ∷ 0xcd ∷ [])
     ++ textBytes 0 (0xaf ∷ [])
 
 abbrev pub accentedGraph : Graph
 accentedGraph = record {
   states = record { flags = 1 } ∷ record { flags = 0 } ∷ [];
-  arrows = record { source = 0; target = 1; lines = (0xcc ∷ 0x81 ∷ 0x61 ∷ 0xcc ∷ 0x80 ∷ 0xcd ∷ 0xaf ∷ []) ∷ [] } ∷ [];
+  arrows = record { source = 0; target = 1; lines = accentedLine ∷ [] } ∷ [];
 }
 
-pub small-accented-means : meaning smallAccented ≡ accentedGraph
+small-accented-means : meaning smallAccented ≡ accentedGraph
 unfolding statesOf arrowsOf arrowOf linesFrom lineOf chainBy flatMap
 small-accented-means = refl
 
-pub small-accepted : check small ≡ values tt
+small-accepted : check small ≡ values tt
 unfolding check decide wrongBytes wrongRecord isSet anyUp anyFor wrongChains indices met metArrow metLine flatMap chainBy anyOf repeats overLimits largeArrow statesOf arrowsOf arrowOf linesFrom lineOf illFormed illArrow over
 small-accepted = refl
 
-pub small-accented-accepted : check smallAccented ≡ values tt
+small-accented-accepted : check smallAccented ≡ values tt
 unfolding check decide wrongBytes wrongRecord isSet anyUp anyFor wrongChains indices met metArrow metLine flatMap chainBy anyOf repeats overLimits largeArrow statesOf arrowsOf arrowOf linesFrom lineOf illFormed illArrow over
 small-accented-accepted = refl
 
-only-accents : AccentsOnly smallGraph accentedGraph
-unfolding filterBy codesFrom payload
-only-accents = record {
+-- the accents put in, those behind the letter first
+line-accented : WithAccents (ascii "a") accentedLine
+unfolding encode flatMap every over
+line-accented = more [] (0x301 ∷ []) (0x61 ∷ 0xcc ∷ 0x80 ∷ 0xcc ∷ 0x80 ∷ 0xcd ∷ 0xaf ∷ []) refl refl (more (ascii "a") (0x300 ∷ 0x300 ∷ 0x36f ∷ []) [] refl refl as-it-was)
+
+put-in : AccentsPut smallGraph accentedGraph
+put-in = record {
   ends = record { states = refl; flags = λ k h. refl; many = refl; sources = sources; targets = targets };
-  lines = λ k h. lines k;
+  many = λ k h. many k;
+  lines = lines;
 }
   where
     sources : (k : ℕ) → k < 1 → arrowAt smallGraph k .source ≡ arrowAt accentedGraph k .source
@@ -61,9 +80,45 @@ only-accents = record {
     targets zero h = refl
     targets (suc k) h = refl
 
-    lines : (k : ℕ) → map bare (arrowAt smallGraph k .lines) ≡ map bare (arrowAt accentedGraph k .lines)
-    lines zero = refl
-    lines (suc k) = refl
+    many : (k : ℕ) → length (arrowAt smallGraph k .lines) ≡ length (arrowAt accentedGraph k .lines)
+    many zero = refl
+    many (suc k) = refl
 
-pub worked-accents : AnsweredAlike small smallAccented
-worked-accents = accents-take-no-width .sheets small smallAccented small-accepted small-accented-accepted (rw (small-means, small-accented-means) only-accents)
+    lines : (k j : ℕ) → k < 1 → j < length (arrowAt smallGraph k .lines) → WithAccents (lineAt smallGraph k j) (lineAt accentedGraph k j)
+    lines zero zero h i = line-accented
+    lines zero (suc j) h i = absurd (omega arith)
+    lines (suc k) j h i = absurd (omega arith)
+
+small-only : AccentsOnly (meaning small) (meaning smallAccented)
+small-only = rw (small-means, small-accented-means) (accents-take-no-width .only smallGraph accentedGraph put-in)
+
+-- a routing of each at the layout's centres, with other slices lent
+abbrev pub plainCall : Call
+plainCall = record { sheet = small; xs = smallXs; ys = smallYs; records = replicate 20 (whole 0); text = replicate 17 0 }
+
+abbrev pub accentedCall : Call
+accentedCall = record { sheet = smallAccented; xs = smallXs; ys = smallYs; records = replicate 25 (whole 3); text = replicate 30 9 }
+
+small-alike : AnsweredAlike small smallAccented
+small-alike = accents-take-no-width .sheets small smallAccented small-accepted small-accented-accepted small-only
+
+pub plain-answered : Answered plainCall
+plain-answered = record { numbers = 20; bytes = 17; answer = worked-calls .routes 20 17 (omega arith) (omega arith) }
+
+pub accented-answered : Answered accentedCall
+accented-answered = record { numbers = 20; bytes = 17; answer = sym (small-alike .routed smallXs smallYs 25 30) ∙ worked-calls .routes 25 30 (omega arith) (omega arith) }
+
+pub record WorkedAccents : Type 0 where
+  pub alike : AnsweredAlike small smallAccented
+  -- the one record of each routing
+  pub records : RecordsAlike plainCall accentedCall plain-answered accented-answered
+  -- the listing is document 01's, whole
+  pub listing : (out : List ℕ) → 196 ≤ length out → listAfter smallAccented 0 out ≡ onto workedListing out
+
+pub worked-accents : WorkedAccents
+worked-accents = record {
+  alike = small-alike;
+  records = accents-take-no-width .routings plainCall accentedCall plain-answered accented-answered small-only
+      (ap (λ (f : Frame). f .centres) (same-frame (meaning small) (meaning smallAccented) smallXs smallYs (small-only .ends)));
+  listing = λ out h. sym (small-alike .lines 0 out) ∙ worked-calls .text out h;
+}

@@ -114,7 +114,7 @@ pub record Unsigned (x : Float) : Type 0 where
   pub plus : negative x ≡ false
   pub number : ne x x ≡ false
 
--- 0 added, or asked for as the larger: the same number (-0 would become 0)
+-- 0 added: the same number, where -0 would become 0
 pub add-zero : (x : Float) → T (fits binary64 x) → Unsigned x → x ⊕ f0 ≡ x
 unfolding Ieee.add ofBits
 add-zero nan h u = refl
@@ -126,6 +126,7 @@ add-zero (fin s m e) h u =
     none : (a d : ℕ) → a * 1 + 0 * 1 * d ≡ a
     none a d = omega arith
 
+-- and 0 is not larger
 pub max-zero : (x : Float) → Unsigned x → max x f0 ≡ x
 max-zero x u = max-first x f0 (u .number) (not-below x (u .plus))
 

@@ -21,7 +21,7 @@ use Rattle.float.specs.Constants.{f0, f12, labelCharWidth, labelWideCharWidth}
 use Rattle.float.specs.Standins.{max}
 use Rattle.float.specs.Laws.{Unsigned, add-zero, max-zero, add-unsigned, max-unsigned}
 use Rattle.text.specs.Utf8.{wellFormed, codesFrom, codePoints}
-use Rattle.text.specs.Encode.{encode, low, codes-encode}
+use Rattle.text.specs.Encode.{encode, Scalar, low, codes-encode}
 use Rattle.text.specs.Encoded.{AllScalar, codes-flat, formed-flat, codes-join, formed-join}
 use Rattle.label.specs.Label.{accent, charWidth, widened, lineWidth, widerLine, blockWidth, blockHeight, block}
 
@@ -37,7 +37,7 @@ among c t =
     let b : c ≤ 0x36f = leb-true c 0x36f (and-second (leb 0x300 c) (leb c 0x36f) t) in
     (a, omega arith)
 
-pub among-accents : (c : ℕ) → AmongAccents c → accent c ≡ true
+among-accents : (c : ℕ) → AmongAccents c → accent c ≡ true
 among-accents c h = let b : c < 0x300 + 112 = h .1 in rw (le-leb 0x300 c (h .0), le-leb c 0x36f (omega arith))
 
 -- neither of the two other widths is 0
@@ -55,14 +55,23 @@ zero-width c = (
 )
 
 -- 'all others stay'
-pub other-width : (c : ℕ) → accent c ≡ false → charWidth c ≡ cond (ltb c 0x80) labelCharWidth labelWideCharWidth
+pub other-width : (c : ℕ) → (AmongAccents c → ⊥) → charWidth c ≡ cond (ltb c 0x80) labelCharWidth labelWideCharWidth
 unfolding charWidth
-other-width c t = rw t
+other-width c o = by-bool (accent c) (λ t. absurd (o (among c t))) (λ t. rw t)
 
 -- at both borders
 pub border-widths : (charWidth 0x2ff ≡ f12) × (charWidth 0x300 ≡ f0) × (charWidth 0x36f ≡ f0) × (charWidth 0x370 ≡ f12)
 unfolding charWidth
 border-widths = (refl, refl, refl, refl)
+
+-- a character alone in a line
+width-alone : (c : ℕ) → f0 ⊕ charWidth c ≡ charWidth c
+unfolding charWidth ofBits Ieee.add Ieee.sum Ieee.round
+width-alone c = by-bool (accent c) (λ t. rw t) (λ t. by-bool (ltb c 0x80) (λ a. rw (t, a)) (λ a. rw (t, a)))
+
+pub character-width : (c : ℕ) → Scalar c → lineWidth (encode c) ≡ charWidth c
+unfolding lineWidth over codesFrom
+character-width c q = ap (over widened f0) (ap codePoints (sym (append-nil (encode c))) ∙ codes-encode c [] q) ∙ width-alone c
 
 -- of the characters of two bytes, those from CC 80 to CD AF
 abbrev pub accentBytes : ℕ → ℕ → Bool
@@ -82,25 +91,16 @@ encode-two : (b d c : ℕ) → 0xc0 + c / 64 ≡ b → 0x80 + c % 64 ≡ d → 0
 unfolding encode
 encode-two b d c p q m n = rw (le-ltb c 0x80 m, lt-ltb c 0x800 n) (ap₂ (λ (x y : ℕ). x ∷ y ∷ []) p q)
 
-two-code : (b d : ℕ) → 0xc2 ≤ b → b ≤ 0xdf → 0x80 ≤ d → d ≤ 0xbf → codePoints (b ∷ d ∷ []) ≡ (64 * (b - 0xc0) + (d - 0x80)) ∷ []
-unfolding codesFrom
-two-code b d h i k l =
-    let c = 64 * (b - 0xc0) + (d - 0x80) in
-    let p : 0xc0 + c / 64 ≡ b = omega arith in
-    let q : 0x80 + c % 64 ≡ d = omega arith in
-    let e : encode c ≡ b ∷ d ∷ [] = encode-two b d c p q (omega arith) (omega arith) in
-    ap codePoints (sym e ∙ sym (append-nil (encode c))) ∙ codes-encode c [] (low (omega arith))
-
-width-alone : (t : Bool) (c : ℕ) → accent c ≡ t → 0x80 ≤ c → f0 ⊕ charWidth c ≡ cond t f0 f12
-unfolding charWidth ofBits Ieee.add Ieee.sum Ieee.round
-width-alone true c e m = rw e
-width-alone false c e m = rw (e, le-ltb c 0x80 m)
+two-width : (t : Bool) (c : ℕ) → accent c ≡ t → 0x80 ≤ c → charWidth c ≡ cond t f0 f12
+unfolding charWidth
+two-width true c e m = rw e
+two-width false c e m = rw (e, le-ltb c 0x80 m)
 
 pub two-byte-width : (b d : ℕ) → 0xc2 ≤ b → b ≤ 0xdf → 0x80 ≤ d → d ≤ 0xbf → lineWidth (b ∷ d ∷ []) ≡ cond (accentBytes b d) f0 f12
-unfolding lineWidth over
 two-byte-width b d h i k l =
-    ap (over widened f0) (two-code b d h i k l)
-    ∙ width-alone (accentBytes b d) (64 * (b - 0xc0) + (d - 0x80)) (accent-bytes b d h k l) (omega arith)
+    let c = 64 * (b - 0xc0) + (d - 0x80) in
+    let e : encode c ≡ b ∷ d ∷ [] = encode-two b d c (omega arith) (omega arith) (omega arith) (omega arith) in
+    ap lineWidth (sym e) ∙ character-width c (low (omega arith)) ∙ two-width (accentBytes b d) c (accent-bytes b d h k l) (omega arith)
 
 -- ---- accents in a line
 
@@ -193,6 +193,20 @@ module _ (before marks after : List ℕ) (w : wellFormed before ≡ true) (a : e
   -- and as wide
   pub accented-width : lineWidth (accented before marks after) ≡ lineWidth (before ++ after)
   accented-width = same-width (accented before marks after) (before ++ after) accented-bare
+
+-- in any number of places
+pub data WithAccents (line : List ℕ) : List ℕ → Type 0 where
+  as-it-was : WithAccents line line
+  more : (before marks after : List ℕ) → wellFormed before ≡ true → every accent marks ≡ true → WithAccents line (before ++ after) → WithAccents line (accented before marks after)
+
+module _ (line : List ℕ) where
+  pub with-bare : (l : List ℕ) → WithAccents line l → bare l ≡ bare line
+  with-bare _ as-it-was = refl
+  with-bare _ (more before marks after w a p) = accented-bare before marks after w a ∙ with-bare (before ++ after) p
+
+  pub with-formed : (l : List ℕ) → WithAccents line l → wellFormed l ≡ wellFormed line
+  with-formed _ as-it-was = refl
+  with-formed _ (more before marks after w a p) = accented-formed before marks after w a ∙ with-formed (before ++ after) p
 
 -- ---- a line of accents alone: width 0, and a line of its block
 
