@@ -1,37 +1,39 @@
 -- Accents take no width. Assumes nothing.
 use mathlib.Core.Path.{_≡_, refl, sym, ap, ap₂, _∙_}
-use mathlib.Core.Bool.{true, false}
+use mathlib.Core.Bool.{true, false, not, _||_}
 use mathlib.Core.List.{List, [], _∷_, map, append-nil}
 use Prim.Native.Nat.{ℕ, suc, _+_, _≤_, _<_}
 use native.Mathlib.Omega.{arith}
 use borrow.Author.Tests.{le-ltb, eq-eqb}
 use lib.Dec.{ltb, eqb}
-use lib.ListN.{length, drop}
+use lib.ListN.{length, getD, drop}
 use lib.Seq.{take-length}
 use lib.Ieee.{Float, ofBits}
 use lib.Ieee as Ieee
-use Rattle.laws.specs.Any.{anyOf}
+use Rattle.laws.specs.Any.{anyOf, none-at, none-all}
+use Rattle.laws.specs.Bools.{or-false-right}
 use Rattle.laws.specs.Cases.{by-bool}
 use Rattle.laws.specs.Lists.{map-alike}
 use Rattle.laws.specs.Loops.{over}
-use Rattle.laws.specs.Refusals.{decide, clear-none, without}
+use Rattle.laws.specs.Refusals.{decide, Clear, clear-none, without, clear-decides}
 use Rattle.float.specs.Constants.{f0, f15}
 use Rattle.float.specs.Standins.{max}
 use Rattle.text.specs.Utf8.{wellFormed}
 use Rattle.text.specs.Encode.{encode, Scalar, formed-encode}
 use Rattle.sheet.specs.Sheet.{Graph, meaning}
 use Rattle.sheet.specs.Meaning.{noArrow, arrowAt}
+use Rattle.sheet.specs.Refusals.{illLine}
 use Rattle.sheet.specs.Order.{accepted-exactly}
 use Rattle.sheet.specs.Accepted.{lineAt, Within, not-over, not-ill, OnMainScreen, on-main-screen}
 use Rattle.label.specs.declared.Block.{Block}
 use Rattle.label.specs.Label.{accent, charWidth, widerLine, labelRefusals, cut, totalLength, blockWidth, blockHeight}
 use Rattle.label.specs.Accents.{bare, zero-width, other-width, border-widths, character-width, same-width, same-block, with-bare, with-formed, accents-alone, accents-line}
 use Rattle.routing.specs.Sheets.{sizeOf}
-use Rattle.calls.specs.Calls.{values, mainScreen, short, check, labelSize}
+use Rattle.calls.specs.Calls.{values, number, mainScreen, check, labelSize}
 use Rattle.calls.specs.Decided.{answered-clear}
 use Rattle.calls.specs.Refused.{check-answered}
 use Rattle.demand3.specs.Demand.{graph, sizes}
-use Rattle.accents.specs.Sheets.{AccentsOnly, AccentsPut, SameSizes, Sound, AccentsTakeNoWidth}
+use Rattle.accents.specs.Sheets.{LinesPut, AccentsOnly, AccentsPut, SameSizes, Sound, AccentsTakeNoWidth}
 use Rattle.accents.specs.BySizes.{by-sizes, by-sizes-records}
 
 -- ---- the sizes of labels
@@ -93,13 +95,42 @@ one-answered c q =
     let formed : wellFormed (encode c) ≡ true = ap wellFormed (sym (append-nil (encode c))) ∙ formed-encode c [] q in
     rw (short, whole, cut-one (encode c), formed) (ap₂ (λ (w h : Float). values (w, h)) (ap (max f0) (character-width c q) ∙ one-wide c) one-high)
 
--- ---- accents put into the lines of a sheet
+-- ---- accents put into lines
+
+lines-bare : (l m : List (List ℕ)) → LinesPut l m → map bare l ≡ map bare m
+lines-bare l m e = map-alike bare bare l m [] [] (e .many) (λ j h. sym (with-bare (getD l j []) (getD m j []) (e .each j h)))
+
+lines-formed : (l m : List (List ℕ)) → LinesPut l m → anyOf illLine l ≡ false → anyOf illLine m ≡ false
+lines-formed l m e o =
+    none-all illLine m []
+    (λ j h. let i : j < length l = omega (arith, e .many) in ap not (with-formed (getD l j []) (getD m j []) (e .each j i)) ∙ none-at illLine l j [] o i)
+
+-- ---- of a label block
+
+module _ (text lengths text′ lengths′ : List ℕ) (a : Float × Float) (h : labelSize text lengths ≡ values a) (e : LinesPut (cut text lengths) (cut text′ lengths′)) where
+  block-clear : Clear (labelRefusals mainScreen text lengths)
+  unfolding labelSize
+  block-clear = answered-clear (labelRefusals mainScreen text lengths) (blockWidth (cut text lengths), blockHeight (length lengths)) a (sym h) .0
+
+  few-lines : ltb 8 (length lengths′) ≡ false
+  few-lines =
+      let n : length lengths ≡ length lengths′ = sym (cut-length text lengths) ∙ e .many ∙ cut-length text′ lengths′ in
+      ap (ltb 8) (sym n) ∙ or-false-right (not (eqb (length text) (totalLength lengths)) || anyOf (ltb 96) lengths) (ltb 8 (length lengths)) (block-clear .none 5)
+
+  block-put : anyOf (ltb 96) lengths′ ≡ false → length text′ ≡ totalLength lengths′ → labelSize text′ lengths′ ≡ values a
+  unfolding labelSize
+  block-put b t =
+      clear-decides number (values (blockWidth (cut text′ lengths′), blockHeight (length lengths′))) (labelRefusals mainScreen text′ lengths′)
+      (without 5 few-lines (without 5 b (without 5 (ap not (eq-eqb (length text′) (totalLength lengths′) t)) (without 6 (lines-formed (cut text lengths) (cut text′ lengths′) e (block-clear .none 6)) clear-none))))
+      ∙ ap values
+      (ap (λ (n : ℕ). (blockWidth (cut text′ lengths′), blockHeight n)) (sym (cut-length text′ lengths′))
+      ∙ ap (λ (z : Block). (z .width, z .height)) (sym (same-block (cut text lengths) (cut text′ lengths′) (lines-bare (cut text lengths) (cut text′ lengths′) e)))
+      ∙ sym (block-answered text lengths a h))
+
+-- ---- of a sheet
 
 put-only : (g h : Graph) → AccentsPut g h → AccentsOnly g h
-put-only g h e = record {
-  ends = e .ends;
-  lines = λ k l. map-alike bare bare (arrowAt g k .lines) (arrowAt h k .lines) [] [] (e .many k l) (λ j i. sym (with-bare (lineAt g k j) (lineAt h k j) (e .lines k j l i)));
-}
+put-only g h e = record { ends = e .ends; lines = λ k l. lines-bare (arrowAt g k .lines) (arrowAt h k .lines) (e .lines k l) }
 
 module _ (s t : List ℕ) (a : check s ≡ values tt) (e : AccentsPut (meaning s) (meaning t)) (o : Sound t) where
   put-within : Within mainScreen (meaning t)
@@ -108,12 +139,12 @@ module _ (s t : List ℕ) (a : check s ≡ values tt) (e : AccentsPut (meaning s
       record {
         states = omega (arith, w .states, e .ends .states);
         arrows = omega (arith, w .arrows, e .ends .many);
-        lines = λ k h. let i : k < length (meaning s .arrows) = omega (arith, e .ends .many) in omega (arith, w .lines k i, e .many k i);
+        lines = λ k h. let i : k < length (meaning s .arrows) = omega (arith, e .ends .many) in omega (arith, w .lines k i, e .lines k i .many);
         bytes = o .bytes;
         formed = λ k j h l.
             let i : k < length (meaning s .arrows) = omega (arith, e .ends .many) in
-            let m : j < length (arrowAt (meaning s) k .lines) = omega (arith, e .many k i) in
-            with-formed (lineAt (meaning s) k j) (lineAt (meaning t) k j) (e .lines k j i m) ∙ w .formed k j i m;
+            let m : j < length (arrowAt (meaning s) k .lines) = omega (arith, e .lines k i .many) in
+            with-formed (lineAt (meaning s) k j) (lineAt (meaning t) k j) (e .lines k i .each j m) ∙ w .formed k j i m;
       }
 
   put-accepted : check t ≡ values tt
@@ -131,7 +162,9 @@ accents-take-no-width = record {
   one = one-answered;
   put = λ line l p. (with-bare line l p, same-width l line (with-bare line l p), with-formed line l p);
   alone = λ marks a. (accents-alone marks a, λ l m. accents-line l m marks a);
+  measured = block-answered;
   blocks = blocks-alike;
+  blocksPut = block-put;
   bySizes = by-sizes;
   recordsBySizes = by-sizes-records;
   sameSizes = sizes-alike;

@@ -4,8 +4,9 @@ use mathlib.Core.Bool.{true, false, cond}
 use mathlib.Core.List.{List, [], _∷_, _++_, map, flatMap}
 use Prim.Native.Nat.{ℕ, suc, _≤_, _<_}
 use lib.Dec.{ltb}
-use lib.ListN.{length}
+use lib.ListN.{length, getD}
 use lib.Ieee.{Float}
+use Rattle.laws.specs.Any.{anyOf}
 use Rattle.laws.specs.Every.{every}
 use Rattle.float.specs.Constants.{f0, f12, f15, labelCharWidth, labelWideCharWidth}
 use Rattle.text.specs.Utf8.{wellFormed}
@@ -14,25 +15,29 @@ use Rattle.sheet.specs.Sheet.{Graph, meaning}
 use Rattle.sheet.specs.Meaning.{arrowAt}
 use Rattle.sheet.specs.Refusals.{wrongLength, wrongVersion, wrongBytes, wrongChains}
 use Rattle.sheet.specs.Accepted.{lineAt}
-use Rattle.label.specs.Label.{accent, charWidth, lineWidth, blockWidth, blockHeight, block, cut}
+use Rattle.label.specs.Label.{accent, charWidth, lineWidth, blockWidth, blockHeight, block, cut, totalLength}
 use Rattle.label.specs.Accents.{AmongAccents, bare, WithAccents}
 use Rattle.routing.specs.Routing.{kept}
 use Rattle.routing.specs.Sheets.{sizesOf, SameFrame}
 use Rattle.calls.specs.Calls.{values, check, labelSize, route, recordsAfter, textAfter, clutter, layout, xsAfter, ysAfter, list, listAfter}
 use Rattle.demand3.specs.Demand.{Call, Answered, recordAt, pathAt, graph, frame}
 
--- ---- two sheets
+-- ---- two label blocks, two sheets
+
+-- As many lines, each of the second is that of the first with accents put in.
+pub record LinesPut (l m : List (List ℕ)) : Type 0 where
+  pub many : length l ≡ length m
+  pub each : (j : ℕ) → j < length l → WithAccents (getD l j []) (getD m j [])
 
 -- The same states and arrow ends; each arrow has as many lines in both, each of the same characters once its accents are left out.
 pub record AccentsOnly (g h : Graph) : Type 0 where
   pub ends : SameFrame g h
   pub lines : (k : ℕ) → k < length (g .arrows) → map bare (arrowAt g k .lines) ≡ map bare (arrowAt h k .lines)
 
--- The same, and each line of the second is that of the first with accents put in.
+-- The same states and arrow ends; the lines of each arrow of the second are those of the first with accents put in.
 pub record AccentsPut (g h : Graph) : Type 0 where
   pub ends : SameFrame g h
-  pub many : (k : ℕ) → k < length (g .arrows) → length (arrowAt g k .lines) ≡ length (arrowAt h k .lines)
-  pub lines : (k j : ℕ) → k < length (g .arrows) → j < length (arrowAt g k .lines) → WithAccents (lineAt g k j) (lineAt h k j)
+  pub lines : (k : ℕ) → k < length (g .arrows) → LinesPut (arrowAt g k .lines) (arrowAt h k .lines)
 
 -- The same states and arrow ends, and the labels have the same sizes.
 pub record SameSizes (g h : Graph) : Type 0 where
@@ -78,15 +83,20 @@ pub record AccentsTakeNoWidth : Type 0 where
   pub borders : (charWidth 0x2ff ≡ f12) × (charWidth 0x300 ≡ f0) × (charWidth 0x36f ≡ f0) × (charWidth 0x370 ≡ f12)
   -- what `label_size` answers to a line of one character
   pub one : (c : ℕ) → Scalar c → labelSize (encode c) (length (encode c) ∷ []) ≡ values (charWidth c, f15)
-  -- accents put into a line anywhere: it has the other characters that it had, its width, and is well-formed exactly where it was
+  -- accents put into a line, before, between or after its characters: it has the other characters that it had, its width, and is well-formed exactly where it was
   pub put : (line l : List ℕ) → WithAccents line l → (bare l ≡ bare line) × (lineWidth l ≡ lineWidth line) × (wellFormed l ≡ wellFormed line)
   -- a line of accents alone has width 0, and counts as a line
   pub alone : (marks : List ℕ) → every accent marks ≡ true
       → (lineWidth (flatMap encode marks) ≡ f0)
       × ((l m : List (List ℕ)) → block (l ++ (flatMap encode marks ∷ m)) ≡ record { width = blockWidth (l ++ m); height = blockHeight (suc (length (l ++ m))) })
-  -- two label blocks that are measured, and differ in accents only
+  -- what `label_size` answers is the size of the block of lines;
+  pub measured : (text lengths : List ℕ) (a : Float × Float) → labelSize text lengths ≡ values a → a ≡ (block (cut text lengths) .width, block (cut text lengths) .height)
+  -- two blocks that it measures and that differ in accents only have the same size;
   pub blocks : (text lengths text′ lengths′ : List ℕ) (a b : Float × Float) → labelSize text lengths ≡ values a → labelSize text′ lengths′ ≡ values b
       → map bare (cut text lengths) ≡ map bare (cut text′ lengths′) → a ≡ b
+  -- and with accents put into the lines of one that it measures it measures the other too, if no line gets more than 96 bytes
+  pub blocksPut : (text lengths text′ lengths′ : List ℕ) (a : Float × Float) → labelSize text lengths ≡ values a → LinesPut (cut text lengths) (cut text′ lengths′)
+      → anyOf (ltb 96) lengths′ ≡ false → length text′ ≡ totalLength lengths′ → labelSize text′ lengths′ ≡ values a
   -- "Column gaps, rings, boxes and label choice follow from the new width": labels enter by their sizes alone
   pub bySizes : (s t : List ℕ) → check s ≡ values tt → check t ≡ values tt → SameSizes (meaning s) (meaning t) → AnsweredAlike s t
   pub recordsBySizes : (c d : Call) (a : Answered c) (b : Answered d) → SameSizes (graph c) (graph d) → frame c .centres ≡ frame d .centres → RecordsAlike c d a b
@@ -96,6 +106,6 @@ pub record AccentsTakeNoWidth : Type 0 where
   pub sheets : (s t : List ℕ) → check s ≡ values tt → check t ≡ values tt → AccentsOnly (meaning s) (meaning t) → AnsweredAlike s t
   -- and at the same centres, whatever else is lent, their records are alike
   pub routings : (c d : Call) (a : Answered c) (b : Answered d) → AccentsOnly (graph c) (graph d) → frame c .centres ≡ frame d .centres → RecordsAlike c d a b
-  -- accents put into the lines of an accepted sheet: the two differ in accents only, and where the bytes stay within the limits the second is accepted
+  -- accents put into the lines of an accepted sheet: the two differ in accents only, and the second is accepted if its records are sound and no line gets more than 96 bytes
   pub only : (g h : Graph) → AccentsPut g h → AccentsOnly g h
   pub accepted : (s t : List ℕ) → check s ≡ values tt → AccentsPut (meaning s) (meaning t) → Sound t → check t ≡ values tt

@@ -3,7 +3,7 @@ use mathlib.Core.Path.{_≡_, refl, sym, ap, _∙_}
 use mathlib.Core.List.{List, [], _∷_, _++_, flatMap}
 use Prim.Native.Nat.{ℕ, zero, suc, _≤_, _<_}
 use native.Mathlib.Omega.{arith}
-use lib.ListN.{length, replicate}
+use lib.ListN.{length, getD, replicate}
 use Rattle.laws.specs.Any.{anyOf}
 use Rattle.laws.specs.Every.{every}
 use Rattle.laws.specs.Loops.{anyFor, anyUp, over}
@@ -14,7 +14,6 @@ use Rattle.text.specs.Encode.{encode}
 use Rattle.sheet.specs.Sheet.{chainBy, metLine, metArrow, met, lineOf, linesFrom, Graph, arrowOf, statesOf, arrowsOf, meaning}
 use Rattle.sheet.specs.Meaning.{arrowAt}
 use Rattle.sheet.specs.Refusals.{repeats, isSet, wrongRecord, wrongBytes, indices, wrongChains, largeArrow, overLimits, illArrow, illFormed}
-use Rattle.sheet.specs.Accepted.{lineAt}
 use Rattle.sheet.specs.Examples.{header, stateBytes, arrowBytes, lineBytes, textBytes, small, smallGraph, small-means}
 use Rattle.label.specs.Accents.{WithAccents, as-it-was, more}
 use Rattle.drawing_text.specs.Worked.{workedListing}
@@ -24,7 +23,7 @@ use Rattle.calls.specs.Calls.{values, check, onto, listAfter}
 use Rattle.demand3.specs.Demand.{Call, Answered}
 use Rattle.worked_calls.specs.Numbers.{smallXs, smallYs}
 use Rattle.worked_calls.specs.Worked.{worked-calls}
-use Rattle.accents.specs.Sheets.{AccentsPut, AccentsOnly, AnsweredAlike, RecordsAlike}
+use Rattle.accents.specs.Sheets.{LinesPut, AccentsPut, AccentsOnly, AnsweredAlike, RecordsAlike}
 use Rattle.accents.specs.Proof.{accents-take-no-width}
 
 -- U+0301, the letter `a`, U+0300 twice, U+036F
@@ -65,10 +64,16 @@ line-accented : WithAccents (ascii "a") accentedLine
 unfolding encode flatMap every over
 line-accented = more [] (0x301 ∷ []) (0x61 ∷ 0xcc ∷ 0x80 ∷ 0xcc ∷ 0x80 ∷ 0xcd ∷ 0xaf ∷ []) refl refl (more (ascii "a") (0x300 ∷ 0x300 ∷ 0x36f ∷ []) [] refl refl as-it-was)
 
+lines-accented : LinesPut (ascii "a" ∷ []) (accentedLine ∷ [])
+lines-accented = record { many = refl; each = each }
+  where
+    each : (j : ℕ) → j < 1 → WithAccents (getD (ascii "a" ∷ []) j []) (getD (accentedLine ∷ []) j [])
+    each zero h = line-accented
+    each (suc j) h = absurd (omega arith)
+
 put-in : AccentsPut smallGraph accentedGraph
 put-in = record {
   ends = record { states = refl; flags = λ k h. refl; many = refl; sources = sources; targets = targets };
-  many = λ k h. many k;
   lines = lines;
 }
   where
@@ -80,14 +85,9 @@ put-in = record {
     targets zero h = refl
     targets (suc k) h = refl
 
-    many : (k : ℕ) → length (arrowAt smallGraph k .lines) ≡ length (arrowAt accentedGraph k .lines)
-    many zero = refl
-    many (suc k) = refl
-
-    lines : (k j : ℕ) → k < 1 → j < length (arrowAt smallGraph k .lines) → WithAccents (lineAt smallGraph k j) (lineAt accentedGraph k j)
-    lines zero zero h i = line-accented
-    lines zero (suc j) h i = absurd (omega arith)
-    lines (suc k) j h i = absurd (omega arith)
+    lines : (k : ℕ) → k < 1 → LinesPut (arrowAt smallGraph k .lines) (arrowAt accentedGraph k .lines)
+    lines zero h = lines-accented
+    lines (suc k) h = absurd (omega arith)
 
 small-only : AccentsOnly (meaning small) (meaning smallAccented)
 small-only = rw (small-means, small-accented-means) (accents-take-no-width .only smallGraph accentedGraph put-in)

@@ -9,7 +9,8 @@ ghost use Rattle.label.specs.Measuring as M;
 use reader::next_of;
 use reader::record_of;
 
-// The font size of labels; the width of an ASCII character, 0.6 em of a monospace font, and of others but accents; the distance of lines.
+// The font size of labels; the width of an ASCII character, 0.6 em of a monospace font, and of any other that is no accent; the distance
+// between lines.
 const LABEL_FONT_SIZE: f64 = 12.0;
 
 pub const LABEL_CHAR_WIDTH: f64 = 0.6 * LABEL_FONT_SIZE;
