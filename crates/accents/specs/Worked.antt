@@ -112,7 +112,7 @@ pub record WorkedAccents : Type 0 where
   pub alike : AnsweredAlike small smallAccented
   -- the one record of each routing
   pub records : RecordsAlike plainCall accentedCall plain-answered accented-answered
-  -- the listing is document 01's, whole
+  -- the listing is that of the worked sheet, whole
   pub listing : (out : List ℕ) → 196 ≤ length out → listAfter smallAccented 0 out ≡ onto workedListing out
 
 pub worked-accents : WorkedAccents
