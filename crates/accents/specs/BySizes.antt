@@ -1,17 +1,16 @@
 -- Labels enter a drawing by their sizes alone: sheets whose labels have the same sizes are answered alike. Assumes nothing.
 use mathlib.Core.Path.{_≡_, refl, sym, ap, ap₂, _∙_}
-use mathlib.Core.Bool.{Bool, cond, not, _&&_, _||_}
-use mathlib.Core.List.{List, [], _∷_, _++_, map, flatMap}
+use mathlib.Core.Bool.{cond, not, _&&_, _||_}
+use mathlib.Core.List.{List, [], _∷_, _++_, map}
 use Prim.Native.Nat.{ℕ, zero, suc, _+_, _*_, _≤_, _<_}
 use native.Mathlib.Omega.{arith}
 use lib.Dec.{ltb}
-use lib.ListN.{length, getD, length-append}
+use lib.ListN.{length, getD}
 use lib.Ieee.{Float, ofBits, toUnsigned}
 use lib.Ieee as Ieee
-use Rattle.laws.specs.Cases.{by-bool}
 use Rattle.laws.specs.Counting.{howMany}
-use Rattle.laws.specs.Filter.{filterBy}
 use Rattle.laws.specs.Lists.{map-at, map-alike}
+use Rattle.laws.specs.Loops.{over, over-map}
 use Rattle.laws.specs.Refusals.{Refusal, refusal, decide, clear-joined}
 use Rattle.sheet.specs.Sheet.{Arrow, Graph, meaning, flagsOf}
 use Rattle.sheet.specs.Meaning.{endsBelow, noArrow, arrowAt}
@@ -24,7 +23,9 @@ use Rattle.svg.specs.Paths.{curveText}
 use Rattle.records.specs.Records.{fields}
 use Rattle.shape.specs.Centres.{centres}
 use Rattle.totals.specs.declared.Totals.{Totals}
-use Rattle.totals.specs.Totals.{hasPoints, totalsOf}
+use Rattle.totals.specs.declared.ArrowCounts.{ArrowCounts}
+use Rattle.totals.specs.Totals.{hasPoints, isLeftOut, countedLines, totalsOf}
+use Rattle.totals.specs.Arrows.{arrowCounts, noneCounted, leftOutAdd, linesAdd, arrows-counted}
 use Rattle.drawing_text.specs.Lines.{pathsText, pathsWritable, listText, listWritable}
 use Rattle.clutter.specs.Clutter.{clutterOf}
 use Rattle.routing.specs.Routing.{Ends, Frame, BlockSize, noSize, kept}
@@ -48,47 +49,26 @@ use Rattle.accents.specs.Sheets.{SameSizes, AnsweredAlike, RecordsAlike}
 abbrev endsAndLines : Arrow → Ends × ℕ
 endsAndLines a = (endsOf a, length (a .lines))
 
--- of the arrows that are kept among n states
-abbrev keptLines : ℕ → List Arrow → List (List ℕ)
-keptLines n l = flatMap (λ a. a .lines) (filterBy (λ a. endsBelow n (a .source) (a .target)) l)
+-- what an arrow with these adds in a drawing of n states
+abbrev withEnds : ℕ → ArrowCounts → Ends × ℕ → ArrowCounts
+withEnds n t x =
+    let kept = endsBelow n (x .0 .source) (x .0 .target) in
+    arrowCounts (t .«left_out» + cond kept 0 1) (t .lines + cond kept (x .1) 0)
 
-module _ (n : ℕ) where
-  abbrev left : Arrow → Bool
-  left a = not (endsBelow n (a .source) (a .target))
-
-  same-left : (l m : List Arrow) → map endsAndLines l ≡ map endsAndLines m → howMany left l ≡ howMany left m
-  unfolding howMany
-  same-left [] [] e = refl
-  same-left [] (b ∷ m) e = absurd (omega (arith, ap length e))
-  same-left (a ∷ l) [] e = absurd (omega (arith, ap length e))
-  same-left (a ∷ l) (b ∷ m) e =
-      let p : endsAndLines a ≡ endsAndLines b = cc in
-      let q : map endsAndLines l ≡ map endsAndLines m = cc in
-      ap₂ (λ (x : Ends × ℕ) (k : ℕ). cond (not (endsBelow n (x .0 .source) (x .0 .target))) 1 0 + k) p (same-left l m q)
-
-  same-lines : (l m : List Arrow) → map endsAndLines l ≡ map endsAndLines m → length (keptLines n l) ≡ length (keptLines n m)
-  unfolding flatMap filterBy
-  same-lines [] [] e = refl
-  same-lines [] (b ∷ m) e = absurd (omega (arith, ap length e))
-  same-lines (a ∷ l) [] e = absurd (omega (arith, ap length e))
-  same-lines (a ∷ l) (b ∷ m) e =
-      let p : endsAndLines a ≡ endsAndLines b = cc in
-      let q : map endsAndLines l ≡ map endsAndLines m = cc in
-      let k : endsBelow n (a .source) (a .target) ≡ endsBelow n (b .source) (b .target) = ap (λ (x : Ends × ℕ). endsBelow n (x .0 .source) (x .0 .target)) p in
-      by-bool (endsBelow n (b .source) (b .target))
-      (λ t. rw (k, t) (length-append (a .lines) (keptLines n l) ∙ ap₂ (λ (i j : ℕ). i + j) (ap (λ (x : Ends × ℕ). x .1) p) (same-lines l m q) ∙ sym (length-append (b .lines) (keptLines n m))))
-      (λ t. rw (k, t) (same-lines l m q))
+counted-by : (g : Graph) → over (withEnds (length (g .states))) noneCounted (map endsAndLines (g .arrows)) ≡ arrowCounts (howMany (isLeftOut g) (g .arrows)) (length (countedLines g))
+unfolding leftOutAdd linesAdd
+counted-by g = over-map (withEnds (length (g .states))) endsAndLines noneCounted (g .arrows) ∙ arrows-counted g
 
 totals-alike : (g h : Graph) → SameFrame g h → ((k : ℕ) → k < length (g .arrows) → length (arrowAt g k .lines) ≡ length (arrowAt h k .lines)) → (gs : List Geometry) → totalsOf g gs ≡ totalsOf h gs
 unfolding totalsOf
 totals-alike g h e many gs =
-    let n = length (g .states) in
     let q : map endsAndLines (g .arrows) ≡ map endsAndLines (h .arrows) =
     map-alike endsAndLines endsAndLines (g .arrows) (h .arrows) noArrow noArrow (e .many)
     (λ k l. ap₂ (λ (x : Ends) (y : ℕ). (x, y)) (ap₂ endsBy (e .sources k l) (e .targets k l)) (many k l)) in
-    ap₂ (λ (left lines : ℕ). record { straight = howMany (hasPoints 2) gs; arcs = howMany (hasPoints 3) gs; loops = howMany (hasPoints 4) gs; «left_out» = left; lines = lines })
-    (same-left n (g .arrows) (h .arrows) q ∙ ap (λ (m : ℕ). howMany (λ a. not (endsBelow m (a .source) (a .target))) (h .arrows)) (e .states))
-    (same-lines n (g .arrows) (h .arrows) q ∙ ap (λ (m : ℕ). length (keptLines m (h .arrows))) (e .states))
+    ap (λ (t : ArrowCounts). record { straight = howMany (hasPoints 2) gs; arcs = howMany (hasPoints 3) gs; loops = howMany (hasPoints 4) gs; «left_out» = t .«left_out»; lines = t .lines })
+    (sym (counted-by g)
+    ∙ ap₂ (λ (n : ℕ) (l : List (Ends × ℕ)). over (withEnds n) noneCounted l) (e .states) q
+    ∙ counted-by h)
 
 -- ---- as many lines where blocks of at most 8 are as high
 

@@ -2,7 +2,7 @@
 use mathlib.Core.Path.{_≡_, refl, sym, ap, ap₂, _∙_}
 use mathlib.Core.Bool.{true, false, not, _||_}
 use mathlib.Core.List.{List, [], _∷_, map, append-nil}
-use Prim.Native.Nat.{ℕ, suc, _+_, _≤_, _<_}
+use Prim.Native.Nat.{ℕ, suc, _+_, _<_}
 use native.Mathlib.Omega.{arith}
 use borrow.Author.Tests.{le-ltb, eq-eqb}
 use lib.Dec.{ltb, eqb}
@@ -12,7 +12,6 @@ use lib.Ieee.{Float, ofBits}
 use lib.Ieee as Ieee
 use Rattle.laws.specs.Any.{anyOf, none-at, none-all}
 use Rattle.laws.specs.Bools.{or-false-right}
-use Rattle.laws.specs.Cases.{by-bool}
 use Rattle.laws.specs.Lists.{map-alike}
 use Rattle.laws.specs.Loops.{over}
 use Rattle.laws.specs.Refusals.{decide, Clear, clear-none, without, clear-decides}
@@ -20,19 +19,20 @@ use Rattle.float.specs.Constants.{f0, f15}
 use Rattle.float.specs.Standins.{max}
 use Rattle.text.specs.Utf8.{wellFormed}
 use Rattle.text.specs.Encode.{encode, Scalar, formed-encode}
+use Rattle.text.specs.Encoded.{encode-length}
 use Rattle.sheet.specs.Sheet.{Graph, meaning}
 use Rattle.sheet.specs.Meaning.{noArrow, arrowAt}
 use Rattle.sheet.specs.Refusals.{illLine}
 use Rattle.sheet.specs.Order.{accepted-exactly}
 use Rattle.sheet.specs.Accepted.{lineAt, Within, not-over, not-ill, OnMainScreen, on-main-screen}
 use Rattle.label.specs.declared.Block.{Block}
-use Rattle.label.specs.Label.{accent, charWidth, widerLine, labelRefusals, cut, totalLength, blockWidth, blockHeight}
-use Rattle.label.specs.Accents.{bare, zero-width, other-width, border-widths, character-width, same-width, same-block, with-bare, with-formed, accents-alone, accents-line}
+use Rattle.label.specs.Label.{charWidth, widerLine, labelRefusals, cut, totalLength, blockWidth, blockHeight}
+use Rattle.label.specs.Accents.{bare, zero-width, other-width, border-widths, each-width, character-width, same-width, same-block, with-bare, with-formed, accents-alone, accents-line}
 use Rattle.routing.specs.Sheets.{sizeOf}
 use Rattle.calls.specs.Calls.{values, number, mainScreen, check, labelSize}
 use Rattle.calls.specs.Decided.{answered-clear}
 use Rattle.calls.specs.Refused.{check-answered}
-use Rattle.demand3.specs.Demand.{graph, sizes}
+use Rattle.demand3.specs.Demand.{graph}
 use Rattle.accents.specs.Sheets.{LinesPut, AccentsOnly, AccentsPut, SameSizes, Sound, AccentsTakeNoWidth}
 use Rattle.accents.specs.BySizes.{by-sizes, by-sizes-records}
 
@@ -65,18 +65,10 @@ blocks-alike text lengths text′ lengths′ a b p q e =
     ∙ ap (λ (z : Block). (z .width, z .height)) (same-block (cut text lengths) (cut text′ lengths′) e)
     ∙ sym (block-answered text′ lengths′ b q)
 
--- a character has at most four bytes
-encode-few : (c : ℕ) → length (encode c) ≤ 4
-unfolding encode
-encode-few c =
-    by-bool (ltb c 0x80) (λ e. rw e (omega arith))
-    (λ e. by-bool (ltb c 0x800) (λ f. rw (e, f) (omega arith))
-    (λ f. by-bool (ltb c 0x10000) (λ g. rw (e, f, g) (omega arith)) (λ g. rw (e, f, g) (omega arith))))
-
 -- the width of a block of one character
 one-wide : (c : ℕ) → max f0 (charWidth c) ≡ charWidth c
-unfolding charWidth ofBits Ieee.lt Ieee.ne Ieee.eq
-one-wide c = by-bool (accent c) (λ t. rw t) (λ t. by-bool (ltb c 0x80) (λ a. rw (t, a)) (λ a. rw (t, a)))
+unfolding ofBits Ieee.lt Ieee.ne Ieee.eq
+one-wide c = each-width (λ w. max f0 w ≡ w) refl refl refl c
 
 one-high : blockHeight 1 ≡ f15
 unfolding Ieee.ofInt Ieee.mul Ieee.round ofBits
@@ -90,7 +82,7 @@ one-answered : (c : ℕ) → Scalar c → labelSize (encode c) (length (encode c
 unfolding labelSize decide anyOf totalLength over widerLine
 one-answered c q =
     let n = length (encode c) in
-    let short : ltb 96 n ≡ false = le-ltb 96 n (omega (arith, encode-few c)) in
+    let short : ltb 96 n ≡ false = le-ltb 96 n (omega (arith, encode-length c .1)) in
     let whole : eqb n (n + 0) ≡ true = eq-eqb n (n + 0) (omega arith) in
     let formed : wellFormed (encode c) ≡ true = ap wellFormed (sym (append-nil (encode c))) ∙ formed-encode c [] q in
     rw (short, whole, cut-one (encode c), formed) (ap₂ (λ (w h : Float). values (w, h)) (ap (max f0) (character-width c q) ∙ one-wide c) one-high)

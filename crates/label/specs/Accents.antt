@@ -64,10 +64,15 @@ pub border-widths : (charWidth 0x2ff ≡ f12) × (charWidth 0x300 ≡ f0) × (ch
 unfolding charWidth
 border-widths = (refl, refl, refl, refl)
 
+-- what holds of the three widths holds of every character's
+pub each-width : (P : Float → Type 0) → P f0 → P labelCharWidth → P labelWideCharWidth → (c : ℕ) → P (charWidth c)
+unfolding charWidth
+each-width P z n w c = by-bool (accent c) (λ t. rw t z) (λ t. by-bool (ltb c 0x80) (λ a. rw (t, a) n) (λ a. rw (t, a) w))
+
 -- a character alone in a line
 width-alone : (c : ℕ) → f0 ⊕ charWidth c ≡ charWidth c
-unfolding charWidth ofBits Ieee.add Ieee.sum Ieee.round
-width-alone c = by-bool (accent c) (λ t. rw t) (λ t. by-bool (ltb c 0x80) (λ a. rw (t, a)) (λ a. rw (t, a)))
+unfolding ofBits Ieee.add Ieee.sum Ieee.round
+width-alone c = each-width (λ w. f0 ⊕ w ≡ w) refl refl refl c
 
 pub character-width : (c : ℕ) → Scalar c → lineWidth (encode c) ≡ charWidth c
 unfolding lineWidth over codesFrom
@@ -108,15 +113,13 @@ two-byte-width b d h i k l =
 abbrev pub bare : List ℕ → List ℕ
 bare line = filterBy (λ c. not (accent c)) (codePoints line)
 
-width-unsigned : (c : ℕ) → Unsigned (charWidth c)
-unfolding charWidth ofBits Ieee.ne Ieee.eq
-width-unsigned c =
-    by-bool (accent c) (λ t. rw t (record { plus = refl; number = refl }))
-    (λ t. by-bool (ltb c 0x80) (λ a. rw (t, a) (record { plus = refl; number = refl })) (λ a. rw (t, a) (record { plus = refl; number = refl })))
-
 zero-unsigned : Unsigned f0
 unfolding ofBits Ieee.ne Ieee.eq
 zero-unsigned = record { plus = refl; number = refl }
+
+width-unsigned : (c : ℕ) → Unsigned (charWidth c)
+unfolding ofBits Ieee.ne Ieee.eq
+width-unsigned c = each-width Unsigned zero-unsigned (record { plus = refl; number = refl }) (record { plus = refl; number = refl }) c
 
 -- an accent adds nothing
 add-accent : (c : ℕ) (w : Float) → accent c ≡ true → T (fits binary64 w) → Unsigned w → widened w c ≡ w

@@ -1,7 +1,7 @@
 -- What a loop computes, as a definition, with the laws that the loop's proof needs: one step, and the end.
 -- Assumes nothing.
 use mathlib.Core.Path.{_≡_, refl, _∙_}
-use mathlib.Core.List.{List, [], _∷_, _++_}
+use mathlib.Core.List.{List, [], _∷_, _++_, map}
 use mathlib.Core.Bool.{Bool, true, false, _||_}
 use Prim.Native.Nat.{ℕ, zero, suc, _+_, _-_, _≤_, _<_}
 use native.Mathlib.Nat.{sub-zero}
@@ -102,6 +102,11 @@ pub over-join : {A B : Type 0} (g : A → B → A) (a : A) (p q : List B) → ov
 unfolding over
 over-join g a [] q = refl
 over-join g a (x ∷ p) q = over-join g (g a x) p q
+
+pub over-map : {A B C : Type 0} (g : A → C → A) (f : B → C) (a : A) (l : List B) → over g a (map f l) ≡ over (λ a x. g a (f x)) a l
+unfolding over
+over-map g f a [] = refl
+over-map g f a (x ∷ l) = over-map g f (g a (f x)) l
 
 module _ {A B : Type 0} (g : A → B → A) (d : B) where
   shift : (x : B) (l : List B) (m i : ℕ) (a : A) → stepsFrom (λ j b. g b (getD (x ∷ l) j d)) m (suc i) a ≡ stepsFrom (λ j b. g b (getD l j d)) m i a

@@ -190,12 +190,13 @@ pub record Encoded (s : List ℕ) : Type 0 where
   pub again : flatMap encode (codePoints s) ≡ s
   pub scalars : AllScalar (codePoints s)
 
-some-byte : (c : ℕ) → 1 ≤ length (encode c)
+-- a character has one to four bytes
+pub encode-length : (c : ℕ) → (1 ≤ length (encode c)) × (length (encode c) ≤ 4)
 unfolding encode
-some-byte c =
-    by-bool (ltb c 0x80) (λ e. rw e (omega arith))
-    (λ e. by-bool (ltb c 0x800) (λ f. rw (e, f) (omega arith))
-    (λ f. by-bool (ltb c 0x10000) (λ g. rw (e, f, g) (omega arith)) (λ g. rw (e, f, g) (omega arith))))
+encode-length c =
+    by-bool (ltb c 0x80) (λ e. rw e (omega arith, omega arith))
+    (λ e. by-bool (ltb c 0x800) (λ f. rw (e, f) (omega arith, omega arith))
+    (λ f. by-bool (ltb c 0x10000) (λ g. rw (e, f, g) (omega arith, omega arith)) (λ g. rw (e, f, g) (omega arith, omega arith))))
 
 -- a scalar value and a text after it
 encoded-more : (c : ℕ) (rest : List ℕ) → Scalar c → Encoded rest → Encoded (encode c ++ rest)
@@ -215,7 +216,7 @@ encoded-by (suc n) s h w = go s h w (λ rest. encoded-by n rest)
   where
     begun : (t : List ℕ) → length t ≤ suc n → wellFormed t ≡ true → Begins t → ((rest : List ℕ) → length rest ≤ n → wellFormed rest ≡ true → Encoded rest) → Encoded t
     begun _ l v (begins c rest q) f =
-        let a : 1 ≤ length (encode c) = some-byte c in
+        let a : 1 ≤ length (encode c) = encode-length c .0 in
         let m : length (encode c) + length rest ≤ suc n = rw (length-append (encode c) rest) at l in
         encoded-more c rest q (f rest (omega arith) (sym (formed-encode c rest q) ∙ v))
 
