@@ -44,6 +44,10 @@ fn main() {
         #[cfg(all(port = "murshogi", not(test)))]
         ["bench", "each"] => bench::counts::each(),
         #[cfg(all(port = "murshogi", not(test)))]
+        ["bench", "search"] => bench::search::print(),
+        #[cfg(all(port = "murshogi", not(test)))]
+        ["bench", "routed", lines] => bench::search::routed(lines.parse().unwrap()),
+        #[cfg(all(port = "murshogi", not(test)))]
         ["bench", "stack"] => bench::stack::print(),
         #[cfg(all(port = "murshogi", not(test)))]
         ["bench", "sheet", name] => bench::calls::sheet_of(name),
@@ -60,7 +64,7 @@ fn main() {
         #[cfg(port = "murshogi")]
         ["compare", turns, seed] => compare::run(turns.parse().unwrap(), seed.parse().unwrap()),
         _ => {
-            eprintln!("usage: oracle vectors FILE | differ (route | layout) COUNT SEED | bench (root | angles | check | calls | counts | stack | sheet NAME) | list KIND < SHEET | compare [[routings | layouts | listings | labels | remainders] COUNT SEED]");
+            eprintln!("usage: oracle vectors FILE | differ (route | layout) COUNT SEED | bench (root | angles | check | calls | counts | search | stack | sheet NAME) | list KIND < SHEET | compare [[routings | layouts | listings | labels | remainders] COUNT SEED]");
             std::process::exit(2);
         }
     }

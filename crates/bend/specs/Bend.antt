@@ -1,11 +1,7 @@
--- The offset of an arrow's control point, and whether the reverse arrow exists.
-use mathlib.Core.Bool.{Bool, cond, _&&_}
+-- The offset of an arrow's control point.
+use mathlib.Core.Bool.{Bool, cond}
 use mathlib.Core.List.{List, [], _∷_}
-use Prim.Native.Nat.{ℕ}
-use lib.Dec.{eqb}
-use lib.ListN.{length, getD}
 use lib.Ieee.{Float}
-use Rattle.laws.specs.Loops.{anyUp}
 use Rattle.float.specs.Ops.{_⊕_, _⊗_, lt, neg}
 use Rattle.float.specs.Constants.{f0, f1, f24, f28, f48, f64-0, f160, f0-3, f1-5, eps}
 use Rattle.float.specs.Standins.{abs, max, clamp, copysign}
@@ -73,10 +69,3 @@ bendPast c ps l bothWays = cond bothWays (pairBow c ps l) (cond (insideSome l f0
 
 unfoldable pub bend : Chord → List «V» → Bool → Float
 bend c ps bothWays = bendPast c ps (blocked c ps) bothWays
-
-abbrev pub arrowLeads : ℕ → ℕ → ℕ → ℕ → Bool
-arrowLeads source target a b = eqb source a && eqb target b
-
--- whether some arrow leads from a to b: arrow k leads from the k-th source to the k-th target
-unfoldable pub leads : List ℕ → List ℕ → ℕ → ℕ → Bool
-leads sources targets a b = anyUp (λ k. arrowLeads (getD sources k 0) (getD targets k 0) a b) 0 (length sources)

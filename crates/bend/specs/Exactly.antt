@@ -109,7 +109,7 @@ single-never : (c : Chord) (ps : List «V») (l : List Span) → eq (singleBow c
 unfolding Apart
 single-never c ps l = off-apart (singleBow c ps l) (single-off c ps l)
 
-zero-zero : eq f0 f0 ≡ true
+pub zero-zero : eq f0 f0 ≡ true
 unfolding Ieee.eq ofBits
 zero-zero = refl
 

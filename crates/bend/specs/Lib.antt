@@ -1,3 +1,4 @@
+pub mod Leads
 pub mod Clear
 pub mod Choice
 pub mod Steps
@@ -5,5 +6,4 @@ pub mod Bend
 pub mod Between
 pub mod Numbers
 pub mod Exactly
-pub mod Leads
 pub mod Farther

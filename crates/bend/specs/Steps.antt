@@ -1,9 +1,10 @@
--- The steps of the loops over states and over bows. Assumes nothing.
+-- The steps of the loops over states, bows and arrows. Assumes nothing.
 use mathlib.Core.Path.{_≡_}
-use mathlib.Core.Bool.{true, false}
+use mathlib.Core.Bool.{Bool, true, false}
 use mathlib.Core.List.{List}
 use Prim.Native.Nat.{ℕ, _+_, _≤_, _<_}
 use native.Mathlib.Numerals.{add-one}
+use lib.Dec.{eqb}
 use lib.ListN.{length, drop, getD, drop-of-length-le}
 use lib.Seq.{drop-cons}
 use lib.Ieee.{Float, nan}
@@ -44,3 +45,7 @@ module _ (keeps : Float → Float) (b : Best) (hs : List Float) (i : ℕ) where
   pub choose-end : length hs ≤ i → b .bow ≡ choose keeps b (drop i hs)
   unfolding choose
   choose-end h = rw (drop-of-length-le hs h)
+
+-- arrow j leaves a
+abbrev pub leavesState : List ℕ → ℕ → ℕ → Bool
+leavesState sources a j = eqb (getD sources j 0) a

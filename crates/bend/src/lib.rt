@@ -6,8 +6,9 @@ use shape::EPS;
 use shape::NODE_RADIUS;
 use shape::V;
 ghost use mathlib.Core.Path.{_≡_};
-ghost use Prim.Native.Nat.{_<_, _≤_};
+ghost use Prim.Native.Nat.{_-_, _<_, _≤_};
 ghost use lib.ListN.{length};
+ghost use Rattle.laws.specs.Sort.{placeFrom};
 ghost use Rattle.shape.specs.Centres.{centres};
 ghost use Rattle.free.specs.Chords as C;
 ghost use Rattle.free.specs.Free as F;
@@ -16,6 +17,8 @@ ghost use Rattle.bend.specs.Choice as K;
 ghost use Rattle.bend.specs.Farther as Q;
 ghost use Rattle.bend.specs.Bend as B;
 ghost use Rattle.bend.specs.Between as W;
+ghost use Rattle.bend.specs.Leads as D;
+ghost use Rattle.bend.specs.Steps as S;
 
 // Which way the label of an arrow may go: beside a line, outside an arc (1 bent to the left, -1 to the right),
 // outwards from a loop.
@@ -268,24 +271,45 @@ pub fn between(xs: &[f64], ys: &[f64], from: usize, to: usize, both_ways: bool) 
     with_bow(c, h)
 }
 
-fn arrow_leads(source: usize, target: usize, a: usize, b: usize) -> bool
-    ensures { λ r. ⌜ r ≡ B.arrowLeads source target a b ⌝ }
+// The first arrow from k on that leaves a, or the number of arrows. A step looks at two arrows.
+fn next_from(sources: &[usize], a: usize, k: usize) -> usize
+    requires { ⌜ k ≤ length (now sources) ⌝ }
+    ensures { λ r.
+        let all = now (sources .entry) in
+        ⌜ r ≡ placeFrom (S.leavesState all a) k (length all - k) ⌝ }
 {
-    if source == a {
-        return target == b;
+    let mut i = k;
+    let mut twos = (sources.len() - k) / 2;
+    while 0 < twos {
+        if sources[i] == a {
+            return i;
+        }
+        if sources[i + 1] == a {
+            return i + 1;
+        }
+        i += 2;
+        twos -= 1;
     }
-    false
+    if i == sources.len() {
+        return i;
+    }
+    if sources[i] == a {
+        return i;
+    }
+    sources.len()
 }
 
 // Whether some arrow leads from a to b.
 pub fn leads(sources: &[usize], targets: &[usize], a: usize, b: usize) -> bool
     requires { ⌜ length (now targets) ≡ length (now sources) ⌝ }
-    ensures { λ r. ⌜ r ≡ B.leads (now (sources .entry)) (now (targets .entry)) a b ⌝ }
+    ensures { λ r. ⌜ r ≡ D.leads (D.arrowsBy (now (sources .entry)) (now (targets .entry))) a b ⌝ }
 {
-    for k in 0..sources.len() {
-        if arrow_leads(sources[k], targets[k], a, b) {
+    let mut k = next_from(sources, a, 0);
+    while k < sources.len() {
+        if targets[k] == b {
             return true;
         }
+        k = next_from(sources, a, k + 1);
     }
     false
 }

@@ -9,7 +9,8 @@ use Rattle.shape.specs.declared.«V».{«V»}
 use Rattle.free.specs.declared.Chord.{Chord}
 use Rattle.free.specs.Chords.{chord}
 use Rattle.free.specs.Blocked.{blocked}
-use Rattle.bend.specs.Bend.{pairUp, leads}
+use Rattle.bend.specs.Bend.{pairUp}
+use Rattle.bend.specs.Leads.{Ends, leads}
 use Rattle.routing.specs.Routing.{Frame, Numbered, isKeptIn, isLoop, crossing, isPaired}
 
 -- the first free bow of a pair along a chord, past the states at these centres
@@ -27,8 +28,8 @@ beyond f = anyOf (isBeyond f) (crossing f)
 -- ---- as the code decides it
 
 -- of the pair from state a to state b
-abbrev pub endsBeyond : List «V» → List ℕ → List ℕ → ℕ → ℕ → Bool
-endsBeyond ps sources targets a b = leads sources targets b a && pairBeyond (chord ps a b) ps
+abbrev pub endsBeyond : List «V» → List Ends → ℕ → ℕ → Bool
+endsBeyond ps arrows a b = leads arrows b a && pairBeyond (chord ps a b) ps
 
 -- of any arrow
 abbrev pub isRefused : Frame → Numbered → Bool

@@ -1,28 +1,20 @@
 -- The refusal arrow by arrow, as the code looks for it, and at the centres that it looks at. Assumes nothing.
 use mathlib.Core.Path.{_≡_, refl, sym, ap, _∙_}
 use mathlib.Core.Bool.{Bool, true, false, not, _&&_, true≢false}
-use mathlib.Core.List.{List, [], _∷_}
+use mathlib.Core.List.{List}
 use Prim.Native.Nat.{ℕ, _+_, _≤_, _<_}
 use lib.ListN.{length, getD, drop}
 use lib.Ieee.{Float}
-use Rattle.laws.specs.Cases.{by-bool}
-use Rattle.laws.specs.Filter.{filterBy}
-use Rattle.laws.specs.Any.{anyOf}
+use Rattle.laws.specs.Any.{anyOf, any-filter}
 use Rattle.shape.specs.Centres.{centres}
-use Rattle.free.specs.Chords.{chord}
 use Rattle.routing.specs.Routing.{Frame, Numbered, numbered, isKeptIn, isLoop, kept, numberedAt}
+use Rattle.bend.specs.Leads.{arrowsBy}
 use Rattle.routing.specs.Sheets.{frameBy}
 use Rattle.routing_laws.specs.Numbers.{numbered-drop, numbered-past}
 use Rattle.routing_laws.specs.Frames.{orZeros}
 use Rattle.curves.specs.Steps.{arrowBy}
-use Rattle.curves.specs.Numbers.{paired-is}
 use Rattle.geometry.specs.Geometry.{frameFrom, frame-centred}
-use Rattle.beyond.specs.Beyond.{pairBeyond, isBeyond, beyond, endsBeyond, isRefused}
-
-any-filter : {A : Type 0} (p q : A → Bool) (l : List A) → anyOf p (filterBy q l) ≡ anyOf (λ a. q a && p a) l
-unfolding anyOf filterBy
-any-filter p q [] = refl
-any-filter p q (a ∷ l) = by-bool (q a) (λ t. rw t (by-bool (p a) (λ u. rw u) (λ u. rw u (any-filter p q l)))) (λ t. rw t (any-filter p q l))
+use Rattle.beyond.specs.Beyond.{isBeyond, beyond, endsBeyond, isRefused}
 
 -- among all arrows
 pub beyond-each : (f : Frame) → anyOf (isRefused f) (numbered f) ≡ beyond f
@@ -55,7 +47,7 @@ never true true z h = absurd (true≢false h)
 never true false z h = refl
 never false y z h = refl
 
-module _ (flags : List ℕ) (xs ys : List Float) (sources targets : List ℕ) (n : length targets ≡ length sources) (i : ℕ) where
+module _ (flags : List ℕ) (xs ys : List Float) (sources targets : List ℕ) (i : ℕ) where
   abbrev frame : Frame
   frame = frameBy flags (centres xs ys) sources targets
 
@@ -63,12 +55,9 @@ module _ (flags : List ℕ) (xs ys : List Float) (sources targets : List ℕ) (n
   arrow = arrowBy sources targets i
 
   pub crossing-refused : isKeptIn frame arrow && not (isLoop arrow) ≡ true → (r : Bool)
-      → r ≡ endsBeyond (centres xs ys) sources targets (getD sources i 0) (getD targets i 0) → r ≡ isRefused frame arrow
+      → r ≡ endsBeyond (centres xs ys) (arrowsBy sources targets) (getD sources i 0) (getD targets i 0) → r ≡ isRefused frame arrow
   unfolding isBeyond
-  crossing-refused t r e =
-      e
-      ∙ ap (λ (b : Bool). b && pairBeyond (chord (centres xs ys) (getD sources i 0) (getD targets i 0)) (centres xs ys)) (sym (paired-is flags xs ys sources targets n arrow))
-      ∙ last (isKeptIn frame arrow) (not (isLoop arrow)) (isBeyond frame arrow) t
+  crossing-refused t r e = e ∙ last (isKeptIn frame arrow) (not (isLoop arrow)) (isBeyond frame arrow) t
 
   pub other-refused : isKeptIn frame arrow && not (isLoop arrow) ≡ false → false ≡ isRefused frame arrow
   other-refused t = never (isKeptIn frame arrow) (not (isLoop arrow)) (isBeyond frame arrow) t

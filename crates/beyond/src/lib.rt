@@ -7,6 +7,7 @@ ghost use Rattle.shape.specs.Centres.{centres};
 ghost use Rattle.routing.specs.Sheets.{frameBy};
 ghost use Rattle.geometry.specs.Geometry.{frameFrom};
 ghost use Rattle.curves.specs.Steps.{Ready, arrowBy};
+ghost use Rattle.bend.specs.Leads.{arrowsBy};
 ghost use Rattle.beyond.specs.Beyond as S;
 
 // Whether the first free bow of a two-way pair along c exceeds 10^9.
@@ -38,7 +39,7 @@ fn ends_beyond(
         × (b < states) ⌝ }
     ensures { λ r.
         let nodes = centres (now (xs .entry)) (now (ys .entry)) in
-        ⌜ r ≡ S.endsBeyond nodes (now (sources .entry)) (now (targets .entry)) a b ⌝ }
+        ⌜ r ≡ S.endsBeyond nodes (arrowsBy (now (sources .entry)) (now (targets .entry))) a b ⌝ }
 {
     if bend::leads(sources, targets, b, a) {
         return pair_beyond(xs, ys, free::chord_of(xs, ys, a, b));

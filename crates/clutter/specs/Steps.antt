@@ -1,35 +1,18 @@
--- A step of a loop over things by number, and its end: whether some passes a test, how many do, pairs, labels. Assumes nothing.
+-- A step of a loop over things by number, and its end: pairs, labels. Assumes nothing.
 use mathlib.Core.Path.{_≡_}
-use mathlib.Core.Bool.{Bool, true, false}
-use mathlib.Core.List.{List, [], _∷_, _++_}
+use mathlib.Core.List.{List, [], _++_}
 use Prim.Native.Nat.{ℕ, zero, suc, _+_, _-_, _≤_, _<_}
 use native.Mathlib.Nat.{sub-zero, zero-add}
 use native.Mathlib.Omega.{arith}
 use Rattle.laws.specs.Cases.{by-lt}
 use Rattle.laws.specs.Counting.{howMany, worth}
 use Rattle.laws.specs.Flat.{table, table-more}
-use Rattle.laws.specs.Any.{anyOf}
 use Rattle.laws.specs.Tables.{table-first, table-none}
 use Rattle.shape.specs.declared.«V».{«V»}
 use Rattle.trace.specs.Traces.{Trace, crosses}
 use Rattle.label_spots.specs.declared.Geometry.{Geometry}
 use Rattle.records.specs.Back.{Small}
 use Rattle.clutter.specs.Clutter.{crossings, collides, collisions}
-
--- ---- whether some passes; t is what the code found of the first
-
-module _ {A : Type 0} (p : A → Bool) (l r : List A) (x : A) (e : l ≡ x ∷ r) (t : Bool) (q : t ≡ p x) where
-  pub some-hit : t ≡ true → true ≡ anyOf p l
-  unfolding anyOf
-  some-hit h = rw (e, ← q, h)
-
-  pub some-miss : t ≡ false → anyOf p r ≡ anyOf p l
-  unfolding anyOf
-  some-miss h = rw (e, ← q, h)
-
-pub some-none : {A : Type 0} (p : A → Bool) (l : List A) → l ≡ [] → false ≡ anyOf p l
-unfolding anyOf
-some-none p l e = rw e
 
 -- ---- pairs of things; b is the number of pairs with thing k
 

@@ -18,7 +18,7 @@ use Rattle.trace.specs.Traces.{Trace, nobody, traceOf, arrow}
 use Rattle.trace.specs.Form.{decodeTraces}
 use Rattle.shape.specs.Centres.{centre, centres}
 use Rattle.bend.specs.declared.Routed.{Routed}
-use Rattle.bend.specs.Bend.{leads}
+use Rattle.bend.specs.Leads.{leads, arrowsBy}
 use Rattle.bend.specs.Between.{between}
 use Rattle.directions.specs.Rims.{leaveAngle, reachAngle}
 use Rattle.records.specs.Slots.{routedFields}
@@ -29,7 +29,6 @@ use Rattle.routing_laws.specs.Passes.{isCrossing, turnKind, leaveOf, reachOf, t
 use Rattle.routing_laws.specs.Order.{first-scene}
 use Rattle.curves.specs.Lay.{Slices, slices, Laying}
 use Rattle.curves.specs.Steps.{arrowBy, otherKind, Along, One, LaidArrows}
-use Rattle.curves.specs.Numbers.{paired-is}
 use Rattle.curves.specs.Traces.{starts-step}
 
 -- ---- an arrow between different states
@@ -117,13 +116,13 @@ module _ (f : Frame) (a : Numbered) (t : isCrossing f a ≡ false) where
   }
 
 -- ---- arrow i, from slices
-module _ (flags : List ℕ) (xs ys : List Float) (sources targets : List ℕ) (n : length targets ≡ length sources) (i : ℕ) where
-  joined-is : joined (frameBy flags (centres xs ys) sources targets) (arrowBy sources targets i) ≡ between (centres xs ys) (getD sources i 0) (getD targets i 0) (leads sources targets (getD targets i 0) (getD sources i 0))
+module _ (flags : List ℕ) (xs ys : List Float) (sources targets : List ℕ) (i : ℕ) where
+  joined-is : joined (frameBy flags (centres xs ys) sources targets) (arrowBy sources targets i) ≡ between (centres xs ys) (getD sources i 0) (getD targets i 0) (leads (arrowsBy sources targets) (getD targets i 0) (getD sources i 0))
   unfolding joined
-  joined-is = ap (between (centres xs ys) (getD sources i 0) (getD targets i 0)) (paired-is flags xs ys sources targets n (arrowBy sources targets i))
+  joined-is = refl
 
   pub crossing-one : isCrossing (frameBy flags (centres xs ys) sources targets) (arrowBy sources targets i) ≡ true → (nt m : ℕ) (s u : Slices)
-      → Along (centres xs ys) (getD sources i 0) (getD targets i 0) i (between (centres xs ys) (getD sources i 0) (getD targets i 0) (leads sources targets (getD targets i 0) (getD sources i 0))) nt m s u
+      → Along (centres xs ys) (getD sources i 0) (getD targets i 0) i (between (centres xs ys) (getD sources i 0) (getD targets i 0) (leads (arrowsBy sources targets) (getD targets i 0) (getD sources i 0))) nt m s u
       → One (frameBy flags (centres xs ys) sources targets) (arrowBy sources targets i) nt m s u
   crossing-one t nt m s u g = along-one (frameBy flags (centres xs ys) sources targets) (arrowBy sources targets i) t _ joined-is nt m s u g
 

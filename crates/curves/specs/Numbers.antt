@@ -1,13 +1,12 @@
 -- The arrows of a frame by their numbers. Assumes nothing.
-use mathlib.Core.Path.{_≡_, refl, sym, ap}
+use mathlib.Core.Path.{_≡_, sym, ap}
 use mathlib.Core.List.{List}
 use Prim.Native.Nat.{ℕ, _<_}
 use lib.ListN.{length}
 use lib.Ieee.{Float}
 use Rattle.shape.specs.Centres.{centres}
-use Rattle.laws.specs.Zip.{zip-at, zip-length, map-zip-first, map-zip-second}
-use Rattle.bend.specs.Bend.{leads}
-use Rattle.routing.specs.Routing.{Numbered, isPaired, numberedBy, noEnds, numberedAt}
+use Rattle.laws.specs.Zip.{zip-at, zip-length}
+use Rattle.routing.specs.Routing.{numberedBy, noEnds, numberedAt}
 use Rattle.routing.specs.Sheets.{endsBy, frameBy}
 use Rattle.curves.specs.Steps.{arrowBy}
 
@@ -18,8 +17,3 @@ module _ (flags : List ℕ) (xs ys : List Float) (sources targets : List ℕ) (n
 
   pub arrow-is : (i : ℕ) → i < length sources → arrowBy sources targets i ≡ numberedAt (frameBy flags (centres xs ys) sources targets) i
   arrow-is i h = sym (ap (numberedBy i) (zip-at endsBy sources targets i 0 0 noEnds n h))
-
-  -- the reverse arrow is looked for among all
-  pub paired-is : (a : Numbered) → isPaired (frameBy flags (centres xs ys) sources targets) a ≡ leads sources targets (a .ends .target) (a .ends .source)
-  paired-is a =
-      rw (map-zip-first endsBy (λ e. e .source) (λ x y. refl) sources targets n, map-zip-second endsBy (λ e. e .target) (λ x y. refl) sources targets n)

@@ -18,7 +18,7 @@ ghost use lib.ListN.{length, getD};
 ghost use Rattle.laws.specs.Flat.{table};
 ghost use Rattle.float.specs.Constants.{f0};
 ghost use Rattle.shape.specs.Centres.{centres};
-ghost use Rattle.bend.specs.Bend.{leads};
+ghost use Rattle.bend.specs.Leads.{leads, arrowsBy};
 ghost use Rattle.bend.specs.Between.{between};
 ghost use Rattle.trace.specs.Form.{decodeTraces};
 ghost use Rattle.records.specs.Sorts.{sortArc, sortStraight};
@@ -155,7 +155,8 @@ fn lay_crossing(
         (now (slots .entry)) (now (traces .entry)) in
         let after = S.slices (now (kinds .exit)) (now (leaves .exit)) (now (reaches .exit))
         (now (slots .exit)) (now (traces .exit)) in
-        let routed = between nodes a b (leads (now (sources .entry)) (now (targets .entry)) b a) in
+        let both = leads (arrowsBy (now (sources .entry)) (now (targets .entry))) b a in
+        let routed = between nodes a b both in
         ⌜ O.Along nodes a b i routed nt m before after ⌝ }
 {
     let both_ways = bend::leads(sources, targets, b, a);

@@ -36,7 +36,7 @@ module _ (f : Frame) (e : ℕ) (h : e < length (f .arrows)) (c : isKeptIn f (num
   unfolding kept
   kept-at = left-at (isKeptIn f) (numbered f) e noArrow (omega (arith, length-numbered f)) there ∙ numbered-at f e noArrow h
 
-pub item-edge : (f : Frame) (a : Numbered) → edgeOf (itemFor f a) ≡ a .edge
+item-edge : (f : Frame) (a : Numbered) → edgeOf (itemFor f a) ≡ a .edge
 item-edge f a = by-bool (isLoop a) (λ t. rw t) (λ t. rw t)
 
 module _ (f : Frame) where

@@ -10,7 +10,6 @@ use Rattle.laws.specs.Best.{FirstLeast, first-least-unique}
 use Rattle.laws.specs.Refusals.{Refusal, Clear, clear-decides}
 use Rattle.laws.specs.Flat.{part}
 use Rattle.laws.specs.Flats.{length-flat, part-flat}
-use Rattle.laws.specs.Places.{At}
 use Rattle.sheet.specs.Meaning.{arrowAt}
 use Rattle.float.specs.Ops.{ofNat}
 use Rattle.shape.specs.declared.«V».{«V»}
@@ -19,19 +18,19 @@ use Rattle.svg.specs.Paths.{curveText}
 use Rattle.label_spots.specs.declared.Geometry.{Geometry}
 use Rattle.records.specs.Records.{fields, cornersOf}
 use Rattle.drawing_text.specs.Lines.{pathsText}
-use Rattle.routing.specs.Routing.{Frame, Step, isKeptIn, kept, edgeOf, order, stepOf, listedBy, cost, numberedAt, itemFor, noItem}
+use Rattle.routing.specs.Routing.{Frame, Step, isKeptIn, kept, order, stepOf, listedBy, cost, numberedAt, noItem}
 use Rattle.routing_laws.specs.Slots.{own-turn, drawn-edge, records-length}
 use Rattle.routing_laws.specs.Demand.{edgeAt, recordFor, records-cheapest, Stroke, strokeOf, turn-number, turn-kept}
 use Rattle.routing_laws.specs.Demand as Routing
 use Rattle.routing.specs.Sheets.{frameOf, recordsOf, endsOf}
 use Rattle.routing_laws.specs.Agree.{linesAt}
-use Rattle.routing_laws.specs.Agree.{graphRecord, same-frame}
+use Rattle.routing_laws.specs.Agree.{graphRecord, same-frame, arrow-kept}
 use Rattle.routing_laws.specs.Agree as Agree
 use Rattle.calls.specs.Calls.{route, recordsAfter, textAfter, routeRefusals, numbersOf, onto}
 use Rattle.calls.specs.Decided.{answered-clear}
 use Rattle.demand3.specs.Demand.{Call, Answered, recordAt, pathAt, textLineAt, curveAt, tipAt, graph, frame, sizes, turns, stepAt, turnArrow, scene, costAt, takenAt, listedAt, recordNumber, recordNumberOf, turnNumber, drawnAt, Held, Cheapest, Same, Agree, Alike, Prefix, Between, Curves, Demand3}
 use Rattle.demand3.specs.Newlines.{line-path}
-use Rattle.demand3.specs.Places.{number-inside, record-inside, record-only, number-turn, item-edge}
+use Rattle.demand3.specs.Places.{number-inside, record-inside, record-only, number-turn}
 
 -- ---- what an answered call leaves
 
@@ -213,10 +212,7 @@ module _ (c d : Call) (a : Answered c) (b : Answered d) (s : Same c d) where
     in-d = subst (λ (f : Frame). e < length (f .arrows)) (call-frames c d s) in-c
 
     kept-c : isKeptIn (frame c) (numberedAt (frame c) e) ≡ true
-    kept-c =
-        let at : At (turns c) noItem (itemFor (frame c) (numberedAt (frame c) e)) = over-sheets .turn e (w .inside) (w .source) (w .target) in
-        let n : turnArrow c (at .place) ≡ e = ap edgeOf (at .there) ∙ item-edge (frame c) (numberedAt (frame c) e) in
-        subst (λ (m : ℕ). isKeptIn (frame c) (numberedAt (frame c) m) ≡ true) n (stays c a (at .place) (at .inside))
+    kept-c = arrow-kept (graph c) (c .xs) (c .ys) e (w .source) (w .target)
 
     kept-d : isKeptIn (frame d) (numberedAt (frame d) e) ≡ true
     kept-d = subst (λ (f : Frame). isKeptIn f (numberedAt f e) ≡ true) (call-frames c d s) kept-c

@@ -1,6 +1,6 @@
--- Whether a test holds of some element of a list, or of some number of a range; the first n of a list, as a loop meets them. Assumes nothing.
+-- Whether a test holds of some element of a list, or of some number of a range; a list from a place on, and its first n, as a loop meets them. Assumes nothing.
 use mathlib.Core.Path.{_≡_, refl, sym, ap, _∙_}
-use mathlib.Core.Bool.{Bool, true, false, _||_}
+use mathlib.Core.Bool.{Bool, true, false, _||_, _&&_, true≢false}
 use mathlib.Core.List.{List, [], _∷_, _++_, map, flatMap}
 use Prim.Native.Nat.{ℕ, zero, suc, _+_, _-_, _≤_, _<_}
 use native.Mathlib.Nat.{not-suc-le-zero, le-of-suc-le-suc}
@@ -10,14 +10,21 @@ use lib.Dec.{eqb}
 use lib.ListN.{length, getD, take, drop, drop-of-length-le}
 use lib.Seq.{drop-cons, take-nil}
 use borrow.Author.Tests.{eqb-true, eqb-false}
-use Rattle.laws.specs.Bools.{clash, or-false-left, or-false-right, or-none, or-second, or-assoc}
+use Rattle.laws.specs.Bools.{clash, and-second, or-false-left, or-false-right, or-none, or-second, or-assoc}
 use Rattle.laws.specs.Cases.{by-bool}
+use Rattle.laws.specs.Filter.{filterBy}
 use Rattle.laws.specs.Loops.{anyFor, anyUp}
 
 -- whether p holds of some element
 unfoldable pub anyOf : {A : Type 0} → (A → Bool) → List A → Bool
 anyOf p [] = false
 anyOf p (x ∷ l) = let rest = anyOf p l in p x || rest
+
+-- p holds at a place of the list
+pub record Somewhere {A : Type 0} (p : A → Bool) (l : List A) (d : A) : Type 0 where
+  pub place : ℕ
+  pub inside : place < length l
+  pub holds : p (getD l place d) ≡ true
 
 module _ {A : Type 0} (p : A → Bool) where
   pub any-here : (x : A) (l : List A) → p x ≡ true → anyOf p (x ∷ l) ≡ true
@@ -60,6 +67,37 @@ module _ {A : Type 0} (p : A → Bool) where
   none-all [] d h = refl
   none-all (x ∷ l) d h = any-none x l (h 0 (omega arith)) (none-all l d (λ k i. h (suc k) (omega arith)))
 
+  -- some of a list: of some place in it
+  pub some-at : (l : List A) (d : A) → anyOf p l ≡ true → Somewhere p l d
+  some-at [] d e = absurd (unfold anyOf in true≢false (sym e))
+  some-at (x ∷ l) d e =
+      any-cases x l e (λ t. record { place = 0; inside = omega arith; holds = t })
+      (λ t. let r : Somewhere p l d = some-at l d t in record { place = suc (r .place); inside = omega (arith, r .inside); holds = r .holds })
+
+  pub at-some : (l : List A) (d : A) → Somewhere p l d → anyOf p l ≡ true
+  at-some l d r = by-bool (anyOf p l) (λ t. t) (λ t. clash (r .holds) (none-at l (r .place) d t (r .inside)))
+
+  -- a list without one for which the test does not hold
+  pub any-without : (l : List A) (k : ℕ) (d : A) → p (getD l k d) ≡ false → anyOf p (take k l ++ drop (suc k) l) ≡ anyOf p l
+  unfolding anyOf
+  any-without [] k d e = rw (take-nil k)
+  any-without (x ∷ l) zero d e = rw e
+  any-without (x ∷ l) (suc k) d e = ap (λ (b : Bool). p x || b) (any-without l k d e)
+
+-- ---- a search from a place on, step by step: l is what is left, x the next, and t what was found of x
+module _ {A : Type 0} (p : A → Bool) (l r : List A) (x : A) (e : l ≡ x ∷ r) (t : Bool) (q : t ≡ p x) where
+  pub some-hit : t ≡ true → true ≡ anyOf p l
+  unfolding anyOf
+  some-hit h = rw (e, ← q, h)
+
+  pub some-miss : t ≡ false → anyOf p r ≡ anyOf p l
+  unfolding anyOf
+  some-miss h = rw (e, ← q, h)
+
+pub some-none : {A : Type 0} (p : A → Bool) (l : List A) → l ≡ [] → false ≡ anyOf p l
+unfolding anyOf
+some-none p l e = rw e
+
 -- ---- a search among the first n of a list, step by step
 module _ {A : Type 0} (p : A → Bool) (d : A) (l : List A) (i : ℕ) where
   pub any-step : (n : ℕ) → i < length l → 0 < n → p (getD l i d) ≡ false → anyOf p (take (n - 1) (drop (i + 1) l)) ≡ anyOf p (take n (drop i l))
@@ -89,6 +127,19 @@ any-wider p q (x ∷ l) f e = any-cases p x l e (λ t. any-here q x l (f x t)) (
 
 pub any-narrower : {A : Type 0} (p q : A → Bool) (l : List A) → ((x : A) → p x ≡ true → q x ≡ true) → anyOf q l ≡ false → anyOf p l ≡ false
 any-narrower p q l f e = by-bool (anyOf p l) (λ t. clash (any-wider p q l f t) e) (λ t. t)
+
+pub any-filter : {A : Type 0} (p q : A → Bool) (l : List A) → anyOf p (filterBy q l) ≡ anyOf (λ x. q x && p x) l
+unfolding anyOf filterBy
+any-filter p q [] = refl
+any-filter p q (x ∷ l) = by-bool (q x) (λ t. rw t (by-bool (p x) (λ u. rw u) (λ u. rw u (any-filter p q l)))) (λ t. rw t (any-filter p q l))
+
+-- among those that pass another test, if all for which the first holds do
+pub any-kept : {A : Type 0} (p q : A → Bool) (l : List A) → ((x : A) → p x ≡ true → q x ≡ true) → anyOf p (filterBy q l) ≡ anyOf p l
+any-kept p q l f =
+    any-filter p q l
+    ∙ by-bool (anyOf p l)
+    (λ t. any-wider p (λ x. q x && p x) l (λ x h. rw (f x h, h)) t ∙ sym t)
+    (λ t. any-narrower (λ x. q x && p x) p l (λ x h. and-second (q x) (p x) h) t ∙ sym t)
 
 pub any-flat : {A B : Type 0} (p : B → Bool) (f : A → List B) (l : List A) → anyOf p (flatMap f l) ≡ anyOf (λ x. anyOf p (f x)) l
 unfolding anyOf flatMap

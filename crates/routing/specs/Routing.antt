@@ -20,7 +20,7 @@ use Rattle.sheet.specs.Meaning.{isStart, endsBelow}
 use Rattle.bend.specs.declared.Routed.{Routed}
 use Rattle.bend.specs.declared.Shape.{Shape}
 use Rattle.bend.specs.declared.Shape.the-variants as Shape
-use Rattle.bend.specs.Bend.{leads}
+use Rattle.bend.specs.Leads.{leads}
 use Rattle.bend.specs.Between.{between}
 use Rattle.label_spots.specs.declared.Turn.{Turn}
 use Rattle.label_spots.specs.declared.Geometry.{Geometry}
@@ -29,12 +29,9 @@ use Rattle.scene.specs.Scene.{Scene, sceneOf, withBox, withTrace, boxCost}
 use Rattle.scene.specs.Turn as Place
 use Rattle.self_loop.specs.Looped.{Loop, loopOf, loopDrawn, traceBy, directionCost}
 use Rattle.self_loop.specs.Looped as Looped
+pub use Rattle.bend.specs.Leads.{Ends}
 
 -- ---- what is routed: no label enters the frame
-
-pub record Ends : Type 0 where
-  pub source : ℕ
-  pub target : ℕ
 
 -- the states' flag bytes and centres, and the arrows' ends
 pub record Frame : Type 0 where
@@ -93,8 +90,9 @@ crossing f = filterBy (λ a. not (isLoop a)) (kept f)
 
 -- ---- arrows between different states
 
+-- the reverse arrow exists: some arrow leads from its target to its source
 abbrev pub isPaired : Frame → Numbered → Bool
-isPaired f a = leads (map (λ e. e .source) (f .arrows)) (map (λ e. e .target) (f .arrows)) (a .ends .target) (a .ends .source)
+isPaired f a = leads (f .arrows) (a .ends .target) (a .ends .source)
 
 unfoldable pub joined : Frame → Numbered → Routed
 joined f a = between (f .centres) (a .ends .source) (a .ends .target) (isPaired f a)

@@ -13,7 +13,9 @@ use Rattle.sheet.specs.Sheet.{State, Arrow, Graph, flagsOf}
 use Rattle.sheet.specs.Meaning.{noArrow}
 use Rattle.label.specs.Label.{blockWidth, blockHeight}
 use Rattle.label_spots.specs.declared.Geometry.{Geometry}
+use Rattle.bend.specs.Leads.{arrowsBy}
 use Rattle.routing.specs.Routing.{Ends, Frame, BlockSize, records}
+pub use Rattle.bend.specs.Leads.{endsBy}
 
 -- "Centres missing or not finite count as 0."
 abbrev pub orZero : Float → Float
@@ -65,11 +67,8 @@ pub record SameFrame (g h : Graph) : Type 0 where
 
 -- ---- from slices
 
-abbrev pub endsBy : ℕ → ℕ → Ends
-endsBy a b = record { source = a; target = b }
-
 abbrev pub frameBy : List ℕ → List «V» → List ℕ → List ℕ → Frame
-frameBy flags cs sources targets = frameWith flags cs (zipBy endsBy sources targets)
+frameBy flags cs sources targets = frameWith flags cs (arrowsBy sources targets)
 
 abbrev pub sizeHeld : Float → Float → BlockSize
 sizeHeld w h = record { width = w; height = h }

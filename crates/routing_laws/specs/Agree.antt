@@ -71,11 +71,11 @@ pub record GraphDemand (g : Graph) (xs ys : List Float) : Type 0 where
       → map strokeOf (graphRecord g xs ys k) ≡ map strokeOf (graphRecord h xs ys k)
 
 module _ (g : Graph) (xs ys : List Float) (k : ℕ) where
-  arrow-inside : k < length (g .arrows) → k < length (frameOf g xs ys .arrows)
+  pub arrow-inside : k < length (g .arrows) → k < length (frameOf g xs ys .arrows)
   unfolding frameOf
   arrow-inside h = omega (arith, length-map (g .arrows) endsOf)
 
-  arrow-ends : numberedAt (frameOf g xs ys) k .ends ≡ endsOf (arrowAt g k)
+  pub arrow-ends : numberedAt (frameOf g xs ys) k .ends ≡ endsOf (arrowAt g k)
   unfolding frameOf
   arrow-ends = List·getD-map endsOf (g .arrows) k noArrow
 
@@ -84,12 +84,12 @@ module _ (g : Graph) (xs ys : List Float) (k : ℕ) where
   unfolding frameOf
   kept-same = ap₂ (λ (n : ℕ) (e : Ends). endsBelow n (e .source) (e .target)) (length-map (g .states) (λ a. a .flags)) arrow-ends
 
-  arrow-kept : arrowAt g k .source < length (g .states) → arrowAt g k .target < length (g .states) → isKeptIn (frameOf g xs ys) (numberedAt (frameOf g xs ys) k) ≡ true
+  pub arrow-kept : arrowAt g k .source < length (g .states) → arrowAt g k .target < length (g .states) → isKeptIn (frameOf g xs ys) (numberedAt (frameOf g xs ys) k) ≡ true
   arrow-kept a b =
       kept-same
       ∙ ap₂ (λ (x y : Bool). x && y) (lt-ltb (arrowAt g k .source) (length (g .states)) a) (lt-ltb (arrowAt g k .target) (length (g .states)) b)
 
-  arrow-apart : (arrowAt g k .source ≡ arrowAt g k .target → ⊥) → isLoop (numberedAt (frameOf g xs ys) k) ≡ false
+  pub arrow-apart : (arrowAt g k .source ≡ arrowAt g k .target → ⊥) → isLoop (numberedAt (frameOf g xs ys) k) ≡ false
   arrow-apart o = ap (λ (e : Ends). eqb (e .source) (e .target)) arrow-ends ∙ ne-eqb (arrowAt g k .source) (arrowAt g k .target) o
 
 -- for every graph and all centres

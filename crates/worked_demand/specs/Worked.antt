@@ -101,10 +101,10 @@ module _ {c : Call} {l ps anchors : List ℕ} (d : ComputedCall c l ps anchors) 
   turn-is : (t : ℕ) → turnArrow c t ≡ getD arrows t 0
   turn-is t = sym (List·getD-map edgeOf (turns c) t noItem) ∙ ap (λ (m : List ℕ). getD m t 0) (d .turn)
 
-  source-is : (k : ℕ) → arrowAt (graph c) k .source ≡ getD (0 ∷ 1 ∷ 0 ∷ 2 ∷ []) k 0
+  pub source-is : (k : ℕ) → arrowAt (graph c) k .source ≡ getD (0 ∷ 1 ∷ 0 ∷ 2 ∷ []) k 0
   source-is k = sym (List·getD-map (λ (a : Arrow). a .source) (graph c .arrows) k noArrow) ∙ ap (λ (m : List ℕ). getD m k 0) (d .sources)
 
-  target-is : (k : ℕ) → arrowAt (graph c) k .target ≡ getD (1 ∷ 0 ∷ 2 ∷ 2 ∷ []) k 0
+  pub target-is : (k : ℕ) → arrowAt (graph c) k .target ≡ getD (1 ∷ 0 ∷ 2 ∷ 2 ∷ []) k 0
   target-is k = sym (List·getD-map (λ (a : Arrow). a .target) (graph c .arrows) k noArrow) ∙ ap (λ (m : List ℕ). getD m k 0) (d .targets)
 
   lines-are : (t : ℕ) → arrowAt (graph c) (turnArrow c t) .lines ≡ getD (linesWith l) (getD arrows t 0) []
@@ -151,8 +151,8 @@ lines-apart : _≡_ {A = List (List ℕ)} (oneLetter ∷ []) (twelveLetters ∷ 
 lines-apart q = let z : _≡_ {A = ℕ} 1 12 = ap (λ (m : List (List ℕ)). length (getD m 0 [])) q in omega arith
 
 -- arrow e leads from a state to another
-between : (e : ℕ) → e < 3 → Between (graph first) e
-between e h = record { inside = omega (arith, arrows-many first-drawn); source = go e h .0; target = go e h .1; apart = go e h .2 }
+pub first-between : (e : ℕ) → e < 3 → Between (graph first) e
+first-between e h = record { inside = omega (arith, arrows-many first-drawn); source = go e h .0; target = go e h .1; apart = go e h .2 }
   where
     go : (e : ℕ) → e < 3
         → (arrowAt (graph first) e .source < length (graph first .states))
@@ -203,7 +203,7 @@ worked-demand = record {
   disagree = λ q. lines-apart (sym (lines-are first-drawn 2) ∙ q ∙ lines-are second-drawn 2);
   alike = λ t h.
       demand3 .prefix first second first-answered second-answered same .alike t (omega (arith, turns-many first-drawn)) (λ j i. agree-before j (omega arith));
-  curves = λ e h. demand3 .curves first second first-answered second-answered same .curve e (between e h);
+  curves = λ e h. demand3 .curves first second first-answered second-answered same .curve e (first-between e h);
   places = (taken-is first-drawn 3, taken-is second-drawn 3);
   unlike = λ q. anchors-apart (sym anchor-first ∙ ap (λ (m : List Float). getD m 15 nan) q ∙ anchor-second);
 }

@@ -13,6 +13,7 @@ use crate::port::{
 use crate::random::Random;
 use crate::rivals::library::calls as library;
 use crate::rivals::whole::calls as whole;
+use crate::sheet::Sheet;
 
 unsafe extern "C" {
     fn clock_gettime(clock: i32, time: *mut [i64; 2]) -> i32;
@@ -74,30 +75,37 @@ pub struct Case {
     text: Vec<u8>,
 }
 
+/// A sheet with the lines that an arrow has at most, and its bytes with the records in any order.
+pub struct Made {
+    pub lines: usize,
+    pub sheet: Sheet,
+    pub bytes: Vec<u8>,
+}
+
+impl Made {
+    pub fn new(rng: &mut Random, states: usize, arrows: usize, lines: usize) -> Made {
+        let sheet = from_first(rng, Size { states, arrows, lines, characters: 12 });
+        let bytes = shuffled(rng, &sheet);
+        Made { lines, sheet, bytes }
+    }
+}
+
 /// The three sheets: typical, middle, largest.
-pub fn cases() -> Vec<Case> {
+pub fn sheets() -> [Made; 3] {
     let rng = &mut Random::new(19);
-    [
-        ("10 states, 20 arrows", 10, 20, 2),
-        ("30 states, 80 arrows", 30, 80, 3),
-        ("64 states, 256 arrows, 8 lines", 64, 256, 8),
-    ]
-    .into_iter()
-    .map(|(name, states, arrows, lines)| {
-        let s = from_first(rng, Size { states, arrows, lines, characters: 12 });
-        let sheet = shuffled(rng, &s);
-        let l = hardware::layout(&sheet, 0, 64, 64).unwrap();
-        let (records, text) = (vec![0.0; 5120], vec![0; 65_536]);
-        let (label, lines) = (b"m/z 195 > 15".repeat(lines), vec![12; lines]);
-        Case { name, sheet, label, lines, x: l.x, y: l.y, records, text }
-    })
-    .collect()
+    [(10, 20, 2), (30, 80, 3), (64, 256, 8)].map(|(states, arrows, lines)| Made::new(rng, states, arrows, lines))
+}
+
+const NAMES: [&str; 3] = ["10 states, 20 arrows", "30 states, 80 arrows", "64 states, 256 arrows, 8 lines"];
+
+pub fn cases() -> Vec<Case> {
+    NAMES.into_iter().zip(sheets()).map(|(name, made)| Case::new(name, made)).collect()
 }
 
 /// Writes one of these sheets: typical, middle or largest.
 pub fn sheet_of(name: &str) {
     let at = ["typical", "middle", "largest"].iter().position(|n| *n == name).unwrap();
-    std::io::stdout().write_all(&cases()[at].sheet).unwrap();
+    std::io::stdout().write_all(&sheets()[at].bytes).unwrap();
 }
 
 macro_rules! theirs {
@@ -116,6 +124,14 @@ macro_rules! theirs {
 }
 
 impl Case {
+    pub fn new(name: &'static str, made: Made) -> Case {
+        let (sheet, lines) = (made.bytes, made.lines);
+        let l = hardware::layout(&sheet, 0, 64, 64).unwrap();
+        let (records, text) = (vec![0.0; 5120], vec![0; 65_536]);
+        let (label, lines) = (b"m/z 195 > 15".repeat(lines), vec![12; lines]);
+        Case { name, sheet, label, lines, x: l.x, y: l.y, records, text }
+    }
+
     #[inline(never)]
     pub fn port(&mut self, call: Call) -> u8 {
         super::stack::mark();

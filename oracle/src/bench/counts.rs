@@ -8,7 +8,7 @@ use super::calls::{CALLS, SIDES, cases, table};
 /// Callgrind counts what this function and those below it execute, and notes the sum where it returns.
 #[unsafe(no_mangle)]
 #[inline(never)]
-fn murshogi_counted(f: &mut dyn FnMut() -> u8) {
+pub fn murshogi_counted(f: &mut dyn FnMut() -> u8) {
     assert!(black_box(f()) == 0);
 }
 

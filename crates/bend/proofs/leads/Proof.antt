@@ -1,53 +1,68 @@
--- `bend::leads` meets its contract. The invariant: an arrow to come joins them exactly when some arrow does.
-use mathlib.Core.Path.{_≡_, refl, sym, _∙_}
-use Prim.Native.Nat.{_-_, _≤_}
+-- `bend::leads` meets its contract.
+use mathlib.Core.Path.{refl}
+use Prim.Native.Nat.{_+_, _-_}
 use native.Mathlib.Omega.{arith}
-use lib.ListN.{length, getD}
+use lib.ListN.{length}
+use denote.Ref.{now}
 use borrow.Author.Needs.{needs}
-use Rattle.laws.specs.Loops.{anyUp, any-hit, any-miss, any-done}
-use Rattle.bend.specs.Bend.{arrowLeads, leads}
+use Rattle.laws.specs.Sorting.{place-le}
+use Rattle.bend.specs.Steps.{leavesState}
+use Rattle.bend.proofs.Laws.{SoFar, searched-next, searched-hit, searched-miss, searched-end}
 use Rattle.bend.proofs.leads.Statement.{statement}
 use Rattle.bend.proofs.leads.Tie as tie
 
 abbrev Inv-loop : tie.InvT-loop
-Inv-loop sources targets a b k₀ k-end k = (k-end ≡ length sources) × (k ≤ length sources) × (anyUp (λ j. arrowLeads (getD sources j 0) (getD targets j 0) a b) k (length sources) ≡ leads sources targets a b)
+Inv-loop sources targets a b k₀ k = SoFar sources targets a b k
 
 abbrev μ-loop : tie.MeasureT-loop
-μ-loop sources targets a b k₀ k-end k = length sources - k
+μ-loop sources targets a b k₀ k = length sources - k
+
+next-from-requires : tie.Need-next-from-requires Inv-loop μ-loop
+next-from-requires c κs = search needs
 
 loop-holds : tie.Need-loop-holds Inv-loop μ-loop
-unfolding leads
-loop-holds c = (search needs, search needs, refl)
+loop-holds c =
+    let a = c .before .before .before .args in
+    searched-next (now (a .sources)) (now (a .targets)) (a .a) (a .b) (c .before .before .before .pre) 0 (c .next-from .result) (omega arith) refl (c .next-from .ensures)
 
-mul-arrow-leads : tie.Need-mul-arrow-leads Inv-loop μ-loop
-mul-arrow-leads c = search needs
+mul-if1 : tie.Need-mul-if1 Inv-loop μ-loop
+mul-if1 c = search needs
 
-shared-slice-read-arrow-leads : tie.Need-shared-slice-read-arrow-leads Inv-loop μ-loop
-shared-slice-read-arrow-leads c = search needs
-
-mul-arrow-leads-2 : tie.Need-mul-arrow-leads-2 Inv-loop μ-loop
-mul-arrow-leads-2 c = search needs
-
-shared-slice-read-arrow-leads-2 : tie.Need-shared-slice-read-arrow-leads-2 Inv-loop μ-loop
-shared-slice-read-arrow-leads-2 c = search needs
-
-arrow-leads-requires : tie.Need-arrow-leads-requires Inv-loop μ-loop
-arrow-leads-requires c κs = search needs
+shared-slice-read-if1 : tie.Need-shared-slice-read-if1 Inv-loop μ-loop
+shared-slice-read-if1 c = search needs
 
 returns : tie.Need-returns Inv-loop μ-loop
-returns c = sym (any-hit _ _ _ (omega arith) (sym (c .before .arrow-leads .ensures) ∙ c .if1 .taken)) ∙ c .before .before .before .before .before .loop .inv .2
+returns c =
+    let a = c .before .before .before .before .before .before .before .args in
+    let l = c .before .before .before .loop in
+    searched-hit (now (a .sources)) (now (a .targets)) (a .a) (a .b) (c .before .before .before .before .before .before .before .pre) (l .k) (l .inv) (c .before .before .loop-test .taken) (c .if1 .taken)
 
-add-k : tie.Need-add-k Inv-loop μ-loop
-add-k c = search needs
+add-next-from : tie.Need-add-next-from Inv-loop μ-loop
+add-next-from c = search needs
+
+next-from-requires-2 : tie.Need-next-from-requires-2 Inv-loop μ-loop
+next-from-requires-2 c κs = search needs
 
 loop-less : tie.Need-loop-less Inv-loop μ-loop
-loop-less c = search needs
+loop-less c =
+    let a = c .before .before .before .before .before .before .before .before .args in
+    let l = c .before .before .before .before .loop in
+    omega (arith, c .next-from2 .ensures, c .before .before .before .loop-test .taken, place-le (leavesState (now (a .sources)) (a .a)) (l .k + 1) (length (now (a .sources)) - (l .k + 1)) .0)
 
 loop-again : tie.Need-loop-again Inv-loop μ-loop
-loop-again c = (search needs, search needs, sym (any-miss _ _ _ (omega arith) (sym (c .before .arrow-leads .ensures) ∙ c .if1 .left)) ∙ c .before .before .before .before .before .loop .inv .2)
+loop-again c =
+    let a = c .before .before .before .before .before .before .before .before .args in
+    let l = c .before .before .before .before .loop in
+    let n = c .before .before .before .before .before .before .before .before .pre in
+    searched-next (now (a .sources)) (now (a .targets)) (a .a) (a .b) n (l .k + 1) (c .next-from2 .result) (omega (arith, c .before .before .before .loop-test .taken))
+    (searched-miss (now (a .sources)) (now (a .targets)) (a .a) (a .b) n (l .k) (l .inv) (c .before .before .before .loop-test .taken) (c .before .if1 .left))
+    (c .next-from2 .ensures)
 
 returns-2 : tie.Need-returns-2 Inv-loop μ-loop
-returns-2 c = sym (any-done _ _ _ (omega arith)) ∙ c .before .loop .inv .2
+returns-2 c =
+    let a = c .before .before .before .before .before .args in
+    let l = c .before .loop in
+    searched-end (now (a .sources)) (now (a .targets)) (a .a) (a .b) (c .before .before .before .before .before .pre) (l .k) (l .inv) (c .loop-test .left)
 
 pub leads-spec : {M : Type 1} → statement M
 leads-spec =
@@ -55,14 +70,13 @@ leads-spec =
     (tie.spec
     Inv-loop
     μ-loop
+    next-from-requires
     loop-holds
-    mul-arrow-leads
-    shared-slice-read-arrow-leads
-    mul-arrow-leads-2
-    shared-slice-read-arrow-leads-2
-    arrow-leads-requires
+    mul-if1
+    shared-slice-read-if1
     returns
-    add-k
+    add-next-from
+    next-from-requires-2
     loop-less
     loop-again
     returns-2)

@@ -34,12 +34,12 @@ ends-beyond-requires c κs =
 returns : tie.Need-returns
 returns c =
     let a = c .before .before .before .before .before .before .before .before .before .before .args in
-    crossing-refused (now (a .flags)) (now (a .xs)) (now (a .ys)) (now (a .sources)) (now (a .targets)) (c .before .before .before .before .before .before .before .before .before .before .pre .0 .3) (a .i) (sym (c .before .before .is-between .ensures) ∙ c .before .if1 .taken) (c .ends-beyond .result) (c .ends-beyond .ensures)
+    crossing-refused (now (a .flags)) (now (a .xs)) (now (a .ys)) (now (a .sources)) (now (a .targets)) (a .i) (sym (c .before .before .is-between .ensures) ∙ c .before .if1 .taken) (c .ends-beyond .result) (c .ends-beyond .ensures)
 
 returns-2 : tie.Need-returns-2
 returns-2 c =
     let a = c .before .before .before .before .before .before .before .before .before .args in
-    other-refused (now (a .flags)) (now (a .xs)) (now (a .ys)) (now (a .sources)) (now (a .targets)) (c .before .before .before .before .before .before .before .before .before .pre .0 .3) (a .i) (sym (c .before .is-between .ensures) ∙ c .if1 .left)
+    other-refused (now (a .flags)) (now (a .xs)) (now (a .ys)) (now (a .sources)) (now (a .targets)) (a .i) (sym (c .before .is-between .ensures) ∙ c .if1 .left)
 
 pub arrow-beyond-spec : {M : Type 1} → statement M
 arrow-beyond-spec =

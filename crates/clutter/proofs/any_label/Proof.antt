@@ -4,11 +4,10 @@ use Prim.Native.Nat.{_+_, _-_}
 use native.Mathlib.Omega.{arith}
 use denote.Ref.{now}
 use Rattle.laws.specs.Flat.{part}
-use Rattle.laws.specs.Any.{anyOf}
+use Rattle.laws.specs.Any.{anyOf, some-hit, some-miss, some-none}
 use Rattle.laws.specs.Tables.{table-first, table-none}
 use Rattle.records.specs.Records.{decodeGeometry}
 use Rattle.clutter.specs.Clutter.{labelOver, recordsFrom}
-use Rattle.clutter.specs.Steps.{some-hit, some-miss, some-none}
 use Rattle.clutter.proofs.any_label.Statement.{statement}
 use Rattle.clutter.proofs.any_label.Tie as tie
 

@@ -5,12 +5,11 @@ use native.Mathlib.Omega.{arith}
 use lib.ListN.{length, drop}
 use denote.Ref.{now}
 use Rattle.laws.specs.Zip.{zip-past}
-use Rattle.laws.specs.Any.{anyOf}
+use Rattle.laws.specs.Any.{anyOf, some-hit, some-miss, some-none}
 use Rattle.shape.specs.Plane.{vec}
 use Rattle.shape.specs.Centres.{centres}
 use Rattle.shape.specs.CentresFrom.{centres-from}
 use Rattle.clutter.specs.Clutter.{near24}
-use Rattle.clutter.specs.Steps.{some-hit, some-miss, some-none}
 use borrow.Author.Needs.{needs}
 use Rattle.clutter.proofs.any_state.Statement.{statement}
 use Rattle.clutter.proofs.any_state.Tie as tie

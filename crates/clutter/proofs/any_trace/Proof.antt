@@ -4,12 +4,11 @@ use Prim.Native.Nat.{_+_, _-_}
 use native.Mathlib.Omega.{arith}
 use denote.Ref.{now}
 use Rattle.laws.specs.Flat.{part}
-use Rattle.laws.specs.Any.{anyOf}
+use Rattle.laws.specs.Any.{anyOf, some-hit, some-miss, some-none}
 use Rattle.laws.specs.Tables.{table-first, table-none}
 use Rattle.trace.specs.Traces.{struck}
 use Rattle.trace.specs.Form.{decodeTrace, decodeTraces}
 use Rattle.clutter.specs.Clutter.{tracesFrom}
-use Rattle.clutter.specs.Steps.{some-hit, some-miss, some-none}
 use Rattle.clutter.proofs.any_trace.Statement.{statement}
 use Rattle.clutter.proofs.any_trace.Tie as tie
 

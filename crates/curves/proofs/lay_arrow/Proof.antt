@@ -56,7 +56,7 @@ same-length-5 c = c .before .before .before .before .before .before .before .bef
 returns : tie.Need-returns
 returns c =
     let a = c .before .before .before .before .before .before .before .before .before .before .before .before .before .before .before .before .before .before .before .before .before .before .before .before .before .before .before .before .before .before .args in
-    crossing-one (now (a .flags)) (now (a .xs)) (now (a .ys)) (now (a .sources)) (now (a .targets)) (c .before .before .before .before .before .before .before .before .before .before .before .before .before .before .before .before .before .before .before .before .before .before .before .before .before .before .before .before .before .before .pre .0 .3) (a .i) (sym (c .before .before .before .before .before .before .before .before .before .before .before .before .before .before .before .before .before .is-between .ensures) ∙ c .before .before .before .before .before .before .before .before .before .before .before .before .before .before .before .before .if1 .taken) (a .nt) (c .before .before .before .before .before .before .before .before .before .before .lay-crossing .result) _ _ (c .before .before .before .before .before .before .before .before .before .before .lay-crossing .ensures)
+    crossing-one (now (a .flags)) (now (a .xs)) (now (a .ys)) (now (a .sources)) (now (a .targets)) (a .i) (sym (c .before .before .before .before .before .before .before .before .before .before .before .before .before .before .before .before .before .is-between .ensures) ∙ c .before .before .before .before .before .before .before .before .before .before .before .before .before .before .before .before .if1 .taken) (a .nt) (c .before .before .before .before .before .before .before .before .before .before .lay-crossing .result) _ _ (c .before .before .before .before .before .before .before .before .before .before .lay-crossing .ensures)
 
 other-kind-requires : tie.Need-other-kind-requires
 other-kind-requires c κs = search needs

@@ -3,7 +3,7 @@ use denote.Ref.{now}
 use Rattle.shape.specs.Centres.{centres}
 use Rattle.bend.specs.Between.{between}
 use mathlib.Core.Path.{ap, _∙_}
-use Rattle.bend.specs.Bend.{leads}
+use Rattle.bend.specs.Leads.{leads, arrowsBy}
 use Rattle.curves.proofs.Laws.{along-by}
 use borrow.Author.Needs.{needs}
 use Rattle.curves.proofs.lay_crossing.Statement.{statement}
@@ -37,7 +37,7 @@ returns : tie.Need-returns
 returns c =
     let a = c .before .before .before .before .before .before .before .before .before .before .before .before .before .before .before .before .before .before .before .before .before .before .before .before .before .before .before .args in
     along-by (centres (now (a .xs)) (now (a .ys))) (a .a) (a .b) (a .i) (a .nt) (c .before .before .before .before .before .before .before .before .before .before .lay-routed .result) _ _ (c .before .before .before .before .before .before .before .before .before .before .before .before .before .before .before .before .between .result)
-    (between (centres (now (a .xs)) (now (a .ys))) (a .a) (a .b) (leads (now (a .sources)) (now (a .targets)) (a .b) (a .a)))
+    (between (centres (now (a .xs)) (now (a .ys))) (a .a) (a .b) (leads (arrowsBy (now (a .sources)) (now (a .targets))) (a .b) (a .a)))
     (c .before .before .before .before .before .before .before .before .before .before .before .before .before .before .before .before .between .ensures ∙ ap (between (centres (now (a .xs)) (now (a .ys))) (a .a) (a .b)) (c .before .before .before .before .before .before .before .before .before .before .before .before .before .before .before .before .before .leads .ensures)) (c .before .before .before .before .before .before .before .before .before .before .lay-routed .ensures)
 
 pub lay-crossing-spec : {M : Type 1} → statement M

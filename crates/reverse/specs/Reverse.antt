@@ -1,0 +1,122 @@
+-- Document 02, T-03: "For any two different states of the sheet the search says yes exactly when some arrow leads from the second to the first."
+-- With it document 01's sentence on `bend`, over two states and the arrows of a sheet. Here is what it says; `reverse-arrow` of Proof proves it.
+use mathlib.Core.Path.{_≡_}
+use mathlib.Core.Bool.{Bool, true}
+use mathlib.Core.List.{List, _++_}
+use Prim.Native.Nat.{ℕ, suc, _<_}
+use lib.ListN.{length, getD, take, drop}
+use lib.Ieee.{Float, nan}
+use Rattle.laws.specs.Any.{Somewhere}
+use Rattle.laws.specs.Filter.{filterBy}
+use Rattle.float.specs.Constants.{f0, f2, f3}
+use Rattle.sheet.specs.Sheet.{Graph}
+use Rattle.sheet.specs.Meaning.{arrowAt, isKept}
+use Rattle.shape.specs.declared.«V».{«V»}
+use Rattle.free.specs.declared.Span.{Span}
+use Rattle.free.specs.Chords.{chord}
+use Rattle.free.specs.Blocked.{blocked}
+use Rattle.free.specs.Free.{spanFrom, inside}
+use Rattle.bend.specs.Bend.{bend}
+use Rattle.bend.specs.Exactly.{isZero}
+use Rattle.bend.specs.Between.{withBow}
+use Rattle.routing.specs.Routing.{isPaired, joined, numberedBy, numberedAt}
+use Rattle.routing.specs.Sheets.{endsBy, frameOf}
+use Rattle.demand3.specs.Demand.{Call, Answered, recordAt, recordNumberOf, graph, Between}
+
+-- ---- states and arrows of a sheet
+
+-- two different states
+pub record TwoStates (g : Graph) (a b : ℕ) : Type 0 where
+  pub first : a < length (g .states)
+  pub second : b < length (g .states)
+  pub apart : a ≡ b → ⊥
+
+-- arrow k leads from a to b
+pub record ArrowLeads (g : Graph) (a b k : ℕ) : Type 0 where
+  pub inside : k < length (g .arrows)
+  pub source : arrowAt g k .source ≡ a
+  pub target : arrowAt g k .target ≡ b
+
+-- "some arrow leads from" a to b
+pub record SomeArrow (g : Graph) (a b : ℕ) : Type 0 where
+  pub arrow : ℕ
+  pub leads : ArrowLeads g a b arrow
+
+-- "An arrow with an end not below the number of states is .. left out of the records": the sheet without these
+abbrev pub withoutLeftOut : Graph → Graph
+withoutLeftOut g = record { states = g .states; arrows = filterBy (isKept g) (g .arrows) }
+
+-- the sheet without arrow k
+abbrev pub withoutArrow : ℕ → Graph → Graph
+withoutArrow k g = record { states = g .states; arrows = take k (g .arrows) ++ drop (suc k) (g .arrows) }
+
+-- ---- the search
+
+-- what routing asks for an arrow from a to b, whatever its number k and the centres
+abbrev pub searched : Graph → List Float → List Float → ℕ → ℕ → ℕ → Bool
+searched g xs ys k a b = isPaired (frameOf g xs ys) (numberedBy k (endsBy a b))
+
+-- of two different states a and b
+pub record SearchExact (g : Graph) (xs ys : List Float) (k a b : ℕ) : Type 0 where
+  -- it is the search made for arrow k, where that leads from a to b
+  pub asked : ArrowLeads g a b k → isPaired (frameOf g xs ys) (numberedAt (frameOf g xs ys) k) ≡ searched g xs ys k a b
+  -- yes exactly when some arrow leads from b to a
+  pub found : searched g xs ys k a b ≡ true → SomeArrow g b a
+  pub sure : SomeArrow g b a → searched g xs ys k a b ≡ true
+  -- an arrow from a to b never finds itself: it does not lead from b to a, and without it the search says the same
+  pub other : (i : ℕ) → ArrowLeads g a b i → ArrowLeads g b a i → ⊥
+  pub itself : (i : ℕ) → ArrowLeads g a b i → searched (withoutArrow i g) xs ys k a b ≡ searched g xs ys k a b
+
+-- of any two states: a left-out arrow never makes it say yes. None leads from one state to another, and without them the search says the same.
+pub record LeftOutUnseen (g : Graph) (xs ys : List Float) (k a b : ℕ) : Type 0 where
+  pub none : (j : ℕ) → ArrowLeads g b a j → isKept g (arrowAt g j) ≡ true
+  pub same : searched (withoutLeftOut g) xs ys k a b ≡ searched g xs ys k a b
+
+-- ---- "`bend` gives 0.0 exactly when the reverse arrow is absent and no blocked interval has lo < 0 < hi."
+
+-- lo < 0 < hi
+abbrev pub aroundZero : Span → Bool
+aroundZero s = inside s f0
+
+-- past the last interval
+abbrev pub noSpan : Span
+noSpan = spanFrom nan nan
+
+-- an arrow from a to b is to be straight, with the states at these centres
+pub record StraightWhen (g : Graph) (cs : List «V») (a b : ℕ) : Type 0 where
+  pub absent : SomeArrow g b a → ⊥
+  pub clear : Somewhere aroundZero (blocked (chord cs a b) cs) noSpan → ⊥
+
+-- the bow that routing gives it
+abbrev pub bowOf : Graph → List Float → List Float → ℕ → ℕ → ℕ → Float
+bowOf g xs ys k a b = let cs = frameOf g xs ys .centres in bend (chord cs a b) cs (searched g xs ys k a b)
+
+pub record BowExact (g : Graph) (xs ys : List Float) (k a b : ℕ) : Type 0 where
+  pub sure : StraightWhen g (frameOf g xs ys .centres) a b → bowOf g xs ys k a b ≡ f0
+  pub only : isZero (bowOf g xs ys k a b) ≡ true → StraightWhen g (frameOf g xs ys .centres) a b
+  -- where arrow k leads from a to b, its curve is the one with this bow
+  pub drawn : ArrowLeads g a b k → joined (frameOf g xs ys) (numberedAt (frameOf g xs ys) k) ≡ withBow (chord (frameOf g xs ys .centres) a b) (bowOf g xs ys k a b)
+
+-- ---- what `route` leaves
+
+-- the number of points of arrow e's curve, in its record
+abbrev pub pointsAt : Call → ℕ → Float
+pointsAt c e = getD (recordAt c (recordNumberOf c e)) 1 nan
+
+-- arrow e is to be straight, at the centres of the call
+abbrev pub StraightAt : Call → ℕ → Type 0
+StraightAt c e = let a = arrowAt (graph c) e in StraightWhen (graph c) (frameOf (graph c) (c .xs) (c .ys) .centres) (a .source) (a .target)
+
+-- two points exactly then, else three
+pub record CurveExact (c : Call) (e : ℕ) : Type 0 where
+  pub line : StraightAt c e → pointsAt c e ≡ f2
+  pub only : pointsAt c e ≡ f2 → StraightAt c e
+  pub arc : (StraightAt c e → ⊥) → pointsAt c e ≡ f3
+
+-- ---- the claim: of every graph, and so of the meaning of every accepted sheet, at all centres; of every call of `route` that is answered
+
+pub record ReverseArrow : Type 0 where
+  pub search : (g : Graph) (xs ys : List Float) (k a b : ℕ) → TwoStates g a b → SearchExact g xs ys k a b
+  pub leftOut : (g : Graph) (xs ys : List Float) (k a b : ℕ) → a < length (g .states) → b < length (g .states) → LeftOutUnseen g xs ys k a b
+  pub bow : (g : Graph) (xs ys : List Float) (k a b : ℕ) → TwoStates g a b → BowExact g xs ys k a b
+  pub curve : (c : Call) → Answered c → (e : ℕ) → Between (graph c) e → CurveExact c e
