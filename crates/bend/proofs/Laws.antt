@@ -55,14 +55,14 @@ module _ (sources targets : List ℕ) (a b : ℕ) where
   abbrev arrows : List Ends
   arrows = arrowsBy sources targets
 
-  -- at arrow k: the arrows from there on say what all of them say, and it leaves a, if it is not the end
+  -- at place k: the arrows from k on answer as all do; arrow k, if there is one, leaves a
   pub record SoFar (k : ℕ) : Type 0 where
     pub inside : k ≤ length sources
     pub rest : leads (drop k arrows) a b ≡ leads arrows a b
     pub leaving : k < length sources → leavesState sources a k ≡ true
 
   module _ (n : length targets ≡ length sources) where
-    -- an arrow that does not lead from a to b
+    -- an arrow that does not lead from a to b may be passed over
     other : (k : ℕ) → k < length sources → leadsFrom a b (endsBy (getD sources k 0) (getD targets k 0)) ≡ false → leads (drop (k + 1) arrows) a b ≡ leads (drop k arrows) a b
     unfolding leads
     other k h e = some-miss (leadsFrom a b) (drop k arrows) (drop (k + 1) arrows) _ (zip-drop endsBy sources targets k 0 0 n h) _ refl e

@@ -117,14 +117,11 @@ module _ (f : Frame) (a : Numbered) (t : isCrossing f a ≡ false) where
 
 -- ---- arrow i, from slices
 module _ (flags : List ℕ) (xs ys : List Float) (sources targets : List ℕ) (i : ℕ) where
-  joined-is : joined (frameBy flags (centres xs ys) sources targets) (arrowBy sources targets i) ≡ between (centres xs ys) (getD sources i 0) (getD targets i 0) (leads (arrowsBy sources targets) (getD targets i 0) (getD sources i 0))
-  unfolding joined
-  joined-is = refl
-
   pub crossing-one : isCrossing (frameBy flags (centres xs ys) sources targets) (arrowBy sources targets i) ≡ true → (nt m : ℕ) (s u : Slices)
       → Along (centres xs ys) (getD sources i 0) (getD targets i 0) i (between (centres xs ys) (getD sources i 0) (getD targets i 0) (leads (arrowsBy sources targets) (getD targets i 0) (getD sources i 0))) nt m s u
       → One (frameBy flags (centres xs ys) sources targets) (arrowBy sources targets i) nt m s u
-  crossing-one t nt m s u g = along-one (frameBy flags (centres xs ys) sources targets) (arrowBy sources targets i) t _ joined-is nt m s u g
+  unfolding joined
+  crossing-one t nt m s u g = along-one (frameBy flags (centres xs ys) sources targets) (arrowBy sources targets i) t _ refl nt m s u g
 
 -- ---- a number that is missing or not finite
 pub finite-yes : (v : Float) → finite v ≡ true → v ≡ orZero v

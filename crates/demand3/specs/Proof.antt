@@ -39,8 +39,8 @@ abbrev pub callRecords : Call → List Geometry
 callRecords c = recordsOf (graph c) (c .xs) (c .ys)
 
 -- past the last record
-abbrev none : Call → Geometry
-none c = drawnAt c 0 0
+abbrev pub pastRecords : Call → Geometry
+pastRecords c = drawnAt c 0 0
 
 module _ (c : Call) (a : Answered c) where
   abbrev pub rs : List Refusal
@@ -71,17 +71,17 @@ module _ (c : Call) (a : Answered c) where
 
   -- those of a kept arrow
   module _ (e : ℕ) (h : e < length (frame c .arrows)) (k : isKeptIn (frame c) (numberedAt (frame c) e) ≡ true) where
-    abbrev its : Geometry
-    its = getD (callRecords c) (recordNumberOf c e) (none c)
+    abbrev pub recordDrawn : Geometry
+    recordDrawn = getD (callRecords c) (recordNumberOf c e) (pastRecords c)
 
-    arrow-record : recordAt c (recordNumberOf c e) ≡ fields its
-    arrow-record = record-is (recordNumberOf c e) (none c) (record-inside (frame c) (sizes c) e h k)
+    pub arrow-record : recordAt c (recordNumberOf c e) ≡ fields recordDrawn
+    arrow-record = record-is (recordNumberOf c e) (pastRecords c) (record-inside (frame c) (sizes c) e h k)
 
-    arrow-path : pathAt c (recordNumberOf c e) ≡ curveText (its .curve)
-    arrow-path = path-is (recordNumberOf c e) (none c) (record-inside (frame c) (sizes c) e h k)
+    arrow-path : pathAt c (recordNumberOf c e) ≡ curveText (recordDrawn .curve)
+    arrow-path = path-is (recordNumberOf c e) (pastRecords c) (record-inside (frame c) (sizes c) e h k)
 
-    arrow-only : recordFor (frame c) (sizes c) e ≡ its ∷ []
-    arrow-only = record-only (frame c) (sizes c) e h k (none c)
+    pub arrow-only : recordFor (frame c) (sizes c) e ≡ recordDrawn ∷ []
+    arrow-only = record-only (frame c) (sizes c) e h k (pastRecords c)
 
   -- ---- (1)
 
@@ -102,7 +102,7 @@ module _ (c : Call) (a : Answered c) where
     held =
         let r : Routing.TurnCheapest (frame c) (sizes c) t = records-cheapest (frame c) (sizes c) t h in
         let e : ℕ = turnArrow c t in
-        let g : its e within stays ≡ drawnAt c t (r .place) = ap (λ (l : List Geometry). getD l 0 (none c)) (sym (arrow-only e within stays) ∙ r .held) in
+        let g : recordDrawn e within stays ≡ drawnAt c t (r .place) = ap (λ (l : List Geometry). getD l 0 (pastRecords c)) (sym (arrow-only e within stays) ∙ r .held) in
         let n : recordAt c (turnNumber c t) ≡ fields (drawnAt c t (r .place)) = arrow-record e within stays ∙ ap fields g in
         record {
           inside = omega (arith, number-inside (frame c) e within stays, numbers-are);
@@ -165,10 +165,10 @@ module _ (c d : Call) (a : Answered c) (b : Answered d) (s : Same c d) where
 
     -- what is drawn at that turn
     abbrev drawn-c : Geometry
-    drawn-c = its c a (turnArrow c t) (within c a t h) (stays c a t h)
+    drawn-c = recordDrawn c a (turnArrow c t) (within c a t h) (stays c a t h)
 
     abbrev drawn-d : Geometry
-    drawn-d = its d b (turnArrow d t) (within d b t in-turns) (stays d b t in-turns)
+    drawn-d = recordDrawn d b (turnArrow d t) (within d b t in-turns) (stays d b t in-turns)
 
     drawn-alike : drawn-c ≡ drawn-d
     drawn-alike =
@@ -178,7 +178,7 @@ module _ (c d : Call) (a : Answered c) (b : Answered d) (s : Same c d) where
         λ j. sym (ap (λ (f : Frame). arrowAt (graph d) (edgeAt f j) .lines) others) in
         let both : recordFor (frame c) (sizes c) e ≡ recordFor (frame d) (sizes d) e =
         over-sheets .prefix (graph d) (s .ends) t h (λ j k. l j k ∙ back j) ∙ records-d e in
-        ap (λ (m : List Geometry). getD m 0 (none c))
+        ap (λ (m : List Geometry). getD m 0 (pastRecords c))
         (sym (arrow-only c a e (within c a t h) (stays c a t h))
         ∙ both
         ∙ ap (λ (f : Frame). recordFor (frame d) (sizes d) (edgeAt f t)) (call-frames c d s)
@@ -217,9 +217,9 @@ module _ (c d : Call) (a : Answered c) (b : Answered d) (s : Same c d) where
     kept-d : isKeptIn (frame d) (numberedAt (frame d) e) ≡ true
     kept-d = subst (λ (f : Frame). isKeptIn f (numberedAt f e) ≡ true) (call-frames c d s) kept-c
 
-    strokes : strokeOf (its c a e in-c kept-c) ≡ strokeOf (its d b e in-d kept-d)
+    strokes : strokeOf (recordDrawn c a e in-c kept-c) ≡ strokeOf (recordDrawn d b e in-d kept-d)
     strokes =
-        ap (λ (l : List Stroke). getD l 0 (strokeOf (none c)))
+        ap (λ (l : List Stroke). getD l 0 (strokeOf (pastRecords c)))
         (sym (ap (map strokeOf) (arrow-only c a e in-c kept-c))
         ∙ over-sheets .curves (graph d) (s .ends) e (w .inside) (w .apart)
         ∙ ap (map strokeOf) (records-d e ∙ arrow-only d b e in-d kept-d))

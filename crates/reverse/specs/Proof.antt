@@ -1,6 +1,6 @@
 -- The search for the reverse arrow is exact, and so are bow and curve. Assumes nothing.
 use mathlib.Core.Path.{_≡_, refl, sym, ap, ap₂, _∙_}
-use mathlib.Core.Bool.{Bool, true, false, not, cond, _||_}
+use mathlib.Core.Bool.{Bool, true, false, not, cond, _&&_, _||_}
 use mathlib.Core.List.{List, [], _∷_, map}
 use Prim.Native.Nat.{ℕ, _<_}
 use borrow.Author.Tests.{eqb-true, eq-eqb, ne-eqb, lt-ltb}
@@ -26,16 +26,15 @@ use Rattle.bend.specs.Leads.{Ends, leadsFrom, leads}
 use Rattle.bend.specs.Bend.{bend}
 use Rattle.bend.specs.Exactly.{isZero, zero-zero, straight-exactly}
 use Rattle.bend.specs.Between.{straight, bowed, withBow, between}
-use Rattle.label_spots.specs.declared.Geometry.{Geometry}
 use Rattle.records.specs.Records.{cornersOf}
-use Rattle.routing.specs.Routing.{joined, numberedAt, isKeptIn}
+use Rattle.routing.specs.Routing.{isPaired, joined, numberedAt, isKeptIn}
 use Rattle.routing.specs.Sheets.{endsOf, endsBy, frameOf}
 use Rattle.routing_laws.specs.Agree.{arrow-inside, arrow-ends, arrow-kept, arrow-apart}
 use Rattle.routing_laws.specs.Demand.{Stroke, strokeOf, strokeBy, records-stroke}
-use Rattle.demand3.specs.Demand.{Call, Answered, recordNumberOf, graph, frame, sizes, drawnAt, Between}
-use Rattle.demand3.specs.Places.{record-inside, record-only}
-use Rattle.demand3.specs.Proof.{callRecords, record-is}
-use Rattle.reverse.specs.Reverse.{TwoStates, ArrowLeads, SomeArrow, withoutLeftOut, withoutArrow, searched, SearchExact, LeftOutUnseen, aroundZero, noSpan, StraightWhen, bowOf, BowExact, pointsAt, CurveExact, ReverseArrow}
+use Rattle.beyond.specs.Beyond.{pairBeyond, isBeyond}
+use Rattle.demand3.specs.Demand.{Call, Answered, graph, frame, sizes, Between}
+use Rattle.demand3.specs.Proof.{pastRecords, recordDrawn, arrow-record, arrow-only}
+use Rattle.reverse.specs.Reverse.{ArrowLeads, SomeArrow, withoutLeftOut, withoutArrow, searched, centresOf, arrowIn, SearchExact, NeverItself, LeftOutUnseen, aroundZero, noSpan, StraightWhen, bowOf, BowExact, pointsAt, CurveExact, ReverseArrow}
 
 -- ---- the search
 
@@ -55,24 +54,23 @@ back-ends a b x e = let t = and-both (eqb (x .source) b) (eqb (x .target) a) e i
 back-leads : (g : Graph) (a b k : ℕ) → ArrowLeads g b a k → leadsBack a b (arrowAt g k) ≡ true
 back-leads g a b k l = rw (eq-eqb _ _ (l .source), eq-eqb _ _ (l .target))
 
--- ---- left-out arrows
+-- ---- of all a and b
 
-module _ (g : Graph) (xs ys : List Float) (k a b : ℕ) (i : a < length (g .states)) (j : b < length (g .states)) where
-  ends-kept : (x : Arrow) → x .source ≡ b → x .target ≡ a → isKept g x ≡ true
-  ends-kept x e f = rw (e, f, lt-ltb b (length (g .states)) j, lt-ltb a (length (g .states)) i)
+module _ (g : Graph) (xs ys : List Float) (k a b : ℕ) where
+  -- arrow k by its ends
+  ends-are : ArrowLeads g a b k → arrowIn g xs ys k .ends ≡ endsBy a b
+  ends-are l = arrow-ends g xs ys k ∙ ap₂ endsBy (l .source) (l .target)
 
-  left-out-unseen : LeftOutUnseen g xs ys k a b
-  left-out-unseen = record {
-    none = λ n l. ends-kept (arrowAt g n) (l .source) (l .target);
-    same =
-        search-arrows (withoutLeftOut g) xs ys k a b
-        ∙ any-kept (leadsBack a b) (isKept g) (g .arrows) (λ x e. let t = back-ends a b x e in ends-kept x (t .0) (t .1))
-        ∙ sym (search-arrows g xs ys k a b);
-  }
+  asked-is : ArrowLeads g a b k → isPaired (frameOf g xs ys) (arrowIn g xs ys k) ≡ searched g xs ys k a b
+  asked-is l = ap (λ (e : Ends). leads (frameOf g xs ys .arrows) (e .target) (e .source)) (ends-are l)
 
--- ---- two different states
+  nine-is : ArrowLeads g a b k
+      → isBeyond (frameOf g xs ys) (arrowIn g xs ys k) ≡ searched g xs ys k a b && pairBeyond (chord (centresOf g xs ys) a b) (centresOf g xs ys)
+  unfolding isBeyond
+  nine-is l =
+      ap₂ (λ (x y : Bool). x && y) (asked-is l)
+      (ap (λ (e : Ends). pairBeyond (chord (centresOf g xs ys) (e .source) (e .target)) (centresOf g xs ys)) (ends-are l))
 
-module _ (g : Graph) (xs ys : List Float) (k a b : ℕ) (w : TwoStates g a b) where
   back-found : searched g xs ys k a b ≡ true → SomeArrow g b a
   back-found e =
       let r : Somewhere (leadsBack a b) (g .arrows) noArrow = some-at (leadsBack a b) (g .arrows) noArrow (sym (search-arrows g xs ys k a b) ∙ e) in
@@ -84,24 +82,34 @@ module _ (g : Graph) (xs ys : List Float) (k a b : ℕ) (w : TwoStates g a b) wh
       search-arrows g xs ys k a b
       ∙ at-some (leadsBack a b) (g .arrows) noArrow (record { place = s .arrow; inside = s .leads .inside; holds = back-leads g a b (s .arrow) (s .leads) })
 
-  -- arrow k by its ends
-  ends-are : ArrowLeads g a b k → numberedAt (frameOf g xs ys) k .ends ≡ endsBy a b
-  ends-are l = arrow-ends g xs ys k ∙ ap₂ endsBy (l .source) (l .target)
-
-  without-itself : (i : ℕ) → ArrowLeads g a b i → searched (withoutArrow i g) xs ys k a b ≡ searched g xs ys k a b
-  without-itself i l =
-      search-arrows (withoutArrow i g) xs ys k a b
-      ∙ any-without (leadsBack a b) (g .arrows) i noArrow (rw (ne-eqb (arrowAt g i .source) b (λ e. w .apart (sym (l .source) ∙ e))))
-      ∙ sym (search-arrows g xs ys k a b)
-
   search-exact : SearchExact g xs ys k a b
-  search-exact = record {
-    asked = λ l. ap (λ (e : Ends). leads (frameOf g xs ys .arrows) (e .target) (e .source)) (ends-are l);
-    found = back-found;
-    sure = back-sure;
-    other = λ i l m. w .apart (sym (l .source) ∙ m .source);
-    itself = without-itself;
+  search-exact = record { asked = asked-is; nine = nine-is; found = back-found; sure = back-sure }
+
+  -- ---- an arrow and itself
+
+  never-itself : (i : ℕ) → (a ≡ b → ⊥) → ArrowLeads g a b i → NeverItself g xs ys k a b i
+  never-itself i apart l = record {
+    other = λ m. apart (sym (l .source) ∙ m .source);
+    same =
+        search-arrows (withoutArrow i g) xs ys k a b
+        ∙ any-without (leadsBack a b) (g .arrows) i noArrow (rw (ne-eqb (arrowAt g i .source) b (λ e. apart (sym (l .source) ∙ e))))
+        ∙ sym (search-arrows g xs ys k a b);
   }
+
+  -- ---- left-out arrows
+
+  module _ (i : a < length (g .states)) (j : b < length (g .states)) where
+    ends-kept : (x : Arrow) → x .source ≡ b → x .target ≡ a → isKept g x ≡ true
+    ends-kept x e f = rw (e, f, lt-ltb b (length (g .states)) j, lt-ltb a (length (g .states)) i)
+
+    left-out-unseen : LeftOutUnseen g xs ys k a b
+    left-out-unseen = record {
+      none = λ n l. ends-kept (arrowAt g n) (l .source) (l .target);
+      same =
+          search-arrows (withoutLeftOut g) xs ys k a b
+          ∙ any-kept (leadsBack a b) (isKept g) (g .arrows) (λ x e. let t = back-ends a b x e in ends-kept x (t .0) (t .1))
+          ∙ sym (search-arrows g xs ys k a b);
+    }
 
 -- ---- the bow
 
@@ -110,47 +118,41 @@ unfolding insideSome anyOf
 inside-any [] = refl
 inside-any (s ∷ l) = ap (λ (b : Bool). inside s f0 || b) (inside-any l)
 
-module _ (g : Graph) (xs ys : List Float) (k a b : ℕ) (w : TwoStates g a b) where
+module _ (g : Graph) (xs ys : List Float) (k a b : ℕ) where
   abbrev cs : List «V»
-  cs = frameOf g xs ys .centres
+  cs = centresOf g xs ys
+
+  abbrev around : List Span
+  around = blocked (chord cs a b) cs
 
   bow-only : isZero (bowOf g xs ys k a b) ≡ true → StraightWhen g cs a b
   bow-only e =
-      let l = blocked (chord cs a b) cs in
-      let t = and-both (not (searched g xs ys k a b)) (not (insideSome l f0)) (sym (straight-exactly (chord cs a b) cs (searched g xs ys k a b)) ∙ e) in
+      let t = and-both (not (searched g xs ys k a b)) (not (insideSome around f0)) (sym (straight-exactly (chord cs a b) cs (searched g xs ys k a b)) ∙ e) in
       record {
-        absent = λ s. clash (back-sure g xs ys k a b w s) (not-holds _ (t .0));
-        clear = λ r. clash (inside-any l ∙ at-some aroundZero l noSpan r) (not-holds _ (t .1));
+        absent = λ s. clash (back-sure g xs ys k a b s) (not-holds _ (t .0));
+        clear = λ r. clash (inside-any around ∙ at-some aroundZero around noSpan r) (not-holds _ (t .1));
       }
 
-  bow-zero : StraightWhen g cs a b → bowOf g xs ys k a b ≡ f0
+  bow-sure : StraightWhen g cs a b → bowOf g xs ys k a b ≡ f0
   unfolding bend
-  bow-zero s =
-      let l = blocked (chord cs a b) cs in
-      by-bool (searched g xs ys k a b) (λ e. absurd (s .absent (back-found g xs ys k a b w e)))
-      (λ e. by-bool (insideSome l f0) (λ i. absurd (s .clear (some-at aroundZero l noSpan (sym (inside-any l) ∙ i)))) (λ i. rw (e, i)))
+  bow-sure s =
+      by-bool (searched g xs ys k a b) (λ e. absurd (s .absent (back-found g xs ys k a b e)))
+      (λ e. by-bool (insideSome around f0) (λ i. absurd (s .clear (some-at aroundZero around noSpan (sym (inside-any around) ∙ i)))) (λ i. rw (e, i)))
 
-  bow-drawn : ArrowLeads g a b k → joined (frameOf g xs ys) (numberedAt (frameOf g xs ys) k) ≡ withBow (chord cs a b) (bowOf g xs ys k a b)
+  bow-drawn : ArrowLeads g a b k → joined (frameOf g xs ys) (arrowIn g xs ys k) ≡ withBow (chord cs a b) (bowOf g xs ys k a b)
   unfolding joined between
   bow-drawn l =
-      ap (λ (e : Ends). between cs (e .source) (e .target) (leads (frameOf g xs ys .arrows) (e .target) (e .source))) (ends-are g xs ys k a b w l)
+      ap (λ (e : Ends). between cs (e .source) (e .target) (leads (frameOf g xs ys .arrows) (e .target) (e .source))) (ends-are g xs ys k a b l)
 
   bow-exact : BowExact g xs ys k a b
-  bow-exact = record { sure = bow-zero; only = bow-only; drawn = bow-drawn }
+  bow-exact = record { sure = bow-sure; only = bow-only; drawn = bow-drawn }
 
 -- ---- the curve
 
 -- the number of points of the curve with a bow
-abbrev points : Routed → Float
-points r = cornersOf (r .curve) .n
-
-bow-line : (c : Chord) (h : Float) → isZero h ≡ true → points (withBow c h) ≡ f2
-unfolding withBow straight
-bow-line c h e = rw e
-
-bow-arc : (c : Chord) (h : Float) → isZero h ≡ false → points (withBow c h) ≡ f3
-unfolding withBow bowed
-bow-arc c h e = rw e
+curve-points : (c : Chord) (h : Float) → cornersOf (withBow c h .curve) .n ≡ cond (isZero h) f2 f3
+unfolding withBow straight bowed
+curve-points c h = by-bool (isZero h) (λ t. rw t) (λ t. rw t)
 
 pub two-points : eq f2 f2 ≡ true
 unfolding Ieee.eq ofBits
@@ -167,14 +169,11 @@ module _ (c : Call) (q : Answered c) (e : ℕ) (w : Between (graph c) e) where
   abbrev target : ℕ
   target = arrowAt (graph c) e .target
 
-  two-states : TwoStates (graph c) source target
-  two-states = record { first = w .source; second = w .target; apart = w .apart }
-
   abbrev bow : Float
   bow = bowOf (graph c) (c .xs) (c .ys) e source target
 
   exact : BowExact (graph c) (c .xs) (c .ys) e source target
-  exact = bow-exact (graph c) (c .xs) (c .ys) e source target two-states
+  exact = bow-exact (graph c) (c .xs) (c .ys) e source target
 
   in-frame : e < length (frame c .arrows)
   in-frame = arrow-inside (graph c) (c .xs) (c .ys) e (w .inside)
@@ -182,39 +181,29 @@ module _ (c : Call) (q : Answered c) (e : ℕ) (w : Between (graph c) e) where
   in-records : isKeptIn (frame c) (numberedAt (frame c) e) ≡ true
   in-records = arrow-kept (graph c) (c .xs) (c .ys) e (w .source) (w .target)
 
-  abbrev past : Geometry
-  past = drawnAt c 0 0
-
-  -- its record, and the curve there
-  abbrev its : Geometry
-  its = getD (callRecords c) (recordNumberOf c e) past
-
-  its-stroke : strokeOf its ≡ strokeBy (joined (frame c) (numberedAt (frame c) e))
+  -- the curve in its record
+  its-stroke : strokeOf (recordDrawn c q e in-frame in-records) ≡ strokeBy (joined (frame c) (numberedAt (frame c) e))
   its-stroke =
-      ap (λ (l : List Stroke). getD l 0 (strokeOf past))
-      (sym (ap (map strokeOf) (record-only (frame c) (sizes c) e in-frame in-records past))
+      ap (λ (l : List Stroke). getD l 0 (strokeOf (pastRecords c)))
+      (sym (ap (map strokeOf) (arrow-only c q e in-frame in-records))
       ∙ records-stroke (frame c) (sizes c) e in-frame (arrow-apart (graph c) (c .xs) (c .ys) e (w .apart))
       ∙ ap (λ (b : Bool). cond b (strokeBy (joined (frame c) (numberedAt (frame c) e)) ∷ []) []) in-records)
 
-  points-are : pointsAt c e ≡ points (withBow (chord (frame c .centres) source target) bow)
+  points-are : pointsAt c e ≡ cond (isZero bow) f2 f3
   points-are =
-      ap (λ (l : List Float). getD l 1 nan) (record-is c q (recordNumberOf c e) past (record-inside (frame c) (sizes c) e in-frame in-records))
+      ap (λ (l : List Float). getD l 1 nan) (arrow-record c q e in-frame in-records)
       ∙ ap (λ (s : Stroke). cornersOf (s .curve) .n) its-stroke
-      ∙ ap points (exact .drawn (record { inside = w .inside; source = refl; target = refl }))
-
-  line-points : isZero bow ≡ true → pointsAt c e ≡ f2
-  line-points z = points-are ∙ bow-line _ bow z
-
-  arc-points : isZero bow ≡ false → pointsAt c e ≡ f3
-  arc-points z = points-are ∙ bow-arc _ bow z
+      ∙ ap (λ (r : Routed). cornersOf (r .curve) .n) (exact .drawn (record { inside = w .inside; source = refl; target = refl }))
+      ∙ curve-points _ bow
 
   curve-exact : CurveExact c e
   curve-exact = record {
-    line = λ s. line-points (ap isZero (exact .sure s) ∙ zero-zero);
-    only = λ p. by-bool (isZero bow) (exact .only) (λ z. clash two-points (ap (λ (v : Float). eq v f2) (sym p ∙ arc-points z) ∙ three-points));
-    arc = λ n. by-bool (isZero bow) (λ z. absurd (n (exact .only z))) arc-points;
+    line = λ s. points-are ∙ ap (λ (h : Float). cond (isZero h) f2 f3) (exact .sure s) ∙ ap (λ (b : Bool). cond b f2 f3) zero-zero;
+    only = λ p. by-bool (isZero bow) (exact .only)
+        (λ z. clash two-points (ap (λ (v : Float). eq v f2) (sym p ∙ points-are ∙ ap (λ (b : Bool). cond b f2 f3) z) ∙ three-points));
+    arc = λ n. by-bool (isZero bow) (λ z. absurd (n (exact .only z))) (λ z. points-are ∙ ap (λ (b : Bool). cond b f2 f3) z);
   }
 
 -- for every graph, all centres, and every call that is answered
 pub reverse-arrow : ReverseArrow
-reverse-arrow = record { search = search-exact; leftOut = left-out-unseen; bow = bow-exact; curve = curve-exact }
+reverse-arrow = record { search = search-exact; itself = never-itself; leftOut = left-out-unseen; bow = bow-exact; curve = curve-exact }

@@ -1,7 +1,7 @@
 -- Document 02, T-03: "For any two different states of the sheet the search says yes exactly when some arrow leads from the second to the first."
 -- With it document 01's sentence on `bend`, over two states and the arrows of a sheet. Here is what it says; `reverse-arrow` of Proof proves it.
 use mathlib.Core.Path.{_≡_}
-use mathlib.Core.Bool.{Bool, true}
+use mathlib.Core.Bool.{Bool, true, _&&_}
 use mathlib.Core.List.{List, _++_}
 use Prim.Native.Nat.{ℕ, suc, _<_}
 use lib.ListN.{length, getD, take, drop}
@@ -19,17 +19,12 @@ use Rattle.free.specs.Free.{spanFrom, inside}
 use Rattle.bend.specs.Bend.{bend}
 use Rattle.bend.specs.Exactly.{isZero}
 use Rattle.bend.specs.Between.{withBow}
-use Rattle.routing.specs.Routing.{isPaired, joined, numberedBy, numberedAt}
+use Rattle.routing.specs.Routing.{Numbered, isPaired, joined, numberedBy, numberedAt}
 use Rattle.routing.specs.Sheets.{endsBy, frameOf}
-use Rattle.demand3.specs.Demand.{Call, Answered, recordAt, recordNumberOf, graph, Between}
+use Rattle.beyond.specs.Beyond.{pairBeyond, isBeyond}
+use Rattle.demand3.specs.Demand.{Call, Answered, recordAt, recordNumberOf, graph, frame, Between}
 
 -- ---- states and arrows of a sheet
-
--- two different states
-pub record TwoStates (g : Graph) (a b : ℕ) : Type 0 where
-  pub first : a < length (g .states)
-  pub second : b < length (g .states)
-  pub apart : a ≡ b → ⊥
 
 -- arrow k leads from a to b
 pub record ArrowLeads (g : Graph) (a b k : ℕ) : Type 0 where
@@ -56,18 +51,29 @@ withoutArrow k g = record { states = g .states; arrows = take k (g .arrows) ++ d
 abbrev pub searched : Graph → List Float → List Float → ℕ → ℕ → ℕ → Bool
 searched g xs ys k a b = isPaired (frameOf g xs ys) (numberedBy k (endsBy a b))
 
--- of two different states a and b
+-- the centres of the states, "missing or not finite count as 0"
+abbrev pub centresOf : Graph → List Float → List Float → List «V»
+centresOf g xs ys = frameOf g xs ys .centres
+
+-- arrow k of the sheet, as routing takes it
+abbrev pub arrowIn : Graph → List Float → List Float → ℕ → Numbered
+arrowIn g xs ys k = numberedAt (frameOf g xs ys) k
+
 pub record SearchExact (g : Graph) (xs ys : List Float) (k a b : ℕ) : Type 0 where
-  -- it is the search made for arrow k, where that leads from a to b
-  pub asked : ArrowLeads g a b k → isPaired (frameOf g xs ys) (numberedAt (frameOf g xs ys) k) ≡ searched g xs ys k a b
+  -- where arrow k leads from a to b, it is the search made for it, for its curve (`drawn`, below) and for 9
+  pub asked : ArrowLeads g a b k → isPaired (frameOf g xs ys) (arrowIn g xs ys k) ≡ searched g xs ys k a b
+  pub nine : ArrowLeads g a b k
+      → isBeyond (frameOf g xs ys) (arrowIn g xs ys k) ≡ searched g xs ys k a b && pairBeyond (chord (centresOf g xs ys) a b) (centresOf g xs ys)
   -- yes exactly when some arrow leads from b to a
   pub found : searched g xs ys k a b ≡ true → SomeArrow g b a
   pub sure : SomeArrow g b a → searched g xs ys k a b ≡ true
-  -- an arrow from a to b never finds itself: it does not lead from b to a, and without it the search says the same
-  pub other : (i : ℕ) → ArrowLeads g a b i → ArrowLeads g b a i → ⊥
-  pub itself : (i : ℕ) → ArrowLeads g a b i → searched (withoutArrow i g) xs ys k a b ≡ searched g xs ys k a b
 
--- of any two states: a left-out arrow never makes it say yes. None leads from one state to another, and without them the search says the same.
+-- Arrow i, from a to another state b, never finds itself: it does not lead from b to a, and without it the search says the same.
+pub record NeverItself (g : Graph) (xs ys : List Float) (k a b i : ℕ) : Type 0 where
+  pub other : ArrowLeads g b a i → ⊥
+  pub same : searched (withoutArrow i g) xs ys k a b ≡ searched g xs ys k a b
+
+-- A left-out arrow never makes it say yes for states a and b: none leads from a state to a state, and without them the search says the same.
 pub record LeftOutUnseen (g : Graph) (xs ys : List Float) (k a b : ℕ) : Type 0 where
   pub none : (j : ℕ) → ArrowLeads g b a j → isKept g (arrowAt g j) ≡ true
   pub same : searched (withoutLeftOut g) xs ys k a b ≡ searched g xs ys k a b
@@ -82,20 +88,20 @@ aroundZero s = inside s f0
 abbrev pub noSpan : Span
 noSpan = spanFrom nan nan
 
--- an arrow from a to b is to be straight, with the states at these centres
+-- when an arrow from a to b is straight, with the states at these centres
 pub record StraightWhen (g : Graph) (cs : List «V») (a b : ℕ) : Type 0 where
   pub absent : SomeArrow g b a → ⊥
   pub clear : Somewhere aroundZero (blocked (chord cs a b) cs) noSpan → ⊥
 
 -- the bow that routing gives it
 abbrev pub bowOf : Graph → List Float → List Float → ℕ → ℕ → ℕ → Float
-bowOf g xs ys k a b = let cs = frameOf g xs ys .centres in bend (chord cs a b) cs (searched g xs ys k a b)
+bowOf g xs ys k a b = bend (chord (centresOf g xs ys) a b) (centresOf g xs ys) (searched g xs ys k a b)
 
 pub record BowExact (g : Graph) (xs ys : List Float) (k a b : ℕ) : Type 0 where
-  pub sure : StraightWhen g (frameOf g xs ys .centres) a b → bowOf g xs ys k a b ≡ f0
-  pub only : isZero (bowOf g xs ys k a b) ≡ true → StraightWhen g (frameOf g xs ys .centres) a b
+  pub sure : StraightWhen g (centresOf g xs ys) a b → bowOf g xs ys k a b ≡ f0
+  pub only : isZero (bowOf g xs ys k a b) ≡ true → StraightWhen g (centresOf g xs ys) a b
   -- where arrow k leads from a to b, its curve is the one with this bow
-  pub drawn : ArrowLeads g a b k → joined (frameOf g xs ys) (numberedAt (frameOf g xs ys) k) ≡ withBow (chord (frameOf g xs ys .centres) a b) (bowOf g xs ys k a b)
+  pub drawn : ArrowLeads g a b k → joined (frameOf g xs ys) (arrowIn g xs ys k) ≡ withBow (chord (centresOf g xs ys) a b) (bowOf g xs ys k a b)
 
 -- ---- what `route` leaves
 
@@ -103,11 +109,11 @@ pub record BowExact (g : Graph) (xs ys : List Float) (k a b : ℕ) : Type 0 wher
 abbrev pub pointsAt : Call → ℕ → Float
 pointsAt c e = getD (recordAt c (recordNumberOf c e)) 1 nan
 
--- arrow e is to be straight, at the centres of the call
+-- when arrow e is straight, at the centres of the call
 abbrev pub StraightAt : Call → ℕ → Type 0
-StraightAt c e = let a = arrowAt (graph c) e in StraightWhen (graph c) (frameOf (graph c) (c .xs) (c .ys) .centres) (a .source) (a .target)
+StraightAt c e = let a = arrowAt (graph c) e in StraightWhen (graph c) (frame c .centres) (a .source) (a .target)
 
--- two points exactly then, else three
+-- two points exactly when `StraightAt` holds, else three
 pub record CurveExact (c : Call) (e : ℕ) : Type 0 where
   pub line : StraightAt c e → pointsAt c e ≡ f2
   pub only : pointsAt c e ≡ f2 → StraightAt c e
@@ -116,7 +122,10 @@ pub record CurveExact (c : Call) (e : ℕ) : Type 0 where
 -- ---- the claim: of every graph, and so of the meaning of every accepted sheet, at all centres; of every call of `route` that is answered
 
 pub record ReverseArrow : Type 0 where
-  pub search : (g : Graph) (xs ys : List Float) (k a b : ℕ) → TwoStates g a b → SearchExact g xs ys k a b
+  -- of all a and b, and so of any two different states
+  pub search : (g : Graph) (xs ys : List Float) (k a b : ℕ) → SearchExact g xs ys k a b
+  pub itself : (g : Graph) (xs ys : List Float) (k a b i : ℕ) → (a ≡ b → ⊥) → ArrowLeads g a b i → NeverItself g xs ys k a b i
   pub leftOut : (g : Graph) (xs ys : List Float) (k a b : ℕ) → a < length (g .states) → b < length (g .states) → LeftOutUnseen g xs ys k a b
-  pub bow : (g : Graph) (xs ys : List Float) (k a b : ℕ) → TwoStates g a b → BowExact g xs ys k a b
+  pub bow : (g : Graph) (xs ys : List Float) (k a b : ℕ) → BowExact g xs ys k a b
+  -- of every arrow from a state to another
   pub curve : (c : Call) → Answered c → (e : ℕ) → Between (graph c) e → CurveExact c e

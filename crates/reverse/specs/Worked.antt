@@ -43,11 +43,11 @@ worked-search = refl
 -- ---- the first call of `worked_demand`: arrows 0 and 1 are a pair, arrow 2 is straight
 
 pub record WorkedCurves : Type 0 where
-  -- arrow 1 leads back, so arrow 0 has three points and is not to be straight
+  -- arrow 1 leads back: arrow 0 has three points and is not straight
   pub back : SomeArrow (graph first) 1 0
   pub arc : pointsAt first 0 ≡ f3
   pub bent : StraightAt first 0 → ⊥
-  -- arrow 2 has two points, so none leads back and no blocked interval has lo < 0 < hi
+  -- arrow 2 has two points: none leads back, and no blocked interval has lo < 0 < hi
   pub line : pointsAt first 2 ≡ f2
   pub straight : StraightAt first 2
 

@@ -113,7 +113,7 @@ pub record Computed : Type 0 where
   pub paths-ok : pathsWritable smallRecords ≡ true
 
 pub computed : Computed
-unfolding flatMap trailingZeros LawsBest.best LawsBest.totalFrom LawsCounting.howMany LawsFilter.filterBy LawsFlat.table LawsLoops.stepsFrom LawsLoops.up LawsLoops.down LawsLoops.anyFor LawsLoops.anyUp LawsLoops.over LawsRun.run LawsSort.insert LawsSort.sorted LawsZip.zipBy RootRoot.tryDigits RootRoot.wholeRoot RootRoot.nearestRoot RootRoot.scale RootRoot.rootBits FloatStandins.rootOf FloatStandins.root FloatStandins.round FloatStandins.reduced FloatStandins.series FloatStandins.sin FloatStandins.cos FloatStandins.arcSeries FloatStandins.arctangentOf FloatStandins.quarter FloatStandins.atan2 TextUtf8.payload TextUtf8.codesFrom TextDigits.digitsBy TextDigits.digits LawsAny.anyOf LabelLabel.charWidth LabelLabel.lineWidth LabelLabel.widerLine ShapeClipping.test ShapeClipping.side ShapeClipping.meets ShapeClipping.segmentHitsRect ShapeCurves.at ShapeCurves.tangent ShapePlane.unitOr ShapePlane.overlaps ShapePlane.touches ShapePlane.spanning ShapePlane.outside TraceTraces.sample TraceTraces.samples TraceTraces.boundsOf TraceTraces.traceOf TraceTraces.foreign TraceTraces.anySegment TraceTraces.hitsRect FreeBlocked.intervals FreeChords.chord FreeChords.othersFrom FreeFree.insideSome BowBend.singleBow BowBend.bend BowLeads.leads BowBetween.straight BowBetween.withBow BowBetween.between SpotLabels.placeLabel SpotLabels.labelled SpotSpots.normal SpotSpots.isUp SpotSpots.upper SpotSpots.lineSpot SpotSpots.labelSpots PlaceScene.near26 PlaceScene.struck PlaceScene.boxCost PlaceTurn.boxAt RoutingRouting.numberedFrom RoutingRouting.kept RoutingRouting.joined RoutingRouting.routes RoutingRouting.firstScene RoutingRouting.order RoutingRouting.drawing RoutingRouting.records RoutingSheets.frameOf ClutterClutter.crossings ClutterClutter.near24 ClutterClutter.collides ClutterClutter.collisions ClutterClutter.clutterOf SheetMeaning.startFrom RingRing.largest RingRing.aroundRing RingRing.ringed ColumnsColumns.successors ColumnsColumns.elem ColumnsColumns.discover ColumnsColumns.explore ColumnsColumns.columnsAfter ColumnsColumns.reached ColumnsColumns.unreached ColumnsColumns.concat ColumnsColumns.columns SweepSweeps.centreColumn SweepSweeps.otherEnd SweepSweeps.neighbours SweepSweeps.slotTotal SweepSweeps.barycentre SweepSweeps.orderedColumn SweepSweeps.arrange SweepSweeps.sweepDown SweepSweeps.sweepUp SweepSweeps.fourSweeps SweepSweeps.swept LayeredLayered.columnGap LayeredLayered.row LayeredLayered.columnOf LayeredLayered.layeredXs LayeredLayered.layeredYs FitFit.statePoints FitFit.statesPoints FitFit.drawnPoints FitFit.covered FitFit.drawingBounds FitFit.shifted LayoutLayout.layers LayoutLayout.ring LayoutLayout.clutterAt LayoutLayout.isDense LayoutLayout.isTangled LayoutLayout.chosen LayoutLayout.fitted LayoutLayout.layoutOf NumberNumber.roundedSize NumberNumber.minusText NumberNumber.fraction NumberNumber.decimal NumberNumber.numText SvgPaths.headOf SvgPaths.pointText SvgPaths.pointsText SvgPaths.moreText SvgPaths.pathText SvgPaths.curveText SvgPaths.headText SvgPaths.pointsWritable SvgPaths.pathWritable LawsEvery.every TotalsTotals.totalsOf LinesLines.pathLine LinesLines.pathsText LinesLines.pathsOf LinesLines.fieldText LinesLines.fieldsText LinesLines.bodyText LinesLines.lineText LinesLines.linesText LinesLines.fieldWritable LinesLines.fieldsWritable LinesLines.lineWritable LinesLines.linesWritable LinesLines.starts LinesLines.listLines LinesLines.pathsWritable LinesLines.statesFrom LinesLines.listText LinesLines.listWritable DrawDrawn.farCentre Ieee.add Ieee.sub Ieee.mul Ieee.div Ieee.rem Ieee.neg Ieee.lt Ieee.le Ieee.eq Ieee.ne Ieee.ofInt Ieee.round Ieee.size Ieee.span Ieee.climb Ieee.units Ieee.odd Ieee.sum Ieee.ofBits Ieee.ofFields Ieee.toBits Ieee.toUnsigned Ieee.isNan BeyondBeyond.isBeyond BeyondBeyond.beyond LayoutLayout.takesRing PlanMeasured.anyBeyond PlanMeasured.measured PlanMeasured.layoutBeyond ShapePlane.extended
+unfolding flatMap trailingZeros LawsBest.best LawsBest.totalFrom LawsCounting.howMany LawsFilter.filterBy LawsFlat.table LawsLoops.stepsFrom LawsLoops.up LawsLoops.down LawsLoops.over LawsRun.run LawsSort.insert LawsSort.sorted LawsZip.zipBy RootRoot.tryDigits RootRoot.wholeRoot RootRoot.nearestRoot RootRoot.scale RootRoot.rootBits FloatStandins.rootOf FloatStandins.root FloatStandins.round FloatStandins.reduced FloatStandins.series FloatStandins.sin FloatStandins.cos FloatStandins.arcSeries FloatStandins.arctangentOf FloatStandins.quarter FloatStandins.atan2 TextUtf8.payload TextUtf8.codesFrom TextDigits.digitsBy TextDigits.digits LawsAny.anyOf LabelLabel.charWidth LabelLabel.lineWidth LabelLabel.widerLine ShapeClipping.test ShapeClipping.side ShapeClipping.meets ShapeClipping.segmentHitsRect ShapeCurves.at ShapeCurves.tangent ShapePlane.unitOr ShapePlane.overlaps ShapePlane.touches ShapePlane.spanning ShapePlane.outside TraceTraces.sample TraceTraces.samples TraceTraces.boundsOf TraceTraces.traceOf TraceTraces.foreign TraceTraces.anySegment TraceTraces.hitsRect FreeBlocked.intervals FreeChords.chord FreeChords.othersFrom FreeFree.insideSome BowBend.singleBow BowBend.bend BowLeads.leads BowBetween.straight BowBetween.withBow BowBetween.between SpotLabels.placeLabel SpotLabels.labelled SpotSpots.normal SpotSpots.isUp SpotSpots.upper SpotSpots.lineSpot SpotSpots.labelSpots PlaceScene.near26 PlaceScene.struck PlaceScene.boxCost PlaceTurn.boxAt RoutingRouting.numberedFrom RoutingRouting.kept RoutingRouting.joined RoutingRouting.routes RoutingRouting.firstScene RoutingRouting.order RoutingRouting.drawing RoutingRouting.records RoutingSheets.frameOf ClutterClutter.crossings ClutterClutter.near24 ClutterClutter.collides ClutterClutter.collisions ClutterClutter.clutterOf SheetMeaning.startFrom RingRing.largest RingRing.aroundRing RingRing.ringed ColumnsColumns.successors ColumnsColumns.elem ColumnsColumns.discover ColumnsColumns.explore ColumnsColumns.columnsAfter ColumnsColumns.reached ColumnsColumns.unreached ColumnsColumns.concat ColumnsColumns.columns SweepSweeps.centreColumn SweepSweeps.otherEnd SweepSweeps.neighbours SweepSweeps.slotTotal SweepSweeps.barycentre SweepSweeps.orderedColumn SweepSweeps.arrange SweepSweeps.sweepDown SweepSweeps.sweepUp SweepSweeps.fourSweeps SweepSweeps.swept LayeredLayered.columnGap LayeredLayered.row LayeredLayered.columnOf LayeredLayered.layeredXs LayeredLayered.layeredYs FitFit.statePoints FitFit.statesPoints FitFit.drawnPoints FitFit.covered FitFit.drawingBounds FitFit.shifted LayoutLayout.layers LayoutLayout.ring LayoutLayout.clutterAt LayoutLayout.isDense LayoutLayout.isTangled LayoutLayout.chosen LayoutLayout.fitted LayoutLayout.layoutOf NumberNumber.roundedSize NumberNumber.minusText NumberNumber.fraction NumberNumber.decimal NumberNumber.numText SvgPaths.headOf SvgPaths.pointText SvgPaths.pointsText SvgPaths.moreText SvgPaths.pathText SvgPaths.curveText SvgPaths.headText SvgPaths.pointsWritable SvgPaths.pathWritable LawsEvery.every TotalsTotals.totalsOf LinesLines.pathLine LinesLines.pathsText LinesLines.pathsOf LinesLines.fieldText LinesLines.fieldsText LinesLines.bodyText LinesLines.lineText LinesLines.linesText LinesLines.fieldWritable LinesLines.fieldsWritable LinesLines.lineWritable LinesLines.linesWritable LinesLines.starts LinesLines.listLines LinesLines.pathsWritable LinesLines.statesFrom LinesLines.listText LinesLines.listWritable DrawDrawn.farCentre Ieee.add Ieee.sub Ieee.mul Ieee.div Ieee.rem Ieee.neg Ieee.lt Ieee.le Ieee.eq Ieee.ne Ieee.ofInt Ieee.round Ieee.size Ieee.span Ieee.climb Ieee.units Ieee.odd Ieee.sum Ieee.ofBits Ieee.ofFields Ieee.toBits Ieee.toUnsigned Ieee.isNan BeyondBeyond.isBeyond BeyondBeyond.beyond LayoutLayout.takesRing PlanMeasured.anyBeyond PlanMeasured.measured PlanMeasured.layoutBeyond ShapePlane.extended
 computed = record {
   small = record { laid = refl; within = refl; near = refl; single = refl; text = refl; text-ok = refl };
   none = record { laid = refl; within = refl; near = refl; single = refl; text = refl; text-ok = refl };

@@ -75,7 +75,7 @@ pub struct Case {
     text: Vec<u8>,
 }
 
-/// A sheet with the lines that an arrow has at most, and its bytes with the records in any order.
+/// A sheet with the lines that an arrow has at most, and its bytes with the records in random order.
 pub struct Made {
     pub lines: usize,
     pub sheet: Sheet,
@@ -83,6 +83,7 @@ pub struct Made {
 }
 
 impl Made {
+    /// A random sheet whose first state is a start.
     pub fn new(rng: &mut Random, states: usize, arrows: usize, lines: usize) -> Made {
         let sheet = from_first(rng, Size { states, arrows, lines, characters: 12 });
         let bytes = shuffled(rng, &sheet);
@@ -96,8 +97,10 @@ pub fn sheets() -> [Made; 3] {
     [(10, 20, 2), (30, 80, 3), (64, 256, 8)].map(|(states, arrows, lines)| Made::new(rng, states, arrows, lines))
 }
 
+/// What the tables call them.
 const NAMES: [&str; 3] = ["10 states, 20 arrows", "30 states, 80 arrows", "64 states, 256 arrows, 8 lines"];
 
+/// The three sheets with all that the calls are given.
 pub fn cases() -> Vec<Case> {
     NAMES.into_iter().zip(sheets()).map(|(name, made)| Case::new(name, made)).collect()
 }
@@ -124,6 +127,7 @@ macro_rules! theirs {
 }
 
 impl Case {
+    /// With the centres of the sheet's layout by Auto.
     pub fn new(name: &'static str, made: Made) -> Case {
         let (sheet, lines) = (made.bytes, made.lines);
         let l = hardware::layout(&sheet, 0, 64, 64).unwrap();

@@ -24,22 +24,29 @@ pub fn each() {
     }
 }
 
-/// The counts of a run of [`each`], in its order.
-fn counted() -> Vec<f64> {
+/// What callgrind writes of `oracle bench` with these words.
+pub fn callgrind(options: &[&str], words: &[&str]) -> String {
     let file = std::env::temp_dir().join(format!("murshogi-counts-{}", std::process::id()));
     let status = Command::new("valgrind")
-        .args(["--tool=callgrind", "--toggle-collect=murshogi_counted", "--dump-after=murshogi_counted"])
-        .args(["--combine-dumps=yes", "--dump-line=no"])
+        .args(["--tool=callgrind", "--toggle-collect=murshogi_counted", "--dump-line=no"])
+        .args(options)
         .arg(format!("--callgrind-out-file={}", file.display()))
         .arg(std::env::current_exe().unwrap())
-        .args(["bench", "each"])
+        .arg("bench")
+        .args(words)
         .stderr(Stdio::null())
         .status()
         .expect("valgrind is run");
     assert!(status.success(), "valgrind failed");
     let text = std::fs::read_to_string(&file).unwrap();
     std::fs::remove_file(&file).unwrap();
-    text.lines()
+    text
+}
+
+/// The counts of a run of [`each`], in its order.
+fn counted() -> Vec<f64> {
+    callgrind(&["--dump-after=murshogi_counted", "--combine-dumps=yes"], &["each"])
+        .lines()
         .filter_map(|l| l.strip_prefix("totals: "))
         .map(|n| n.trim().parse().unwrap())
         .filter(|n| *n > 0.0)

@@ -1,14 +1,13 @@
-//! The search for the reverse arrow as a part of routing: instructions, counted by callgrind one by one.
+//! The search for the reverse arrow as a part of a call of `route`: the instructions of its steps counted by callgrind, what is around them estimated.
 
 use std::collections::HashMap;
-use std::process::{Command, Stdio};
 
 use super::calls::{Call, Case, Made, figure, sheets};
-use super::counts::murshogi_counted;
+use super::counts::{callgrind, murshogi_counted};
 use crate::random::Random;
 use crate::sheet::Sheet;
 
-/// The lines that an arrow has at most, sheet by sheet.
+/// The lines that an arrow has at most, sheet by sheet. Each sheet has ends of its own.
 const LINES: [usize; 5] = [0, 1, 2, 4, 8];
 
 /// 64 states and 256 arrows; with 8 lines the largest sheet of the other tables.
@@ -28,19 +27,8 @@ pub fn routed(lines: usize) {
 
 /// How often each instruction is executed, by its address.
 fn counted(lines: usize) -> HashMap<u64, u64> {
-    let file = std::env::temp_dir().join(format!("murshogi-search-{}", std::process::id()));
-    let status = Command::new("valgrind")
-        .args(["--tool=callgrind", "--toggle-collect=murshogi_counted", "--dump-instr=yes", "--dump-line=no"])
-        .args(["--compress-strings=no", "--compress-pos=no"])
-        .arg(format!("--callgrind-out-file={}", file.display()))
-        .arg(std::env::current_exe().unwrap())
-        .args(["bench", "routed", &lines.to_string()])
-        .stderr(Stdio::null())
-        .status()
-        .expect("valgrind is run");
-    assert!(status.success(), "valgrind failed");
-    let text = std::fs::read_to_string(&file).unwrap();
-    std::fs::remove_file(&file).unwrap();
+    let options = ["--dump-instr=yes", "--compress-strings=no", "--compress-pos=no"];
+    let text = callgrind(&options, &["routed", &lines.to_string()]);
     let mut counts = HashMap::new();
     let mut callee = false;
     for line in text.lines() {
@@ -101,10 +89,13 @@ fn searches(sheet: &Sheet) -> [Calls; 2] {
     calls
 }
 
-/// Instructions that a call is taken to have besides its steps: the most that the compiled code has.
+/// Instructions that a call is taken to have besides its steps, the look at the target behind it included: somewhat
+/// more than the compiled code has on these sheets.
 const AROUND: u64 = 15;
+/// A step has seven instructions, in the loop of the first call and in that of the later ones.
+const STEPS: usize = 14;
 /// The search is made for 9, and again where the curves are laid.
-const TIMES: u64 = 2;
+const TIMES: usize = 2;
 
 /// The table of parts. The instructions of the steps are those that are executed as often as a part of a step is.
 pub fn print() {
@@ -114,9 +105,9 @@ pub fn print() {
         let counts = counted(lines);
         let calls = searches(&sheet_with(lines).sheet);
         let steps: Vec<u64> = counts.values().copied().filter(|n| calls.iter().any(|c| c.parts.contains(n))).collect();
-        assert!(steps.len() == 28, "{} instructions", steps.len());
+        assert!(steps.len() == TIMES * STEPS, "{} instructions", steps.len());
         let whole: u64 = counts.values().sum();
-        let search = steps.iter().sum::<u64>() + TIMES * AROUND * (calls[0].many + calls[1].many);
+        let search = steps.iter().sum::<u64>() + TIMES as u64 * AROUND * (calls[0].many + calls[1].many);
         let thousands = |n: u64| figure(n as f64 / 1000.0);
         println!("| {lines} | {} | {} | {:.2} % |", thousands(whole), thousands(search), 100.0 * search as f64 / whole as f64);
     }
