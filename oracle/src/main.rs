@@ -46,7 +46,7 @@ fn main() {
         #[cfg(all(port = "murshogi", not(test)))]
         ["bench", "search"] => bench::search::print(),
         #[cfg(all(port = "murshogi", not(test)))]
-        ["bench", "routed", lines] => bench::search::routed(lines.parse().unwrap()),
+        ["bench", "routed", name] => bench::search::routed(name),
         #[cfg(all(port = "murshogi", not(test)))]
         ["bench", "stack"] => bench::stack::print(),
         #[cfg(all(port = "murshogi", not(test)))]

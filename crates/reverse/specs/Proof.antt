@@ -3,14 +3,16 @@ use mathlib.Core.Path.{_≡_, refl, sym, ap, ap₂, _∙_}
 use mathlib.Core.Bool.{Bool, true, false, not, cond, _&&_, _||_}
 use mathlib.Core.List.{List, [], _∷_, map}
 use Prim.Native.Nat.{ℕ, _<_}
+use native.Mathlib.Omega.{arith}
 use borrow.Author.Tests.{eqb-true, eq-eqb, ne-eqb, lt-ltb}
 use lib.Dec.{eqb}
-use lib.ListN.{length, getD}
+use lib.ListN.{length, getD, length-map}
 use lib.Ieee.{Float, nan, ofBits}
 use lib.Ieee as Ieee
-use Rattle.laws.specs.Any.{anyOf, Somewhere, some-at, at-some, any-without, any-kept, any-map}
+use Rattle.laws.specs.Any.{anyOf, Somewhere, some-at, at-some, none-at, any-without, any-kept, any-map, none-up, up-none}
 use Rattle.laws.specs.Bools.{clash, and-both, not-holds}
 use Rattle.laws.specs.Cases.{by-bool}
+use Rattle.laws.specs.Lists.{map-at}
 use Rattle.float.specs.Ops.{eq}
 use Rattle.float.specs.Constants.{f0, f2, f3}
 use Rattle.sheet.specs.Sheet.{Arrow, Graph}
@@ -27,14 +29,14 @@ use Rattle.bend.specs.Bend.{bend}
 use Rattle.bend.specs.Exactly.{isZero, zero-zero, straight-exactly}
 use Rattle.bend.specs.Between.{straight, bowed, withBow, between}
 use Rattle.records.specs.Records.{cornersOf}
-use Rattle.routing.specs.Routing.{isPaired, joined, numberedAt, isKeptIn}
+use Rattle.routing.specs.Routing.{Frame, Numbered, noEnds, isPaired, joined, numberedAt, isKeptIn}
 use Rattle.routing.specs.Sheets.{endsOf, endsBy, frameOf}
 use Rattle.routing_laws.specs.Agree.{arrow-inside, arrow-ends, arrow-kept, arrow-apart}
 use Rattle.routing_laws.specs.Demand.{Stroke, strokeOf, strokeBy, records-stroke}
 use Rattle.beyond.specs.Beyond.{pairBeyond, isBeyond}
 use Rattle.demand3.specs.Demand.{Call, Answered, graph, frame, sizes, Between}
 use Rattle.demand3.specs.Proof.{pastRecords, recordDrawn, arrow-record, arrow-only}
-use Rattle.reverse.specs.Reverse.{ArrowLeads, SomeArrow, withoutLeftOut, withoutArrow, searched, centresOf, arrowIn, SearchExact, NeverItself, LeftOutUnseen, aroundZero, noSpan, StraightWhen, bowOf, BowExact, pointsAt, CurveExact, ReverseArrow}
+use Rattle.reverse.specs.Reverse.{ArrowLeads, SomeArrow, withoutLeftOut, withoutArrow, searched, centresOf, arrowIn, SearchExact, pairedBefore, NeverItself, LeftOutUnseen, aroundZero, noSpan, StraightWhen, bowOf, BowExact, pointsAt, CurveExact, ReverseArrow}
 
 -- ---- the search
 
@@ -110,6 +112,28 @@ module _ (g : Graph) (xs ys : List Float) (k a b : ℕ) where
           ∙ any-kept (leadsBack a b) (isKept g) (g .arrows) (λ x e. let t = back-ends a b x e in ends-kept x (t .0) (t .1))
           ∙ sym (search-arrows g xs ys k a b);
     }
+
+-- ---- as it was
+
+-- of place k among the sources and the targets
+module _ (arrows : List Ends) (a b k : ℕ) (h : k < length arrows) where
+  tested-alike : eqb (getD (map (λ e. e .source) arrows) k 0) a && eqb (getD (map (λ e. e .target) arrows) k 0) b ≡ leadsFrom a b (getD arrows k noEnds)
+  tested-alike =
+      ap₂ (λ (x y : ℕ). eqb x a && eqb y b) (sym (map-at (λ e. e .source) arrows k noEnds 0 h)) (sym (map-at (λ e. e .target) arrows k noEnds 0 h))
+
+stays-so : (f : Frame) (a : Numbered) → isPaired f a ≡ pairedBefore f a
+unfolding leads
+stays-so f a =
+    let l = f .arrows in
+    let s = a .ends .target in
+    let t = a .ends .source in
+    let n : length (map (λ e. e .source) l) ≡ length l = length-map l (λ e. e .source) in
+    by-bool (anyOf (leadsFrom s t) l)
+    (λ y.
+    let r : Somewhere (leadsFrom s t) l noEnds = some-at (leadsFrom s t) l noEnds y in
+    y ∙ by-bool (pairedBefore f a) sym
+    (λ o. clash (r .holds) (sym (tested-alike l s t (r .place) (r .inside)) ∙ none-up _ 0 _ (r .place) o (omega arith) (omega (arith, r .inside, n)))))
+    (λ y. y ∙ sym (up-none _ 0 _ (λ k i h. let e : k < length l = omega (arith, n) in tested-alike l s t k e ∙ none-at (leadsFrom s t) l k noEnds y e)))
 
 -- ---- the bow
 
@@ -206,4 +230,4 @@ module _ (c : Call) (q : Answered c) (e : ℕ) (w : Between (graph c) e) where
 
 -- for every graph, all centres, and every call that is answered
 pub reverse-arrow : ReverseArrow
-reverse-arrow = record { search = search-exact; itself = never-itself; leftOut = left-out-unseen; bow = bow-exact; curve = curve-exact }
+reverse-arrow = record { search = search-exact; stays = stays-so; itself = never-itself; leftOut = left-out-unseen; bow = bow-exact; curve = curve-exact }

@@ -1,13 +1,15 @@
 -- Document 02, T-03: "For any two different states of the sheet the search says yes exactly when some arrow leads from the second to the first."
--- With it document 01's sentence on `bend`, over two states and the arrows of a sheet. Here is what it says; `reverse-arrow` of Proof proves it.
+-- With it document 01's sentence on `bend`, over two states and the arrows of a sheet. Here is the claim; `reverse-arrow` of Proof proves it.
 use mathlib.Core.Path.{_≡_}
 use mathlib.Core.Bool.{Bool, true, _&&_}
-use mathlib.Core.List.{List, _++_}
+use mathlib.Core.List.{List, _++_, map}
 use Prim.Native.Nat.{ℕ, suc, _<_}
+use lib.Dec.{eqb}
 use lib.ListN.{length, getD, take, drop}
 use lib.Ieee.{Float, nan}
 use Rattle.laws.specs.Any.{Somewhere}
 use Rattle.laws.specs.Filter.{filterBy}
+use Rattle.laws.specs.Loops.{anyUp}
 use Rattle.float.specs.Constants.{f0, f2, f3}
 use Rattle.sheet.specs.Sheet.{Graph}
 use Rattle.sheet.specs.Meaning.{arrowAt, isKept}
@@ -19,7 +21,7 @@ use Rattle.free.specs.Free.{spanFrom, inside}
 use Rattle.bend.specs.Bend.{bend}
 use Rattle.bend.specs.Exactly.{isZero}
 use Rattle.bend.specs.Between.{withBow}
-use Rattle.routing.specs.Routing.{Numbered, isPaired, joined, numberedBy, numberedAt}
+use Rattle.routing.specs.Routing.{Frame, Numbered, isPaired, joined, numberedBy, numberedAt}
 use Rattle.routing.specs.Sheets.{endsBy, frameOf}
 use Rattle.beyond.specs.Beyond.{pairBeyond, isBeyond}
 use Rattle.demand3.specs.Demand.{Call, Answered, recordAt, recordNumberOf, graph, frame, Between}
@@ -60,13 +62,20 @@ abbrev pub arrowIn : Graph → List Float → List Float → ℕ → Numbered
 arrowIn g xs ys k = numberedAt (frameOf g xs ys) k
 
 pub record SearchExact (g : Graph) (xs ys : List Float) (k a b : ℕ) : Type 0 where
-  -- where arrow k leads from a to b, it is the search made for it, for its curve (`drawn`, below) and for 9
+  -- where arrow k leads from a to b, two different states, it is the search made for it, for its curve (`drawn`, below) and for 9
   pub asked : ArrowLeads g a b k → isPaired (frameOf g xs ys) (arrowIn g xs ys k) ≡ searched g xs ys k a b
   pub nine : ArrowLeads g a b k
       → isBeyond (frameOf g xs ys) (arrowIn g xs ys k) ≡ searched g xs ys k a b && pairBeyond (chord (centresOf g xs ys) a b) (centresOf g xs ys)
   -- yes exactly when some arrow leads from b to a
   pub found : searched g xs ys k a b ≡ true → SomeArrow g b a
   pub sure : SomeArrow g b a → searched g xs ys k a b ≡ true
+
+-- "Every answer and every byte stays as it was": the search as it was defined, arrow by arrow over two lists, the sources and the targets
+abbrev pub pairedBefore : Frame → Numbered → Bool
+pairedBefore f a =
+    let sources = map (λ e. e .source) (f .arrows) in
+    let targets = map (λ e. e .target) (f .arrows) in
+    anyUp (λ k. eqb (getD sources k 0) (a .ends .target) && eqb (getD targets k 0) (a .ends .source)) 0 (length sources)
 
 -- Arrow i, from a to another state b, never finds itself: it does not lead from b to a, and without it the search says the same.
 pub record NeverItself (g : Graph) (xs ys : List Float) (k a b i : ℕ) : Type 0 where
@@ -100,7 +109,7 @@ bowOf g xs ys k a b = bend (chord (centresOf g xs ys) a b) (centresOf g xs ys) (
 pub record BowExact (g : Graph) (xs ys : List Float) (k a b : ℕ) : Type 0 where
   pub sure : StraightWhen g (centresOf g xs ys) a b → bowOf g xs ys k a b ≡ f0
   pub only : isZero (bowOf g xs ys k a b) ≡ true → StraightWhen g (centresOf g xs ys) a b
-  -- where arrow k leads from a to b, its curve is the one with this bow
+  -- where arrow k leads from a to b, two different states, its curve is the one with this bow
   pub drawn : ArrowLeads g a b k → joined (frameOf g xs ys) (arrowIn g xs ys k) ≡ withBow (chord (centresOf g xs ys) a b) (bowOf g xs ys k a b)
 
 -- ---- what `route` leaves
@@ -124,6 +133,7 @@ pub record CurveExact (c : Call) (e : ℕ) : Type 0 where
 pub record ReverseArrow : Type 0 where
   -- of all a and b, and so of any two different states
   pub search : (g : Graph) (xs ys : List Float) (k a b : ℕ) → SearchExact g xs ys k a b
+  pub stays : (f : Frame) (a : Numbered) → isPaired f a ≡ pairedBefore f a
   pub itself : (g : Graph) (xs ys : List Float) (k a b i : ℕ) → (a ≡ b → ⊥) → ArrowLeads g a b i → NeverItself g xs ys k a b i
   pub leftOut : (g : Graph) (xs ys : List Float) (k a b : ℕ) → a < length (g .states) → b < length (g .states) → LeftOutUnseen g xs ys k a b
   pub bow : (g : Graph) (xs ys : List Float) (k a b : ℕ) → BowExact g xs ys k a b

@@ -1,34 +1,46 @@
-//! The search for the reverse arrow as a part of a call of `route`: the instructions of its steps counted by callgrind, what is around them estimated.
+//! The search for the reverse arrow as a part of a call of `route`, in instructions: those of its steps as callgrind
+//! sees them, those around the steps estimated.
 
 use std::collections::HashMap;
 
 use super::calls::{Call, Case, Made, figure, sheets};
 use super::counts::{callgrind, murshogi_counted};
+use crate::generate::shuffled;
 use crate::random::Random;
 use crate::sheet::Sheet;
 
-/// The lines that an arrow has at most, sheet by sheet. Each sheet has ends of its own.
-const LINES: [usize; 5] = [0, 1, 2, 4, 8];
+/// The sheets, by the lines that an arrow has at most, and the one with a hub.
+const SHEETS: [&str; 6] = ["0", "1", "2", "4", "8", HUB];
+const HUB: &str = "0, a hub";
 
-/// 64 states and 256 arrows; with 8 lines the largest sheet of the other tables.
-fn sheet_with(lines: usize) -> Made {
-    match lines {
-        8 => sheets().into_iter().last().unwrap(),
-        _ => Made::new(&mut Random::new(19), 64, 256, lines),
+/// 64 states and 256 arrows, each sheet with ends of its own; that of 8 lines is the largest sheet of the other tables.
+/// From the hub, state 0, 128 arrows lead to some of the states, and 128 lead to it from the others.
+fn made(name: &str) -> Made {
+    let rng = &mut Random::new(19);
+    match name {
+        "8" => sheets().into_iter().last().unwrap(),
+        HUB => {
+            let mut sheet = Made::new(rng, 64, 256, 0).sheet;
+            for (i, a) in sheet.arrows.iter_mut().enumerate() {
+                (a.from, a.to) = if i < 128 { (0, (1 + i % 31) as u16) } else { ((32 + i % 32) as u16, 0) };
+            }
+            Made { lines: 0, bytes: shuffled(rng, &sheet), sheet }
+        }
+        lines => Made::new(rng, 64, 256, lines.parse().unwrap()),
     }
 }
 
-/// Routes that sheet once before it is counted, so that its memory is there.
-pub fn routed(lines: usize) {
-    let mut case = Case::new("", sheet_with(lines));
+/// Routes a sheet once before it is counted, so that its memory is there.
+pub fn routed(name: &str) {
+    let mut case = Case::new("", made(name));
     case.port(Call::Route);
     murshogi_counted(&mut || case.port(Call::Route));
 }
 
 /// How often each instruction is executed, by its address.
-fn counted(lines: usize) -> HashMap<u64, u64> {
+fn counted(name: &str) -> HashMap<u64, u64> {
     let options = ["--dump-instr=yes", "--compress-strings=no", "--compress-pos=no"];
-    let text = callgrind(&options, &["routed", &lines.to_string()]);
+    let text = callgrind(&options, &["routed", name]);
     let mut counts = HashMap::new();
     let mut callee = false;
     for line in text.lines() {
@@ -89,26 +101,34 @@ fn searches(sheet: &Sheet) -> [Calls; 2] {
     calls
 }
 
+/// Instructions of each part of a step, as the library is compiled.
+const PARTS: [u64; 3] = [2, 2, 3];
 /// Instructions that a call is taken to have besides its steps, the look at the target behind it included: somewhat
-/// more than the compiled code has on these sheets.
+/// more than the compiled code has on the sheets without a hub.
 const AROUND: u64 = 15;
-/// A step has seven instructions, in the loop of the first call and in that of the later ones.
-const STEPS: usize = 14;
 /// The search is made for 9, and again where the curves are laid.
 const TIMES: usize = 2;
 
-/// The table of parts. The instructions of the steps are those that are executed as often as a part of a step is.
+impl Calls {
+    fn instructions(&self) -> u64 {
+        PARTS.iter().zip(self.parts).map(|(n, times)| n * times).sum::<u64>() + AROUND * self.many
+    }
+}
+
+/// The table of parts. Where no other loop is as long by chance, callgrind has to have seen just the instructions of the
+/// steps, of first and of later calls, as often as the search takes them.
 pub fn print() {
     println!("| lines an arrow, at most | route, thousands | search, thousands | part |");
     println!("|---|---|---|---|");
-    for lines in LINES {
-        let counts = counted(lines);
-        let calls = searches(&sheet_with(lines).sheet);
-        let steps: Vec<u64> = counts.values().copied().filter(|n| calls.iter().any(|c| c.parts.contains(n))).collect();
-        assert!(steps.len() == TIMES * STEPS, "{} instructions", steps.len());
+    for name in SHEETS {
+        let counts = counted(name);
+        let calls = searches(&made(name).sheet);
+        let seen = counts.values().filter(|n| calls.iter().any(|c| c.parts.contains(n))).count();
+        let steps = TIMES * calls.len() * PARTS.iter().sum::<u64>() as usize;
+        assert!(seen == steps || name == HUB, "{seen} instructions for {steps}");
         let whole: u64 = counts.values().sum();
-        let search = steps.iter().sum::<u64>() + TIMES as u64 * AROUND * (calls[0].many + calls[1].many);
+        let search = TIMES as u64 * calls.iter().map(Calls::instructions).sum::<u64>();
         let thousands = |n: u64| figure(n as f64 / 1000.0);
-        println!("| {lines} | {} | {} | {:.2} % |", thousands(whole), thousands(search), 100.0 * search as f64 / whole as f64);
+        println!("| {name} | {} | {} | {:.2} % |", thousands(whole), thousands(search), 100.0 * search as f64 / whole as f64);
     }
 }
