@@ -1,10 +1,10 @@
 -- The claim is not empty: the search on a small sheet, and an answered call of `route` with a pair and a straight arrow. Assumes nothing.
 use mathlib.Core.Path.{_≡_, refl, sym, ap, _∙_}
 use mathlib.Core.Bool.{Bool, true, false}
-use mathlib.Core.List.{List, [], _∷_, map}
+use mathlib.Core.List.{[], _∷_, map}
 use Prim.Native.Nat.{ℕ, _<_}
 use native.Mathlib.Omega.{arith}
-use lib.ListN.{getD, List·getD-map}
+use lib.ListN.{getD}
 use lib.Ieee.{Float, ofInt, round, ofBits}
 use Rattle.laws.specs.Any.{anyOf}
 use Rattle.laws.specs.Bools.{clash}
@@ -12,12 +12,11 @@ use Rattle.float.specs.Ops.{ofNat, eq}
 use Rattle.float.specs.Constants.{f2, f3}
 use Rattle.sheet.specs.Sheet.{Arrow, Graph}
 use Rattle.bend.specs.Leads.{leads}
-use Rattle.routing.specs.Routing.{edgeOf, noItem}
 use Rattle.routing.specs.Sheets.{frameOf, noState}
-use Rattle.demand3.specs.Demand.{graph, turns}
+use Rattle.demand3.specs.Demand.{graph}
 use Rattle.worked_demand.specs.Calls.{first}
 use Rattle.worked_demand.specs.Computed.{first-drawn}
-use Rattle.worked_demand.specs.Worked.{numberLeft, source-is, target-is, first-answered, first-between, worked-demand}
+use Rattle.worked_demand.specs.Worked.{numberLeft, turn-is, source-is, target-is, first-answered, first-between, worked-demand}
 use Rattle.reverse.specs.Reverse.{SomeArrow, searched, pointsAt, StraightAt, CurveExact}
 use Rattle.reverse.specs.Proof.{two-points, three-points, reverse-arrow}
 
@@ -61,7 +60,7 @@ three-is = refl
 
 -- the points of turn t's arrow
 turn-points : (t : ℕ) → pointsAt first (getD (3 ∷ 0 ∷ 1 ∷ 2 ∷ []) t 0) ≡ numberLeft first 1 t
-turn-points t = ap (pointsAt first) (sym (sym (List·getD-map edgeOf (turns first) t noItem) ∙ ap (λ (m : List ℕ). getD m t 0) (worked-demand .turn)))
+turn-points t = ap (pointsAt first) (sym (turn-is first-drawn t))
 
 exact : (e : ℕ) → e < 3 → CurveExact first e
 exact e h = reverse-arrow .curve first first-answered e (first-between e h)

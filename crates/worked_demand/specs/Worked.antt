@@ -98,7 +98,7 @@ module _ {c : Call} {l ps anchors : List ℕ} (d : ComputedCall c l ps anchors) 
   arrows-many : length (graph c .arrows) ≡ 4
   arrows-many = sym (length-map (graph c .arrows) (λ (a : Arrow). a .source)) ∙ ap length (d .sources)
 
-  turn-is : (t : ℕ) → turnArrow c t ≡ getD arrows t 0
+  pub turn-is : (t : ℕ) → turnArrow c t ≡ getD (3 ∷ 0 ∷ 1 ∷ 2 ∷ []) t 0
   turn-is t = sym (List·getD-map edgeOf (turns c) t noItem) ∙ ap (λ (m : List ℕ). getD m t 0) (d .turn)
 
   pub source-is : (k : ℕ) → arrowAt (graph c) k .source ≡ getD (0 ∷ 1 ∷ 0 ∷ 2 ∷ []) k 0

@@ -35,7 +35,7 @@ returns : tie.Need-returns Inv-loop μ-loop
 returns c =
     let a = c .before .before .before .before .before .before .before .args in
     let l = c .before .before .before .loop in
-    searched-hit (now (a .sources)) (now (a .targets)) (a .a) (a .b) (c .before .before .before .before .before .before .before .pre) (l .k) (l .inv) (c .before .before .loop-test .taken) (c .if1 .taken)
+    searched-hit (now (a .sources)) (now (a .targets)) (a .a) (a .b) (c .before .before .before .before .before .before .before .pre) (l .k) (l .inv) (omega (arith, c .before .before .loop-test .taken)) (c .if1 .taken)
 
 add-next-from : tie.Need-add-next-from Inv-loop μ-loop
 add-next-from c = search needs
@@ -55,14 +55,14 @@ loop-again c =
     let l = c .before .before .before .before .loop in
     let n = c .before .before .before .before .before .before .before .before .pre in
     searched-next (now (a .sources)) (now (a .targets)) (a .a) (a .b) n (l .k + 1) (c .next-from2 .result) (omega (arith, c .before .before .before .loop-test .taken))
-    (searched-miss (now (a .sources)) (now (a .targets)) (a .a) (a .b) n (l .k) (l .inv) (c .before .before .before .loop-test .taken) (c .before .if1 .left))
+    (searched-miss (now (a .sources)) (now (a .targets)) (a .a) (a .b) n (l .k) (l .inv) (omega (arith, c .before .before .before .loop-test .taken)) (c .before .if1 .left))
     (c .next-from2 .ensures)
 
 returns-2 : tie.Need-returns-2 Inv-loop μ-loop
 returns-2 c =
     let a = c .before .before .before .before .before .args in
     let l = c .before .loop in
-    searched-end (now (a .sources)) (now (a .targets)) (a .a) (a .b) (c .before .before .before .before .before .pre) (l .k) (l .inv) (c .loop-test .left)
+    searched-end (now (a .sources)) (now (a .targets)) (a .a) (a .b) (c .before .before .before .before .before .pre) (l .k) (l .inv) (omega (arith, c .loop-test .left))
 
 pub leads-spec : {M : Type 1} → statement M
 leads-spec =
