@@ -1,4 +1,4 @@
-/* Murshogi: the calls of document 01 for C. Link target/staticlib/libmurshogi.a (`rt staticlib murshogi`);
+/* Murshogi: the calls of document 01 and its further requests for C. Link target/staticlib/libmurshogi.a (`rt staticlib murshogi`);
  * of a C library it calls memcpy, memmove and memset alone.
  *
  * Each call returns 0, or the number of the refusal (1 to 11). What it is lent is written only where it returns 0;
@@ -80,6 +80,13 @@ uint8_t murshogi_write_num(double v, uint8_t *out, size_t out_len, size_t *lengt
  * not counted); the first four add up to the sheet's arrows. */
 uint8_t murshogi_list(const uint8_t *sheet, size_t sheet_len, uint8_t kind,
                       uint8_t *out, size_t out_len, size_t *length);
+
+/* Writes a sheet afresh, as the editor saves it: header, states in order, arrows in order, each followed by its lines
+ * and each line by its text in pieces of 12 bytes (the last may be shorter, an empty line has none); the bytes written in
+ * length. It means what the given sheet means, is accepted, and is never longer than it, so sheet_len bytes, and
+ * MURSHOGI_SHEET, are always enough. Sheets of equal meaning are written alike. */
+uint8_t murshogi_write_sheet(const uint8_t *sheet, size_t sheet_len,
+                             uint8_t *out, size_t out_len, size_t *length);
 
 #ifdef __cplusplus
 }

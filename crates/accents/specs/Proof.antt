@@ -18,8 +18,8 @@ use Rattle.laws.specs.Refusals.{decide, Clear, clear-none, without, clear-decid
 use Rattle.float.specs.Constants.{f0, f15}
 use Rattle.float.specs.Standins.{max}
 use Rattle.text.specs.Utf8.{wellFormed}
-use Rattle.text.specs.Encode.{encode, Scalar, formed-encode}
-use Rattle.text.specs.Encoded.{encode-length}
+use Rattle.text.specs.Encode.{utf8, Scalar, formed-utf8}
+use Rattle.text.specs.Encoded.{utf8-length}
 use Rattle.sheet.specs.Sheet.{Graph, meaning}
 use Rattle.sheet.specs.Meaning.{noArrow, arrowAt}
 use Rattle.sheet.specs.Refusals.{illLine}
@@ -78,14 +78,14 @@ cut-one : (s : List ℕ) → cut s (length s ∷ []) ≡ s ∷ []
 unfolding cut
 cut-one s = ap (λ (l : List ℕ). l ∷ []) (take-length s)
 
-one-answered : (c : ℕ) → Scalar c → labelSize (encode c) (length (encode c) ∷ []) ≡ values (charWidth c, f15)
+one-answered : (c : ℕ) → Scalar c → labelSize (utf8 c) (length (utf8 c) ∷ []) ≡ values (charWidth c, f15)
 unfolding labelSize decide anyOf totalLength over widerLine
 one-answered c q =
-    let n = length (encode c) in
-    let short : ltb 96 n ≡ false = le-ltb 96 n (omega (arith, encode-length c .1)) in
+    let n = length (utf8 c) in
+    let short : ltb 96 n ≡ false = le-ltb 96 n (omega (arith, utf8-length c .1)) in
     let whole : eqb n (n + 0) ≡ true = eq-eqb n (n + 0) (omega arith) in
-    let formed : wellFormed (encode c) ≡ true = ap wellFormed (sym (append-nil (encode c))) ∙ formed-encode c [] q in
-    rw (short, whole, cut-one (encode c), formed) (ap₂ (λ (w h : Float). values (w, h)) (ap (max f0) (character-width c q) ∙ one-wide c) one-high)
+    let formed : wellFormed (utf8 c) ≡ true = ap wellFormed (sym (append-nil (utf8 c))) ∙ formed-utf8 c [] q in
+    rw (short, whole, cut-one (utf8 c), formed) (ap₂ (λ (w h : Float). values (w, h)) (ap (max f0) (character-width c q) ∙ one-wide c) one-high)
 
 -- ---- accents put into lines
 

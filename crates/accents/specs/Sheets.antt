@@ -10,7 +10,7 @@ use Rattle.laws.specs.Any.{anyOf}
 use Rattle.laws.specs.Every.{every}
 use Rattle.float.specs.Constants.{f0, f12, f15, labelCharWidth, labelWideCharWidth}
 use Rattle.text.specs.Utf8.{wellFormed}
-use Rattle.text.specs.Encode.{encode, Scalar}
+use Rattle.text.specs.Encode.{utf8, Scalar}
 use Rattle.sheet.specs.Sheet.{Graph, meaning}
 use Rattle.sheet.specs.Meaning.{arrowAt}
 use Rattle.sheet.specs.Refusals.{wrongLength, wrongVersion, wrongBytes, wrongChains}
@@ -82,13 +82,13 @@ pub record AccentsTakeNoWidth : Type 0 where
   pub others : (c : ℕ) → (AmongAccents c → ⊥) → charWidth c ≡ cond (ltb c 0x80) labelCharWidth labelWideCharWidth
   pub borders : (charWidth 0x2ff ≡ f12) × (charWidth 0x300 ≡ f0) × (charWidth 0x36f ≡ f0) × (charWidth 0x370 ≡ f12)
   -- what `label_size` answers to a line of one character
-  pub one : (c : ℕ) → Scalar c → labelSize (encode c) (length (encode c) ∷ []) ≡ values (charWidth c, f15)
+  pub one : (c : ℕ) → Scalar c → labelSize (utf8 c) (length (utf8 c) ∷ []) ≡ values (charWidth c, f15)
   -- accents put into a line, before, between or after its characters: it has the other characters that it had, its width, and is well-formed exactly where it was
   pub put : (line l : List ℕ) → WithAccents line l → (bare l ≡ bare line) × (lineWidth l ≡ lineWidth line) × (wellFormed l ≡ wellFormed line)
   -- a line of accents alone has width 0, and counts as a line
   pub alone : (marks : List ℕ) → every accent marks ≡ true
-      → (lineWidth (flatMap encode marks) ≡ f0)
-      × ((l m : List (List ℕ)) → block (l ++ (flatMap encode marks ∷ m)) ≡ record { width = blockWidth (l ++ m); height = blockHeight (suc (length (l ++ m))) })
+      → (lineWidth (flatMap utf8 marks) ≡ f0)
+      × ((l m : List (List ℕ)) → block (l ++ (flatMap utf8 marks ∷ m)) ≡ record { width = blockWidth (l ++ m); height = blockHeight (suc (length (l ++ m))) })
   -- what `label_size` answers is the size of the block of lines;
   pub measured : (text lengths : List ℕ) (a : Float × Float) → labelSize text lengths ≡ values a → a ≡ (block (cut text lengths) .width, block (cut text lengths) .height)
   -- two blocks that it measures and that differ in accents only have the same size;

@@ -10,11 +10,12 @@ use Rattle.laws.specs.Loops.{anyFor, anyUp, over}
 use Rattle.laws.specs.Refusals.{decide}
 use Rattle.float.specs.Constants.{whole}
 use Rattle.text.specs.Ascii.{ascii}
-use Rattle.text.specs.Encode.{encode}
+use Rattle.text.specs.Encode.{utf8}
 use Rattle.sheet.specs.Sheet.{chainBy, metLine, metArrow, met, lineOf, linesFrom, Graph, arrowOf, statesOf, arrowsOf, meaning}
 use Rattle.sheet.specs.Meaning.{arrowAt}
 use Rattle.sheet.specs.Refusals.{repeats, isSet, wrongRecord, wrongBytes, indices, wrongChains, largeArrow, overLimits, illArrow, illFormed}
-use Rattle.sheet.specs.Examples.{header, stateBytes, arrowBytes, lineBytes, textBytes, small, smallGraph, small-means}
+use Rattle.sheet.specs.Records.{header, stateBytes, arrowBytes, lineBytes, textBytes}
+use Rattle.sheet.specs.Examples.{small, smallGraph, small-means}
 use Rattle.label.specs.Accents.{WithAccents, as-it-was, more}
 use Rattle.drawing_text.specs.Worked.{workedListing}
 use Rattle.routing.specs.Routing.{Frame}
@@ -61,7 +62,7 @@ small-accented-accepted = refl
 
 -- the accents put in, those behind the letter first
 line-accented : WithAccents (ascii "a") accentedLine
-unfolding encode flatMap every over
+unfolding utf8 flatMap every over
 line-accented = more [] (0x301 ∷ []) (0x61 ∷ 0xcc ∷ 0x80 ∷ 0xcc ∷ 0x80 ∷ 0xcd ∷ 0xaf ∷ []) refl refl (more (ascii "a") (0x300 ∷ 0x300 ∷ 0x36f ∷ []) [] refl refl as-it-was)
 
 lines-accented : LinesPut (ascii "a" ∷ []) (accentedLine ∷ [])

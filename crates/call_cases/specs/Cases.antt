@@ -1,4 +1,4 @@
--- The cases of the seven calls: whether the answer, and everything that the call leaves in what it is lent, are the definitions'. A lent output is
+-- The cases of the eight calls: whether the answer, and everything that the call leaves in what it is lent, are the definitions'. A lent output is
 -- the middle of a longer one: sixteen places stand before it and more behind it. Before the call every byte is 170 and every number `unset`.
 use mathlib.Core.Path.{_≡_, refl}
 use mathlib.Core.Bool.{Bool, true, false, not, _&&_}
@@ -8,7 +8,7 @@ use lib.Dec.{eqb, leb}
 use lib.ListN.{length, getD, take, drop, replicate}
 use lib.Ieee.{Float, binary64, ofBits, round}
 use Rattle.laws.specs.Loops.{anyUp}
-use Rattle.calls.specs.Calls.{Outcome, values, number, check, labelSize, writeNum, writeNumAfter, route, recordsAfter, textAfter, clutter, layout, xsAfter, ysAfter, list, listAfter}
+use Rattle.calls.specs.Calls.{Outcome, values, number, check, labelSize, writeNum, writeNumAfter, route, recordsAfter, textAfter, clutter, layout, xsAfter, ysAfter, list, listAfter, writeSheet, writeSheetAfter}
 use Rattle.cases.specs.Payload.{payloadByte, wordAt, longAt, floatAt, floatsAt, sizesAt, alike, sameFloat, kindRow, rowRight}
 
 -- ---- the answer
@@ -92,6 +92,14 @@ listIs a by s room text out = wrote a text (list s by room) (around room (listAf
 unfoldable pub listAgrees : ℕ → ℕ → List ℕ → List ℕ → Bool
 listAgrees a by s rest = leb 2 (length rest) && listIs a by s (wordAt rest 0) (drop 2 rest) (replicate 65600 170)
 
+-- ---- write a sheet: the room that is lent, four bytes; the sheet that is written. No case lends more than 65,568 bytes.
+
+unfoldable pub sheetIs : ℕ → List ℕ → ℕ → List ℕ → List ℕ → Bool
+sheetIs a s room text out = wrote a text (writeSheet s room) (around room (writeSheetAfter s) out)
+
+unfoldable pub sheetAgrees : ℕ → List ℕ → List ℕ → Bool
+sheetAgrees a s rest = leb (longAt rest 0) 65568 && (leb 4 (length rest) && sheetIs a s (longAt rest 0) (drop 4 rest) (replicate 65600 170))
+
 -- ---- lay out a sheet: the rooms that are lent for x and for y; the number of states; width and height; the xs, the ys
 
 unfoldable pub laidIs : List ℕ → ℕ × Float × Float → Bool
@@ -166,6 +174,7 @@ called kind a by s rest =
     ∷ kindRow 64 (checkIs a s)
     ∷ kindRow 65 (labelAgrees a s rest)
     ∷ kindRow 66 (numberAgrees a rest)
+    ∷ kindRow 67 (sheetAgrees a s rest)
     ∷ [])
 
 unfoldable pub callAgrees : ℕ → List ℕ → Bool

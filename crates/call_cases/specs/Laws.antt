@@ -10,7 +10,7 @@ use lib.Seq.{length-take-le}
 use lib.Ieee.{Float}
 use Rattle.cases.specs.Payload.{floatAt, floatsAt, rowRight}
 use Rattle.cases.specs.Laws.{each-first}
-use Rattle.call_cases.specs.Cases.{around, called, atCentres, layoutAgrees, listAgrees, checkIs, labelAgrees, numberAgrees}
+use Rattle.call_cases.specs.Cases.{around, called, atCentres, layoutAgrees, listAgrees, checkIs, labelAgrees, numberAgrees, sheetAgrees}
 
 -- the middle has as many places as were lent
 pub lent-many : {A : Type 0} (room k : ℕ) (l : List A) → k ≡ room → 16 + room ≤ length l → length (take k (drop 16 l)) ≡ room
@@ -60,6 +60,10 @@ module _ (a by : ℕ) (s rest : List ℕ) where
   unfolding called rowRight
   kind-66 k e = rw e
 
-  pub no-kind : (k : ℕ) → (k ≡ 60 → ⊥) → (k ≡ 61 → ⊥) → (k ≡ 62 → ⊥) → (k ≡ 63 → ⊥) → (k ≡ 64 → ⊥) → (k ≡ 65 → ⊥) → (k ≡ 66 → ⊥) → called k a by s rest ≡ false
+  pub kind-67 : (k : ℕ) → k ≡ 67 → called k a by s rest ≡ sheetAgrees a s rest
   unfolding called rowRight
-  no-kind k h₀ h₁ h₂ h₃ h₄ h₅ h₆ = rw (ne-eqb k 60 h₀, ne-eqb k 61 h₁, ne-eqb k 62 h₂, ne-eqb k 63 h₃, ne-eqb k 64 h₄, ne-eqb k 65 h₅, ne-eqb k 66 h₆)
+  kind-67 k e = rw e
+
+  pub no-kind : (k : ℕ) → (k ≡ 60 → ⊥) → (k ≡ 61 → ⊥) → (k ≡ 62 → ⊥) → (k ≡ 63 → ⊥) → (k ≡ 64 → ⊥) → (k ≡ 65 → ⊥) → (k ≡ 66 → ⊥) → (k ≡ 67 → ⊥) → called k a by s rest ≡ false
+  unfolding called rowRight
+  no-kind k h₀ h₁ h₂ h₃ h₄ h₅ h₆ h₇ = rw (ne-eqb k 60 h₀, ne-eqb k 61 h₁, ne-eqb k 62 h₂, ne-eqb k 63 h₃, ne-eqb k 64 h₄, ne-eqb k 65 h₅, ne-eqb k 66 h₆, ne-eqb k 67 h₇)

@@ -1,4 +1,4 @@
-// Cases of the seven calls. The answer, 0 or the refusal's number, and the layout's kind, a byte each;
+// Cases of the eight calls. The answer, 0 or the refusal's number, and the layout's kind, a byte each;
 // the length of the sheet, or of a label's text, four bytes; the sheet; and what the call is given
 // besides, with what it must write. A lent output is the middle of a longer one, which holds 170 in
 // every byte, or UNSET in every number, before the call.
@@ -241,6 +241,45 @@ fn list_agrees(answer: u8, by: u8, sheet: &[u8], rest: &[u8]) -> bool
     list_is(answer, by, sheet, room, &rest[2..], &mut out)
 }
 
+// ---- write a sheet
+
+// Writes into the middle of `out`.
+fn sheet_in(sheet: &[u8], room: usize, out: &mut [u8]) -> Written
+    requires { ⌜ 16 + room ≤ length (now out) ⌝ }
+    ensures { λ r. ⌜
+        (C.writtenAs r ≡ C.writeSheet (now (sheet .entry)) room)
+        × (now (out .exit) ≡ S.around room (C.writeSheetAfter (now (sheet .entry))) (now (out .entry)))
+        ⌝ }
+{
+    let end = 16 + room;
+    calls::write_sheet(sheet, &mut out[16..end])
+}
+
+fn sheet_is(answer: u8, sheet: &[u8], room: usize, text: &[u8], out: &mut [u8]) -> bool
+    requires { ⌜ 16 + room ≤ length (now out) ⌝ }
+    ensures { λ r. ⌜ r ≡ S.sheetIs answer (now (sheet .entry)) room (now (text .entry)) (now (out .entry)) ⌝ }
+{
+    let w = sheet_in(sheet, room, out);
+    if !written_is(w, answer, text.len()) {
+        return false;
+    }
+    text_stands(out, text)
+}
+
+fn sheet_agrees(answer: u8, sheet: &[u8], rest: &[u8]) -> bool
+    ensures { λ r. ⌜ r ≡ S.sheetAgrees answer (now (sheet .entry)) (now (rest .entry)) ⌝ }
+{
+    let room = length_at(rest, 0);
+    if room > 65568 {
+        return false;
+    }
+    if rest.len() < 4 {
+        return false;
+    }
+    let mut out = [170u8; 65600];
+    sheet_is(answer, sheet, room, &rest[4..], &mut out)
+}
+
 // ---- lay out a sheet
 
 // Lays out into the middles of `xs` and `ys`.
@@ -468,6 +507,7 @@ fn called(kind: u8, answer: u8, by: u8, sheet: &[u8], rest: &[u8]) -> bool
         64 => check_is(answer, sheet),
         65 => label_agrees(answer, sheet, rest),
         66 => number_agrees(answer, rest),
+        67 => sheet_agrees(answer, sheet, rest),
         _ => false,
     }
 }

@@ -1,3 +1,4 @@
 pub mod Held
 pub mod Routes
 pub mod Lists
+pub mod Writes

@@ -10,6 +10,7 @@ use Rattle.sheet.specs.Refusals.{refusals}
 use Rattle.sheet.specs.Sheet.{meaning, flagsOf}
 use Rattle.sheet.specs.declared.Checked.{Checked}
 use Rattle.sheet.specs.declared.Checked.the-variants as C
+use Rattle.encode.specs.Encode.{encode}
 use Rattle.label.specs.Label.{labelRefusals, cut, blockWidth, blockHeight}
 use Rattle.label.specs.declared.Sized.{Sized}
 use Rattle.label.specs.declared.Sized.the-variants as L
@@ -182,3 +183,19 @@ list s kind room = decide (listRefusals s kind room) number (values (length (lis
 
 unfoldable pub listAfter : List ℕ → ℕ → List ℕ → List ℕ
 listAfter s kind out = decide (listRefusals s kind (length out)) (λ (n : ℕ). out) (onto (listing s kind) out)
+
+-- ---- write a sheet: document 02, T-04
+
+-- "From an accepted sheet it writes a fresh one": the sheet of what the given one means
+abbrev pub freshSheet : List ℕ → List ℕ
+freshSheet s = encode (meaning s)
+
+-- 1 to 6; "A lent buffer too small is answered with 7, as it is for other calls."
+abbrev pub writeRefusals : List ℕ → ℕ → List Refusal
+writeRefusals s room = refusals mainScreen s ++ (refusal 7 (short room (freshSheet s)) ∷ [])
+
+unfoldable pub writeSheet : List ℕ → ℕ → Outcome ℕ
+writeSheet s room = decide (writeRefusals s room) number (values (length (freshSheet s)))
+
+unfoldable pub writeSheetAfter : List ℕ → List ℕ → List ℕ
+writeSheetAfter s out = decide (writeRefusals s (length out)) (λ (n : ℕ). out) (onto (freshSheet s) out)

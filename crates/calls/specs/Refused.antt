@@ -15,7 +15,7 @@ use Rattle.routing.specs.Sheets.{frameOf}
 use Rattle.clutter.specs.Clutter.{clutterOf}
 use Rattle.drawing_text.specs.Lines.{pathsText}
 use Rattle.draw.specs.Drawn.{drawRefusals}
-use Rattle.calls.specs.Calls.{Outcome, values, number, mainScreen, check, labelSize, numRefusals, writeNum, writeNumAfter, drawnOf, numbersOf, routeRefusals, route, recordsAfter, textAfter, clutter, layoutFor, layoutRefusals, layout, xsAfter, ysAfter, listing, listRefusals, list, listAfter}
+use Rattle.calls.specs.Calls.{Outcome, values, number, mainScreen, check, labelSize, numRefusals, writeNum, writeNumAfter, drawnOf, numbersOf, routeRefusals, route, recordsAfter, textAfter, clutter, layoutFor, layoutRefusals, layout, xsAfter, ysAfter, listing, listRefusals, list, listAfter, freshSheet, writeRefusals, writeSheet, writeSheetAfter}
 use Rattle.calls.specs.Decided.{number-exactly, values-exactly, refused-keeps}
 
 -- ---- "Order: 11, 1, 2, 4, 3, 5, 6, 8, 9, 10, 7": of these a call has those that it can meet, each with its cause
@@ -45,6 +45,10 @@ layout-order s kind a b = refl
 
 pub list-order : (s : List ℕ) (kind a : ℕ) → numbersIn (listRefusals s kind a) ≡ refusalOrder
 list-order s kind a = refl
+
+pub write-order : (s : List ℕ) (a : ℕ) → numbersIn (writeRefusals s a) ≡ orderBut (11 ∷ 8 ∷ 9 ∷ 10 ∷ [])
+unfolding filterBy
+write-order s a = refl
 
 -- ---- each number is given under its cause only and whenever no earlier cause holds, the values exactly where no cause holds
 
@@ -83,6 +87,10 @@ pub list-answered : (s : List ℕ) (kind a : ℕ) → GivenExactly (listRefusals
 unfolding list
 list-answered s kind a = answered (listRefusals s kind a) (length (listing s kind))
 
+pub write-answered : (s : List ℕ) (a : ℕ) → GivenExactly (writeRefusals s a) (length (freshSheet s)) (writeSheet s a)
+unfolding writeSheet
+write-answered s a = answered (writeRefusals s a) (length (freshSheet s))
+
 -- ---- left as before: all
 
 pub num-kept : (v : Float) (out : List ℕ) (n : ℕ) → writeNum v out ≡ number n → writeNumAfter v out ≡ out
@@ -108,3 +116,7 @@ layout-kept s kind xs ys n e =
 pub list-kept : (s : List ℕ) (kind : ℕ) (out : List ℕ) (n : ℕ) → list s kind (length out) ≡ number n → listAfter s kind out ≡ out
 unfolding list listAfter
 list-kept s kind out n e = refused-keeps (listRefusals s kind (length out)) (length (listing s kind)) n out _ e
+
+pub write-kept : (s out : List ℕ) (n : ℕ) → writeSheet s (length out) ≡ number n → writeSheetAfter s out ≡ out
+unfolding writeSheet writeSheetAfter
+write-kept s out n e = refused-keeps (writeRefusals s (length out)) (length (freshSheet s)) n out _ e

@@ -1,13 +1,16 @@
-// The calls of document 01, for the main screen. None has a requirement.
+// The calls of document 01 and its further requests, for the main screen. None has a requirement.
 use draw::Drawing;
 use number::Written;
 pub use outputs::LaidOut;
 pub use outputs::RouteAnswer;
 use plan::Planned;
 use records::RECORD_NUMBERS;
+use sheet::Checked;
 ghost use mathlib.Core.Path.{_≡_};
 ghost use lib.ListN.{length};
 ghost use Rattle.sheet.specs.Sheet.{statesOf};
+ghost use Rattle.sheet.specs.Refusals.{checkOf};
+ghost use Rattle.sheet.specs.declared.Checked.the-variants.{Accepted};
 ghost use Rattle.calls.specs.Calls as S;
 ghost use Rattle.calls.specs.Listed as F;
 
@@ -170,5 +173,38 @@ pub fn list(sheet: &[u8], kind: u8, out: &mut [u8]) -> Written
             &mut flags[..n],
             out,
         ),
+    }
+}
+
+// ---- writing a sheet
+
+// Writes an accepted sheet afresh: the bytes written, or 7.
+fn write_accepted(sheet: &[u8], out: &mut [u8]) -> Written
+    requires { ⌜ checkOf S.mainScreen (now sheet) ≡ Accepted ⌝ }
+    ensures { λ r. ⌜
+        (S.writtenAs r ≡ S.writeSheet (now (sheet .entry)) (length (now (out .entry))))
+        × (now (out .exit) ≡ S.writeSheetAfter (now (sheet .entry)) (now (out .entry)))
+        ⌝ }
+{
+    let n = write_sheet::records_for(sheet);
+    let bytes = 16 * (1 + n);
+    if out.len() < bytes {
+        return Written::Refused(7);
+    }
+    write_sheet::write_afresh(sheet, out, n);
+    Written::Length(bytes)
+}
+
+// Writes a sheet afresh into `out`, as the editor saves it: the bytes written, or the number of the refusal.
+pub fn write_sheet(sheet: &[u8], out: &mut [u8]) -> Written
+    ensures { λ r. ⌜
+        (S.writtenAs r ≡ S.writeSheet (now (sheet .entry)) (length (now (out .entry))))
+        × (now (out .exit) ≡ S.writeSheetAfter (now (sheet .entry)) (now (out .entry)))
+        ⌝ }
+{
+    let checked = sheet_check::check_within(sheet, sheet::main_screen());
+    match checked {
+        Checked::Refused(n) => Written::Refused(n),
+        Checked::Accepted => write_accepted(sheet, out),
     }
 }

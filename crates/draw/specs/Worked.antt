@@ -12,7 +12,7 @@ use Rattle.laws.specs.Any.{anyOf}
 use Rattle.float.specs.Constants.{f0, f2e20}
 use Rattle.sheet.specs.Sheet.{chainBy, met, metArrow, metLine, statesOf, arrowsOf}
 use Rattle.sheet.specs.Refusals.{repeats, isSet, wrongRecord, wrongBytes, indices, wrongChains, overLimits, illFormed, mainScreen}
-use Rattle.sheet.specs.Examples.{header, stateBytes}
+use Rattle.sheet.specs.Records.{header, stateBytes}
 use Rattle.routing.specs.Routing.{numberedFrom, kept, records}
 use Rattle.routing.specs.Sheets.{frameOf}
 use Rattle.beyond.specs.Beyond.{beyond}

@@ -21,7 +21,7 @@ use Rattle.float.specs.Constants.{f0, f12, labelCharWidth, labelWideCharWidth}
 use Rattle.float.specs.Standins.{max}
 use Rattle.float.specs.Laws.{Unsigned, add-zero, max-zero, add-unsigned, max-unsigned}
 use Rattle.text.specs.Utf8.{wellFormed, codesFrom, codePoints}
-use Rattle.text.specs.Encode.{encode, Scalar, low, codes-encode}
+use Rattle.text.specs.Encode.{utf8, Scalar, low, codes-utf8}
 use Rattle.text.specs.Encoded.{AllScalar, codes-flat, formed-flat, codes-join, formed-join}
 use Rattle.label.specs.Label.{accent, charWidth, widened, lineWidth, widerLine, blockWidth, blockHeight, block}
 
@@ -74,9 +74,9 @@ width-alone : (c : ℕ) → f0 ⊕ charWidth c ≡ charWidth c
 unfolding ofBits Ieee.add Ieee.sum Ieee.round
 width-alone c = each-width (λ w. f0 ⊕ w ≡ w) refl refl refl c
 
-pub character-width : (c : ℕ) → Scalar c → lineWidth (encode c) ≡ charWidth c
+pub character-width : (c : ℕ) → Scalar c → lineWidth (utf8 c) ≡ charWidth c
 unfolding lineWidth over codesFrom
-character-width c q = ap (over widened f0) (ap codePoints (sym (append-nil (encode c))) ∙ codes-encode c [] q) ∙ width-alone c
+character-width c q = ap (over widened f0) (ap codePoints (sym (append-nil (utf8 c))) ∙ codes-utf8 c [] q) ∙ width-alone c
 
 -- of the characters of two bytes, those from CC 80 to CD AF
 abbrev pub accentBytes : ℕ → ℕ → Bool
@@ -92,9 +92,9 @@ accent-bytes b d h k l =
     (λ (n : 256 * b + d ≤ 0xcdaf).
     rw (le-leb 0xcc80 (256 * b + d) m, le-leb (256 * b + d) 0xcdaf n, le-leb 0x300 (64 * (b - 0xc0) + (d - 0x80)) (omega arith), le-leb (64 * (b - 0xc0) + (d - 0x80)) 0x36f (omega arith))))
 
-encode-two : (b d c : ℕ) → 0xc0 + c / 64 ≡ b → 0x80 + c % 64 ≡ d → 0x80 ≤ c → c < 0x800 → encode c ≡ b ∷ d ∷ []
-unfolding encode
-encode-two b d c p q m n = rw (le-ltb c 0x80 m, lt-ltb c 0x800 n) (ap₂ (λ (x y : ℕ). x ∷ y ∷ []) p q)
+utf8-two : (b d c : ℕ) → 0xc0 + c / 64 ≡ b → 0x80 + c % 64 ≡ d → 0x80 ≤ c → c < 0x800 → utf8 c ≡ b ∷ d ∷ []
+unfolding utf8
+utf8-two b d c p q m n = rw (le-ltb c 0x80 m, lt-ltb c 0x800 n) (ap₂ (λ (x y : ℕ). x ∷ y ∷ []) p q)
 
 two-width : (t : Bool) (c : ℕ) → accent c ≡ t → 0x80 ≤ c → charWidth c ≡ cond t f0 f12
 unfolding charWidth
@@ -104,7 +104,7 @@ two-width false c e m = rw (e, le-ltb c 0x80 m)
 pub two-byte-width : (b d : ℕ) → 0xc2 ≤ b → b ≤ 0xdf → 0x80 ≤ d → d ≤ 0xbf → lineWidth (b ∷ d ∷ []) ≡ cond (accentBytes b d) f0 f12
 two-byte-width b d h i k l =
     let c = 64 * (b - 0xc0) + (d - 0x80) in
-    let e : encode c ≡ b ∷ d ∷ [] = encode-two b d c (omega arith) (omega arith) (omega arith) (omega arith) in
+    let e : utf8 c ≡ b ∷ d ∷ [] = utf8-two b d c (omega arith) (omega arith) (omega arith) (omega arith) in
     ap lineWidth (sym e) ∙ character-width c (low (omega arith)) ∙ two-width (accentBytes b d) c (accent-bytes b d h k l) (omega arith)
 
 -- ---- accents in a line
@@ -175,20 +175,20 @@ none-bare (c ∷ cs) a = rw (and-first (accent c) (every accent cs) a) (none-bar
 
 -- the encoded accents between what stands before and after them
 abbrev pub accented : List ℕ → List ℕ → List ℕ → List ℕ
-accented before marks after = before ++ (flatMap encode marks ++ after)
+accented before marks after = before ++ (flatMap utf8 marks ++ after)
 
 module _ (before marks after : List ℕ) (w : wellFormed before ≡ true) (a : every accent marks ≡ true) where
   -- the line is well-formed exactly where it was
   pub accented-formed : wellFormed (accented before marks after) ≡ wellFormed (before ++ after)
   accented-formed =
-      formed-join before (flatMap encode marks ++ after) w
+      formed-join before (flatMap utf8 marks ++ after) w
       ∙ formed-flat after marks (accents-scalar marks a)
       ∙ sym (formed-join before after w)
 
   pub accented-bare : bare (accented before marks after) ≡ bare (before ++ after)
   accented-bare =
       let keep : ℕ → Bool = λ c. not (accent c) in
-      ap (filterBy keep) (codes-join before (flatMap encode marks ++ after) w ∙ ap (λ (r : List ℕ). codePoints before ++ r) (codes-flat after marks (accents-scalar marks a)))
+      ap (filterBy keep) (codes-join before (flatMap utf8 marks ++ after) w ∙ ap (λ (r : List ℕ). codePoints before ++ r) (codes-flat after marks (accents-scalar marks a)))
       ∙ filter-join keep (codePoints before) (marks ++ codePoints after)
       ∙ ap (λ (r : List ℕ). filterBy keep (codePoints before) ++ r) (filter-join keep marks (codePoints after) ∙ ap (λ (r : List ℕ). r ++ filterBy keep (codePoints after)) (none-bare marks a))
       ∙ sym (ap (filterBy keep) (codes-join before after w) ∙ filter-join keep (codePoints before) (codePoints after))
@@ -213,9 +213,9 @@ module _ (line : List ℕ) where
 
 -- ---- a line of accents alone: width 0, and a line of its block
 
-pub accents-alone : (marks : List ℕ) → every accent marks ≡ true → lineWidth (flatMap encode marks) ≡ f0
+pub accents-alone : (marks : List ℕ) → every accent marks ≡ true → lineWidth (flatMap utf8 marks) ≡ f0
 unfolding lineWidth over codesFrom
-accents-alone marks a = ap lineWidth (sym (append-nil (flatMap encode marks))) ∙ accented-width [] marks [] refl a
+accents-alone marks a = ap lineWidth (sym (append-nil (flatMap utf8 marks))) ∙ accented-width [] marks [] refl a
 
 line-unsigned : (line : List ℕ) → Unsigned (lineWidth line)
 unfolding lineWidth
@@ -226,14 +226,14 @@ unfolding widerLine
 widest-unsigned lines = over-keeps Unsigned widerLine (λ w line u. max-unsigned w (lineWidth line) u (line-unsigned line)) f0 lines zero-unsigned
 
 pub accents-line : (l m : List (List ℕ)) (marks : List ℕ) → every accent marks ≡ true
-    → block (l ++ (flatMap encode marks ∷ m)) ≡ record { width = blockWidth (l ++ m); height = blockHeight (suc (length (l ++ m))) }
+    → block (l ++ (flatMap utf8 marks ∷ m)) ≡ record { width = blockWidth (l ++ m); height = blockHeight (suc (length (l ++ m))) }
 unfolding over widerLine
 accents-line l m marks a =
-    let none : max (blockWidth l) (lineWidth (flatMap encode marks)) ≡ blockWidth l =
+    let none : max (blockWidth l) (lineWidth (flatMap utf8 marks)) ≡ blockWidth l =
     ap (max (blockWidth l)) (accents-alone marks a) ∙ max-zero (blockWidth l) (widest-unsigned l) in
     ap₂ (λ (w h : Float). record { width = w; height = h })
-    (over-join widerLine f0 l (flatMap encode marks ∷ m) ∙ ap (λ (w : Float). over widerLine w m) none ∙ sym (over-join widerLine f0 l m))
-    (ap blockHeight (length-append l (flatMap encode marks ∷ m) ∙ add-suc (length l) (length m) ∙ ap suc (sym (length-append l m))))
+    (over-join widerLine f0 l (flatMap utf8 marks ∷ m) ∙ ap (λ (w : Float). over widerLine w m) none ∙ sym (over-join widerLine f0 l m))
+    (ap blockHeight (length-append l (flatMap utf8 marks ∷ m) ∙ add-suc (length l) (length m) ∙ ap suc (sym (length-append l m))))
   where
     add-suc : (i j : ℕ) → i + suc j ≡ suc (i + j)
     add-suc i j = omega arith

@@ -9,7 +9,7 @@ use Rattle.laws.specs.Loops.{over}
 use Rattle.laws.specs.Refusals.{decide}
 use Rattle.laws.specs.Any.{anyOf}
 use Rattle.text.specs.Utf8.{payload, codesFrom}
-use Rattle.text.specs.Encode.{encode}
+use Rattle.text.specs.Encode.{utf8}
 use Rattle.sheet.specs.Refusals.{mainScreen}
 use Rattle.text.specs.Ascii.{ascii}
 use Rattle.label.specs.Label.{charWidth, lineWidth, widerLine, cut, totalLength, sized}
@@ -49,7 +49,7 @@ lastAccent = 0xcd ∷ 0xaf ∷ []
 
 -- n times U+0300
 abbrev graves : ℕ → List ℕ
-graves n = flatMap encode (replicate n 0x300)
+graves n = flatMap utf8 (replicate n 0x300)
 
 -- `a ↦ b, R` and `␣ ↦ ␣, L`
 abbrev first : List ℕ
@@ -80,5 +80,5 @@ pub worked-labels : T (
     && refuses (graves 49) (98 ∷ []) 5
     && refuses grave (1 ∷ 1 ∷ []) 6
     )
-unfolding sized decide anyOf cut totalLength flatMap encode lineWidth widerLine charWidth payload codesFrom over add mul lt eq ne ofInt round size span climb units odd sum ofBits ofFields toBits isNan
+unfolding sized decide anyOf cut totalLength flatMap utf8 lineWidth widerLine charWidth payload codesFrom over add mul lt eq ne ofInt round size span climb units odd sum ofBits ofFields toBits isNan
 worked-labels = tt

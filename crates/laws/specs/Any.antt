@@ -128,6 +128,11 @@ any-wider p q (x ∷ l) f e = any-cases p x l e (λ t. any-here q x l (f x t)) (
 pub any-narrower : {A : Type 0} (p q : A → Bool) (l : List A) → ((x : A) → p x ≡ true → q x ≡ true) → anyOf q l ≡ false → anyOf p l ≡ false
 any-narrower p q l f e = by-bool (anyOf p l) (λ t. clash (any-wider p q l f t) e) (λ t. t)
 
+pub any-or : {A : Type 0} (p q : A → Bool) (l : List A) → anyOf p l ≡ false → anyOf q l ≡ false → anyOf (λ x. p x || q x) l ≡ false
+unfolding anyOf
+any-or p q [] a b = refl
+any-or p q (x ∷ l) a b = or-none (p x || q x) (anyOf (λ y. p y || q y) l) (or-none (p x) (q x) (any-head p x l a) (any-head q x l b)) (any-or p q l (any-rest p x l a) (any-rest q x l b))
+
 pub any-filter : {A : Type 0} (p q : A → Bool) (l : List A) → anyOf p (filterBy q l) ≡ anyOf (λ x. q x && p x) l
 unfolding anyOf filterBy
 any-filter p q [] = refl

@@ -1,9 +1,9 @@
 -- What stands in a list after a run of values is stored in it from an index on. A store past the end is none, so no law has a side condition
--- but the last, which says where everything is. Assumes nothing.
+-- but the last two, which say where everything is. Assumes nothing.
 use mathlib.Core.Path.{_≡_, refl, sym, ap, _∙_}
 use mathlib.Core.List.{List, [], _∷_, _++_}
 use Prim.Native.Nat.{ℕ, zero, suc, _+_, _≤_, _<_}
-use native.Mathlib.Nat.{add-zero, add-suc, suc-add}
+use native.Mathlib.Nat.{zero-add, add-zero, add-suc, suc-add}
 use native.Mathlib.Omega.{arith}
 use lib.ListN.{length, take, drop, set, length-set, take-append-drop}
 use lib.Seq.{sets, sets-eq, take-set-lt, drop-set-lt}
@@ -62,3 +62,7 @@ module _ {A : Type 0} where
   -- what is before, the run, and what is after it
   pub put-eq : (l : List A) (i : ℕ) (vs : List A) → i + length vs ≤ length l → put l i vs ≡ take i l ++ vs ++ drop (i + length vs) l
   put-eq l i vs h = put-sets l i vs ∙ sets-eq vs l i h
+
+  -- at the front: the run, and what is after it
+  pub put-front : (l vs : List A) → length vs ≤ length l → put l 0 vs ≡ vs ++ drop (length vs) l
+  put-front l vs h = put-eq l 0 vs (omega arith) ∙ ap (λ (i : ℕ). vs ++ drop i l) (zero-add (length vs))

@@ -163,6 +163,14 @@ first-decides {A} refuse answer rs n f =
 pub first-joined : {A : Type 0} (refuse : ℕ → A) (answer : A) (rs qs : List Refusal) (n : ℕ) → First rs n → decide (rs ++ qs) refuse answer ≡ refuse n
 first-joined {A} refuse answer rs qs n f = decide-join rs qs refuse answer ∙ first-decides refuse (decide qs refuse answer) rs n f
 
+-- the number of the first that holds is one of the list's
+standing : (before : List Refusal) (it : Refusal) (after : List Refusal) → isIn (it .number) (numbersIn (before ++ (it ∷ after))) ≡ true
+standing [] it after = rw (eq-eqb (it .number) (it .number) refl)
+standing (r ∷ rs) it after = by-bool (eqb (r .number) (it .number)) (λ t. rw t) (λ t. rw t (standing rs it after))
+
+pub first-listed : (rs : List Refusal) (n : ℕ) → First rs n → isIn n (numbersIn rs) ≡ true
+first-listed rs n f = rw (f .parts, ← (f .numbered)) (standing (f .before) (f .it) (f .after))
+
 -- ---- one of the two is so
 
 pub data FirstOrClear (rs : List Refusal) : Type 0 where

@@ -34,7 +34,7 @@ pub fn chain_length(s: &[u8], first: usize) -> usize
 }
 
 // The place after the bytes of text record k, which start at 16 k + 4.
-fn piece_end(s: &[u8], k: usize) -> usize
+pub fn piece_end(s: &[u8], k: usize) -> usize
     requires { ⌜ k < 65536 ⌝ }
     ensures { λ r. ⌜
         (r ≡ 16 * k + 4 + length (S.piece (now (s .entry)) k))
@@ -55,7 +55,7 @@ fn piece_end(s: &[u8], k: usize) -> usize
 }
 
 // How many bytes the line of record k has.
-fn line_length(s: &[u8], k: usize) -> usize
+pub fn line_length(s: &[u8], k: usize) -> usize
     requires { ⌜ k < 65536 ⌝ }
     ensures { λ r. ⌜ r ≡ length (S.lineOf (now (s .entry)) k) ⌝ }
 {

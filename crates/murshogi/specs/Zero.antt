@@ -17,7 +17,7 @@ use Rattle.drawing_text.specs.Lines.{pathsText}
 use Rattle.routing.specs.Sheets.{frameOf}
 use Rattle.sheet.specs.Sheet.{meaning}
 use Rattle.clutter.specs.Clutter.{clutterOf}
-use Rattle.calls.specs.Calls.{Outcome, values, number, mainScreen, check, labelSize, drawnOf, numbersOf, routeRefusals, route, clutter, numRefusals, writeNum, layoutFor, layoutRefusals, layout, listing, listRefusals, list}
+use Rattle.calls.specs.Calls.{Outcome, values, number, mainScreen, check, labelSize, drawnOf, numbersOf, routeRefusals, route, clutter, numRefusals, writeNum, layoutFor, layoutRefusals, layout, listing, listRefusals, list, freshSheet, writeRefusals, writeSheet}
 use Rattle.murshogi.specs.Exports.{returned}
 
 -- every refusal of a list has a number above 0
@@ -68,3 +68,7 @@ num-zero v out e = zero-values (length (numText v)) (numRefusals v out) refl e
 pub list-zero : (s : List ℕ) (kind room : ℕ) → returned (list s kind room) ≡ 0 → list s kind room ≡ values (length (listing s kind))
 unfolding list
 list-zero s kind room e = zero-values (length (listing s kind)) (listRefusals s kind room) refl e
+
+pub write-zero : (s : List ℕ) (room : ℕ) → returned (writeSheet s room) ≡ 0 → writeSheet s room ≡ values (length (freshSheet s))
+unfolding writeSheet
+write-zero s room e = zero-values (length (freshSheet s)) (writeRefusals s room) refl e

@@ -1,4 +1,4 @@
-// The calls of document 01 for C and Rust, as include/murshogi.h declares them. Each returns 0, or the number of the
+// The calls of document 01 and its further requests for C and Rust, as include/murshogi.h declares them. Each returns 0, or the number of the
 // refusal; what it is lent for values is written only where it returns 0.
 ghost use mathlib.Core.Path.{_≡_};
 ghost use lib.ListN as L;
@@ -143,6 +143,25 @@ pub extern "C" fn murshogi_list(sheet: &[u8], kind: u8, out: &mut [u8], length: 
         × (now (length .exit) ≡ S.heldAfter S.itself listed (now (length .entry))) ⌝ }
 {
     let c = calls::list(sheet, kind, out);
+    match c {
+        number::Written::Length(n) => {
+            *length = n;
+            0
+        }
+        number::Written::Refused(n) => n,
+    }
+}
+
+// Writes a sheet afresh into `out`, as the editor saves it; `length` is the bytes written.
+#[no_mangle]
+pub extern "C" fn murshogi_write_sheet(sheet: &[u8], out: &mut [u8], length: &mut usize) -> u8
+    ensures { λ r.
+        let written = C.writeSheet (now (sheet .entry)) (L.length (now (out .entry))) in
+        ⌜ (r ≡ S.returned written)
+        × (now (out .exit) ≡ C.writeSheetAfter (now (sheet .entry)) (now (out .entry)))
+        × (now (length .exit) ≡ S.heldAfter S.itself written (now (length .entry))) ⌝ }
+{
+    let c = calls::write_sheet(sheet, out);
     match c {
         number::Written::Length(n) => {
             *length = n;

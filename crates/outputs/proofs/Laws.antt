@@ -3,13 +3,12 @@ use mathlib.Core.Path.{_≡_, sym, ap, _∙_, subst}
 use mathlib.Core.Bool.{Bool, true, false, not, _||_}
 use mathlib.Core.List.{List, [], _∷_, _++_, flatMap}
 use Prim.Native.Nat.{ℕ, _+_, _*_, _≤_, _<_}
-use native.Mathlib.Nat.{zero-add}
 use native.Mathlib.Omega.{arith}
 use borrow.Author.Tests.{lt-ltb, le-ltb}
-use lib.ListN.{length, take, drop, length-append}
+use lib.ListN.{length, take, length-append}
 use lib.Seq.{length-take-le}
 use lib.Ieee.{Float}
-use Rattle.laws.specs.Put.{put, put-eq}
+use Rattle.laws.specs.Put.{put, put-front}
 use Rattle.laws.specs.Writers.{Wrote, measured-length, empty, written-fits}
 use Rattle.laws.specs.Refusals.{decide}
 use Rattle.laws.specs.Flat.{table, part, table-more}
@@ -33,11 +32,6 @@ use Rattle.outputs.specs.declared.LaidOut.the-variants as Z
 use Rattle.number.specs.declared.Written.{Written}
 use Rattle.number.specs.declared.Written.the-variants as N
 
--- ---- a run at the front
-
-copied : (l v : List Float) → length v ≤ length l → put l 0 v ≡ onto v l
-copied l v h = put-eq l 0 v (omega arith) ∙ ap (λ (i : ℕ). v ++ drop i l) (zero-add (length v))
-
 -- ---- records
 
 -- record k of a drawing, after those before it
@@ -58,7 +52,7 @@ pub records-onto : (drawing l : List Float) (n : ℕ) → 20 * n ≤ length draw
     → put l 0 (flatMap fields (decodeRecords n drawing)) ≡ onto (take (20 * n) drawing) l
 records-onto drawing l n h w i =
     ap (put l 0) (sym w)
-    ∙ copied l (take (20 * n) drawing) (omega (arith, length-take-le (20 * n) drawing h))
+    ∙ put-front l (take (20 * n) drawing) (omega (arith, length-take-le (20 * n) drawing h))
 
 -- ---- fill
 
@@ -133,7 +127,7 @@ module _ (across down : List Float) (w h : Float) (xs ys : List Float) where
     place-done a b i j e f =
         let k : length down ≤ length ys = omega arith in
         let o = or-none (short (length xs) across) (short (length ys) down) (le-ltb _ _ i) (le-ltb _ _ k) in
-        (rw o, rw o (e ∙ copied xs across i), rw o (f ∙ copied ys down k))
+        (rw o, rw o (e ∙ put-front xs across i), rw o (f ∙ put-front ys down k))
 
 -- ---- listing
 

@@ -18,7 +18,7 @@ use Rattle.sheet.specs.declared.Checked.the-variants.{Accepted}
 use Rattle.sheet.specs.declared.Limits.{Limits}
 use Rattle.sheet.specs.Meaning.{noArrow, arrowAt}
 
-right-length : (s : List ℕ) → wrongLength s ≡ false → length s ≡ 16 * (1 + count s)
+pub right-length : (s : List ℕ) → wrongLength s ≡ false → length s ≡ 16 * (1 + count s)
 right-length s e =
     eqb-true (length s) (16 * (1 + count s))
     (not-false (eqb (length s) (16 * (1 + count s)))

@@ -2,7 +2,7 @@
 use mathlib.Core.Path.{_≡_, refl}
 use mathlib.Core.Bool.{Bool, true, false, _&&_}
 use mathlib.Core.List.{List, [], _∷_, _++_, flatMap}
-use Prim.Native.Nat.{ℕ, zero, suc, _+_, _-_, _/_, _%_, _≤_}
+use Prim.Native.Nat.{ℕ, zero, suc, _≤_}
 use native.Mathlib.Omega.{arith}
 use lib.Dec.{T, eqb}
 use lib.ListN.{length, getD, replicate}
@@ -12,33 +12,13 @@ use Rattle.laws.specs.Refusals.{decide}
 use Rattle.laws.specs.Any.{anyOf}
 use Rattle.text.specs.Ascii.{ascii}
 use Rattle.sheet.specs.Sheet.{kindOf, byteOne, next, fromOf, toOf, firstLine, firstText, piece, chainBy, metLine, metArrow, met, lineOf, linesFrom, Graph, arrowOf, statesOf, arrowsOf, meaning}
+use Rattle.sheet.specs.Records.{u16, zeros, header, stateBytes, arrowBytes, lineBytes, textBytes}
 use Rattle.sheet.specs.Refusals.{repeats, isSet, wrongRecord, wrongBytes, indices, wrongChains, largeArrow, overLimits, illArrow, illFormed, mainScreen, checkOf}
 use Rattle.sheet.specs.Renumber.{Renumbered}
 use Rattle.sheet.specs.declared.Checked.{Checked}
 use Rattle.sheet.specs.declared.Checked.the-variants.{Accepted, Refused}
 
--- ---- a sheet, record by record
-abbrev pub u16 : ℕ → List ℕ
-u16 n = n % 256 ∷ n / 256 ∷ []
-
-abbrev pub zeros : ℕ → List ℕ
-zeros n = replicate n 0
-
--- version 1, the count, the first state and the first arrow
-abbrev pub header : ℕ → ℕ → ℕ → List ℕ
-header n state arrow = u16 1 ++ u16 n ++ u16 state ++ u16 arrow ++ zeros 8
-
-abbrev pub stateBytes : ℕ → ℕ → List ℕ
-stateBytes flags next = 1 ∷ flags ∷ u16 next ++ zeros 12
-
-abbrev pub arrowBytes : ℕ → ℕ → ℕ → ℕ → List ℕ
-arrowBytes next a b line = 2 ∷ 0 ∷ u16 next ++ u16 a ++ u16 b ++ u16 line ++ zeros 6
-
-abbrev pub lineBytes : ℕ → ℕ → List ℕ
-lineBytes next text = 3 ∷ 0 ∷ u16 next ++ u16 text ++ zeros 10
-
-abbrev pub textBytes : ℕ → List ℕ → List ℕ
-textBytes next bytes = 4 ∷ length bytes ∷ u16 next ++ bytes ++ zeros (12 - length bytes)
+-- ---- parts of sheets
 
 -- n states in a row, the first as record k, the last with the index 0
 abbrev pub manyStates : ℕ → ℕ → List ℕ

@@ -8,4 +8,5 @@ pub mod Accepted
 pub mod Once
 pub mod Whole
 pub mod Renumber
+pub mod Records
 pub mod Examples

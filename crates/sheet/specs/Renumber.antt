@@ -8,8 +8,8 @@ use native.Mathlib.Omega.{arith}
 use lib.Dec.{ltb, eqb}
 use borrow.Author.Tests.{ltb-false, eqb-true, eqb-false, ne-eqb, not-false}
 use Rattle.laws.specs.Cases.{by-bool}
-use Rattle.laws.specs.Any.{anyOf, any-head, any-rest, any-join, any-narrower, any-flat}
-use Rattle.laws.specs.Bools.{clash, or-false-left, or-false-right, or-none}
+use Rattle.laws.specs.Any.{anyOf, any-head, any-rest, any-or, any-join, any-narrower, any-flat}
+use Rattle.laws.specs.Bools.{clash, or-false-left, or-false-right}
 use Rattle.sheet.specs.Sheet.{count, kindOf, byteOne, next, fromOf, toOf, firstState, firstArrow, firstLine, firstText, piece, chainBy, chain, stateChain, arrowChain, lineChain, textChain, Met, meet, metAlone, metLine, metArrow, met, State, Arrow, lineOf, linesFrom, arrowOf, stateOf, statesOf, arrowsOf, meaning}
 use Rattle.sheet.specs.Refusals.{isAbove, isOther, wrongChains}
 use Rattle.sheet.specs.Once.{chain-nonzero, right-inside, right-kinds}
@@ -28,11 +28,6 @@ pub record Renumbered (new : ℕ → ℕ) (s t : List ℕ) : Type 0 where
   pub lines : (k : ℕ) → 1 ≤ k → k ≤ count s → kindOf s k ≡ 2 → firstLine t (new k) ≡ new (firstLine s k)
   pub texts : (k : ℕ) → 1 ≤ k → k ≤ count s → kindOf s k ≡ 3 → firstText t (new k) ≡ new (firstText s k)
   pub pieces : (k : ℕ) → 1 ≤ k → k ≤ count s → kindOf s k ≡ 4 → piece t (new k) ≡ piece s k
-
-any-or : {A : Type 0} (p q : A → Bool) (l : List A) → anyOf p l ≡ false → anyOf q l ≡ false → anyOf (λ x. p x || q x) l ≡ false
-unfolding anyOf
-any-or p q [] a b = refl
-any-or p q (x ∷ l) a b = or-none (p x || q x) (anyOf (λ y. p y || q y) l) (or-none (p x) (q x) (any-head p x l a) (any-head q x l b)) (any-or p q l (any-rest p x l a) (any-rest q x l b))
 
 -- lists made of the elements of a list, where each element passes
 module _ {A : Type 0} (new : ℕ → ℕ) (p : ℕ → Bool) where

@@ -27,7 +27,8 @@ use Rattle.text.specs.Ascii.{ascii}
 use Rattle.number.specs.Number.{numText, decimal, roundedSize, minusText, fraction}
 use Rattle.sheet.specs.Sheet as Sheet
 use Rattle.sheet.specs.Refusals as Refusals
-use Rattle.sheet.specs.Examples.{header, stateBytes, emptySheet}
+use Rattle.sheet.specs.Records.{header, stateBytes}
+use Rattle.sheet.specs.Examples.{emptySheet}
 use Rattle.shape.specs.declared.«V».{«V»}
 use Rattle.shape.specs.declared.Rect.{Rect}
 use Rattle.shape.specs.Plane.{vec, rect, overlaps, touches, spanning, unitOr, extended}

@@ -13,8 +13,8 @@ use Rattle.text.specs.Utf8.{Range, to, Awaited, rows, inRange, lookup, b
 use Rattle.text.specs.Table.{not-in}
 
 -- the bytes of the code point c: 7, 11, 16 or 21 bits, six in each byte after the first
-unfoldable pub encode : ℕ → List ℕ
-encode c =
+unfoldable pub utf8 : ℕ → List ℕ
+utf8 c =
     cond (ltb c 0x80) (c ∷ [])
     (cond (ltb c 0x800) ((0xc0 + c / 64) ∷ (0x80 + c % 64) ∷ [])
     (cond (ltb c 0x10000) ((0xe0 + c / 4096) ∷ (0x80 + c / 64 % 64) ∷ (0x80 + c % 64) ∷ [])
@@ -149,9 +149,9 @@ module _ (v c : ℕ) where
   below (high h k) = k
 
   -- the encoded form of a scalar value is one character with that code point
-  pub encode-ends : Scalar c → OneCharacter (some []) v (encode c) c
-  unfolding encode
-  encode-ends q =
+  pub utf8-ends : Scalar c → OneCharacter (some []) v (utf8 c) c
+  unfolding utf8
+  utf8-ends q =
       by-lt c 0x80
       (λ (h : c < 0x80). rw (lt-ltb c 0x80 h) (ends-one h))
       (λ (h : 0x80 ≤ c). by-lt c 0x800
@@ -167,9 +167,9 @@ codes-fresh v u [] = refl
 codes-fresh v u (b ∷ s) = refl
 
 -- Encoded and read again, a scalar value is itself, whatever follows it.
-pub codes-encode : (c : ℕ) (rest : List ℕ) → Scalar c → codePoints (encode c ++ rest) ≡ c ∷ codePoints rest
-codes-encode c rest q = ends-codes rest (encode-ends 0 c q) ∙ ap (λ (l : List ℕ). c ∷ l) (codes-fresh c 0 rest)
+pub codes-utf8 : (c : ℕ) (rest : List ℕ) → Scalar c → codePoints (utf8 c ++ rest) ≡ c ∷ codePoints rest
+codes-utf8 c rest q = ends-codes rest (utf8-ends 0 c q) ∙ ap (λ (l : List ℕ). c ∷ l) (codes-fresh c 0 rest)
 
 -- It is well-formed, and leaves what follows it as it was.
-pub formed-encode : (c : ℕ) (rest : List ℕ) → Scalar c → wellFormed (encode c ++ rest) ≡ wellFormed rest
-formed-encode c rest q = ap isDone (over-join byTable (some []) (encode c) rest ∙ ap (λ (w : Awaited). over byTable w rest) (ends-formed (encode-ends 0 c q)))
+pub formed-utf8 : (c : ℕ) (rest : List ℕ) → Scalar c → wellFormed (utf8 c ++ rest) ≡ wellFormed rest
+formed-utf8 c rest q = ap isDone (over-join byTable (some []) (utf8 c) rest ∙ ap (λ (w : Awaited). over byTable w rest) (ends-formed (utf8-ends 0 c q)))

@@ -13,7 +13,7 @@ use Rattle.laws.specs.Cases.{by-bool, by-lt}
 use Rattle.laws.specs.Loops.{over}
 use Rattle.text.specs.Utf8.{Range, to, Awaited, rows, inRange, lookup, byTable, isDone, wellFormed, codesFrom, codePoints}
 use Rattle.text.specs.Table.{not-in}
-use Rattle.text.specs.Encode.{encode, Scalar, low, high, codes-encode, formed-encode, row-2, row-3, row-4, row-5, row-6, row-7, row-8, row-9}
+use Rattle.text.specs.Encode.{utf8, Scalar, low, high, codes-utf8, formed-utf8, row-2, row-3, row-4, row-5, row-6, row-7, row-8, row-9}
 
 -- what is awaited from w on comes, and no byte is lacking at the end
 abbrev Comes : Awaited → List ℕ → Type 0
@@ -44,26 +44,26 @@ next-comes r row (b ∷ s) e =
 
 -- a text that begins with a scalar value encoded
 data Begins : List ℕ → Type 0 where
-  begins : (c : ℕ) (rest : List ℕ) → Scalar c → Begins (encode c ++ rest)
+  begins : (c : ℕ) (rest : List ℕ) → Scalar c → Begins (utf8 c ++ rest)
 
-begins-as : (c : ℕ) (rest s : List ℕ) → Scalar c → encode c ++ rest ≡ s → Begins s
+begins-as : (c : ℕ) (rest s : List ℕ) → Scalar c → utf8 c ++ rest ≡ s → Begins s
 begins-as c rest s q e = rw (← e) (begins c rest q)
 
 -- ---- the first character, by the number of its bytes; c is its code point
 one : (b : ℕ) (s : List ℕ) → b < 0x80 → Begins (b ∷ s)
-unfolding encode
+unfolding utf8
 one b s h = begins-as b s (b ∷ s) (low (omega arith)) (rw (lt-ltb b 0x80 h))
 
-two-bytes : (c : ℕ) → 0x80 ≤ c → c < 0x800 → encode c ≡ (0xc0 + c / 64) ∷ (0x80 + c % 64) ∷ []
-unfolding encode
+two-bytes : (c : ℕ) → 0x80 ≤ c → c < 0x800 → utf8 c ≡ (0xc0 + c / 64) ∷ (0x80 + c % 64) ∷ []
+unfolding utf8
 two-bytes c h k = rw (le-ltb c 0x80 h, lt-ltb c 0x800 k)
 
-three-bytes : (c : ℕ) → 0x800 ≤ c → c < 0x10000 → encode c ≡ (0xe0 + c / 4096) ∷ (0x80 + c / 64 % 64) ∷ (0x80 + c % 64) ∷ []
-unfolding encode
+three-bytes : (c : ℕ) → 0x800 ≤ c → c < 0x10000 → utf8 c ≡ (0xe0 + c / 4096) ∷ (0x80 + c / 64 % 64) ∷ (0x80 + c % 64) ∷ []
+unfolding utf8
 three-bytes c h k = rw (le-ltb c 0x80 (omega arith), le-ltb c 0x800 h, lt-ltb c 0x10000 k)
 
-four-bytes : (c : ℕ) → 0x10000 ≤ c → encode c ≡ (0xf0 + c / 262144) ∷ (0x80 + c / 4096 % 64) ∷ (0x80 + c / 64 % 64) ∷ (0x80 + c % 64) ∷ []
-unfolding encode
+four-bytes : (c : ℕ) → 0x10000 ≤ c → utf8 c ≡ (0xf0 + c / 262144) ∷ (0x80 + c / 4096 % 64) ∷ (0x80 + c / 64 % 64) ∷ (0x80 + c % 64) ∷ []
+unfolding utf8
 four-bytes c h = rw (le-ltb c 0x80 (omega arith), le-ltb c 0x800 (omega arith), le-ltb c 0x10000 h)
 
 same-two : {a b a′ b′ : ℕ} (rest : List ℕ) → a ≡ a′ → b ≡ b′ → _≡_ {A = List ℕ} (a ∷ b ∷ rest) (a′ ∷ b′ ∷ rest)
@@ -187,23 +187,23 @@ AllScalar (c ∷ cs) = Scalar c × AllScalar cs
 
 -- a text and its code points
 pub record Encoded (s : List ℕ) : Type 0 where
-  pub again : flatMap encode (codePoints s) ≡ s
+  pub again : flatMap utf8 (codePoints s) ≡ s
   pub scalars : AllScalar (codePoints s)
 
 -- a character has one to four bytes
-pub encode-length : (c : ℕ) → (1 ≤ length (encode c)) × (length (encode c) ≤ 4)
-unfolding encode
-encode-length c =
+pub utf8-length : (c : ℕ) → (1 ≤ length (utf8 c)) × (length (utf8 c) ≤ 4)
+unfolding utf8
+utf8-length c =
     by-bool (ltb c 0x80) (λ e. rw e (omega arith, omega arith))
     (λ e. by-bool (ltb c 0x800) (λ f. rw (e, f) (omega arith, omega arith))
     (λ f. by-bool (ltb c 0x10000) (λ g. rw (e, f, g) (omega arith, omega arith)) (λ g. rw (e, f, g) (omega arith, omega arith))))
 
 -- a scalar value and a text after it
-encoded-more : (c : ℕ) (rest : List ℕ) → Scalar c → Encoded rest → Encoded (encode c ++ rest)
+encoded-more : (c : ℕ) (rest : List ℕ) → Scalar c → Encoded rest → Encoded (utf8 c ++ rest)
 unfolding flatMap
 encoded-more c rest q r =
-    let e : codePoints (encode c ++ rest) ≡ c ∷ codePoints rest = codes-encode c rest q in
-    record { again = rw e (ap (λ (x : List ℕ). encode c ++ x) (r .again)); scalars = rw e (q, r .scalars) }
+    let e : codePoints (utf8 c ++ rest) ≡ c ∷ codePoints rest = codes-utf8 c rest q in
+    record { again = rw e (ap (λ (x : List ℕ). utf8 c ++ x) (r .again)); scalars = rw e (q, r .scalars) }
 
 nothing : (s : List ℕ) → length s ≤ 0 → Encoded s
 unfolding flatMap codesFrom
@@ -216,9 +216,9 @@ encoded-by (suc n) s h w = go s h w (λ rest. encoded-by n rest)
   where
     begun : (t : List ℕ) → length t ≤ suc n → wellFormed t ≡ true → Begins t → ((rest : List ℕ) → length rest ≤ n → wellFormed rest ≡ true → Encoded rest) → Encoded t
     begun _ l v (begins c rest q) f =
-        let a : 1 ≤ length (encode c) = encode-length c .0 in
-        let m : length (encode c) + length rest ≤ suc n = rw (length-append (encode c) rest) at l in
-        encoded-more c rest q (f rest (omega arith) (sym (formed-encode c rest q) ∙ v))
+        let a : 1 ≤ length (utf8 c) = utf8-length c .0 in
+        let m : length (utf8 c) + length rest ≤ suc n = rw (length-append (utf8 c) rest) at l in
+        encoded-more c rest q (f rest (omega arith) (sym (formed-utf8 c rest q) ∙ v))
 
     go : (t : List ℕ) → length t ≤ suc n → wellFormed t ≡ true → ((rest : List ℕ) → length rest ≤ n → wellFormed rest ≡ true → Encoded rest) → Encoded t
     go [] l v f = nothing [] (omega arith)
@@ -232,20 +232,20 @@ encoded s w = encoded-by (length s) s (le-refl (length s)) w
 
 -- scalar values encoded one after the other, and what follows them
 module _ (rest : List ℕ) where
-  pub codes-flat : (cs : List ℕ) → AllScalar cs → codePoints (flatMap encode cs ++ rest) ≡ cs ++ codePoints rest
+  pub codes-flat : (cs : List ℕ) → AllScalar cs → codePoints (flatMap utf8 cs ++ rest) ≡ cs ++ codePoints rest
   unfolding flatMap
   codes-flat [] q = refl
   codes-flat (c ∷ cs) q =
-      ap codePoints (append-assoc (encode c) (flatMap encode cs) rest)
-      ∙ codes-encode c (flatMap encode cs ++ rest) (q .0)
+      ap codePoints (append-assoc (utf8 c) (flatMap utf8 cs) rest)
+      ∙ codes-utf8 c (flatMap utf8 cs ++ rest) (q .0)
       ∙ ap (λ (l : List ℕ). c ∷ l) (codes-flat cs (q .1))
 
-  pub formed-flat : (cs : List ℕ) → AllScalar cs → wellFormed (flatMap encode cs ++ rest) ≡ wellFormed rest
+  pub formed-flat : (cs : List ℕ) → AllScalar cs → wellFormed (flatMap utf8 cs ++ rest) ≡ wellFormed rest
   unfolding flatMap
   formed-flat [] q = refl
   formed-flat (c ∷ cs) q =
-      ap wellFormed (append-assoc (encode c) (flatMap encode cs) rest)
-      ∙ formed-encode c (flatMap encode cs ++ rest) (q .0)
+      ap wellFormed (append-assoc (utf8 c) (flatMap utf8 cs) rest)
+      ∙ formed-utf8 c (flatMap utf8 cs ++ rest) (q .0)
       ∙ formed-flat cs (q .1)
 
 -- a well-formed text leaves what follows it as it was

@@ -5,7 +5,7 @@ use lib.ListN.{replicate}
 use lib.Ieee.{Float}
 use Rattle.float.specs.Constants.{f0, whole}
 use Rattle.text.specs.Ascii.{ascii}
-use Rattle.sheet.specs.Examples.{header, stateBytes, arrowBytes, lineBytes, textBytes}
+use Rattle.sheet.specs.Records.{header, stateBytes, arrowBytes, lineBytes, textBytes}
 use Rattle.demand3.specs.Demand.{Call}
 
 -- three states, the first a start; arrow 0 leads from 0 to 1 with the line `a`, arrow 1 from 1 to 0 with the line given, arrow 2 from 0 to 2 with `c`,

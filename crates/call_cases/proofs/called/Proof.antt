@@ -1,7 +1,7 @@
 -- `call_cases::called` meets its contract. Assumes nothing.
 use mathlib.Core.Path.{sym, _∙_}
 use denote.Ref.{now}
-use Rattle.call_cases.specs.Laws.{no-kind, kind-60, kind-61, kind-62, kind-63, kind-64, kind-65, kind-66}
+use Rattle.call_cases.specs.Laws.{no-kind, kind-60, kind-61, kind-62, kind-63, kind-64, kind-65, kind-66, kind-67}
 use Rattle.call_cases.proofs.called.Statement.{statement}
 use Rattle.call_cases.proofs.called.Tie as tie
 
@@ -26,6 +26,9 @@ label-agrees-requires c κs = tt
 number-agrees-requires : tie.Need-number-agrees-requires
 number-agrees-requires c κs = tt
 
+sheet-agrees-requires : tie.Need-sheet-agrees-requires
+sheet-agrees-requires c κs = tt
+
 returns : tie.Need-returns
 returns c = c .at-centres .ensures ∙ sym (kind-60 (c .before .before .before .before .args .answer) (c .before .before .before .before .args .by) (now (c .before .before .before .before .args .sheet)) (now (c .before .before .before .before .args .rest)) (c .before .before .before .before .args .kind) (c .before .match .keys1))
 
@@ -48,7 +51,10 @@ returns-7 : tie.Need-returns-7
 returns-7 c = c .number-agrees .ensures ∙ sym (kind-66 (c .before .before .before .before .args .answer) (c .before .before .before .before .args .by) (now (c .before .before .before .before .args .sheet)) (now (c .before .before .before .before .args .rest)) (c .before .before .before .before .args .kind) (c .before .match .keys7))
 
 returns-8 : tie.Need-returns-8
-returns-8 c = sym (no-kind (c .before .before .before .args .answer) (c .before .before .before .args .by) (now (c .before .before .before .args .sheet)) (now (c .before .before .before .args .rest)) (c .before .before .before .args .kind) (c .match .rest .0 .0 .0 .0 .0 .0 .1) (c .match .rest .0 .0 .0 .0 .0 .1) (c .match .rest .0 .0 .0 .0 .1) (c .match .rest .0 .0 .0 .1) (c .match .rest .0 .0 .1) (c .match .rest .0 .1) (c .match .rest .1))
+returns-8 c = c .sheet-agrees .ensures ∙ sym (kind-67 (c .before .before .before .before .args .answer) (c .before .before .before .before .args .by) (now (c .before .before .before .before .args .sheet)) (now (c .before .before .before .before .args .rest)) (c .before .before .before .before .args .kind) (c .before .match .keys8))
+
+returns-9 : tie.Need-returns-9
+returns-9 c = sym (no-kind (c .before .before .before .args .answer) (c .before .before .before .args .by) (now (c .before .before .before .args .sheet)) (now (c .before .before .before .args .rest)) (c .before .before .before .args .kind) (c .match .rest .0 .0 .0 .0 .0 .0 .0 .1) (c .match .rest .0 .0 .0 .0 .0 .0 .1) (c .match .rest .0 .0 .0 .0 .0 .1) (c .match .rest .0 .0 .0 .0 .1) (c .match .rest .0 .0 .0 .1) (c .match .rest .0 .0 .1) (c .match .rest .0 .1) (c .match .rest .1))
 
 pub called-spec : {M : Type 1} → statement M
 called-spec =
@@ -61,6 +67,7 @@ called-spec =
     check-is-requires
     label-agrees-requires
     number-agrees-requires
+    sheet-agrees-requires
     returns
     returns-2
     returns-3
@@ -68,4 +75,5 @@ called-spec =
     returns-5
     returns-6
     returns-7
-    returns-8)
+    returns-8
+    returns-9)

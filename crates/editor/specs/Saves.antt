@@ -1,0 +1,89 @@
+-- Document 02, T-04: "The editor must save. From an accepted sheet it writes a fresh one: all states in order, then all arrows, each followed by its lines and each line by
+-- its pieces, full pieces of 12 bytes first. Next indices point forward. The written sheet is accepted and means the same states, arrows and lines; two sheets of equal
+-- meaning are written alike. A lent buffer too small is answered with 7, as it is for other calls."
+-- Here is the claim, over what `write_sheet` leaves; `editor-saves` of Proof proves it.
+use mathlib.Core.Path.{_≡_}
+use mathlib.Core.List.{List, _++_}
+use Prim.Native.Nat.{ℕ, _+_, _*_, _≤_, _<_}
+use lib.ListN.{length, take, drop}
+use Rattle.laws.specs.Flat.{table}
+use Rattle.sheet.specs.Sheet.{byteAt, count, Graph, meaning}
+use Rattle.sheet.specs.Refusals.{indices, checkOf}
+use Rattle.sheet.specs.declared.Checked.the-variants.{Accepted}
+use Rattle.sheet.specs.declared.Limits.{Limits}
+use Rattle.encode.specs.Encode.{recordsFor, encode}
+use Rattle.encode.specs.Accepts.{Encodable}
+use Rattle.encode.specs.Bytes.{OfBytes}
+use Rattle.encode.specs.Forward.{Forward, FullFirst}
+use Rattle.calls.specs.Calls.{values, number, check, writeSheet, writeSheetAfter}
+use Rattle.accents.specs.Sheets.{AnsweredAlike}
+
+-- a call of `write_sheet` that is answered: how many bytes it wrote
+pub record Saved (s out : List ℕ) : Type 0 where
+  pub bytes : ℕ
+  pub answer : writeSheet s (length out) ≡ values bytes
+
+-- the written sheet: so many bytes of what the call leaves in `out`
+abbrev pub savedSheet : (s out : List ℕ) → Saved s out → List ℕ
+savedSheet s out a = take (a .bytes) (writeSheetAfter s out)
+
+-- how a sheet is laid: header and as many records as the count says
+pub record AsEdited (w : List ℕ) : Type 0 where
+  pub long : length w ≡ 16 * (1 + count w)
+  -- the records stand in the order in which the chains meet them: "all states in order, then all arrows, each followed by its lines and each line by its pieces"
+  pub ordered : indices w ≡ table (λ (i : ℕ). i) 1 (count w)
+  -- "Next indices point forward."
+  pub forward : (k : ℕ) → 1 ≤ k → k ≤ count w → Forward w k
+  -- "full pieces of 12 bytes first"
+  pub full : (k : ℕ) → 1 ≤ k → k ≤ count w → FullFirst w k
+
+pub record EditorSaves : Type 0 where
+  -- ---- of each call that is answered, whatever is lent
+
+  -- "The written sheet is accepted
+  pub accepted : (s out : List ℕ) (a : Saved s out) → check (savedSheet s out a) ≡ values tt
+  -- and means the same states, arrows and lines", byte for byte: flags, ends that are no states and empty lines are kept
+  pub same : (s out : List ℕ) (a : Saved s out) → meaning (savedSheet s out a) ≡ meaning s
+  -- "two sheets of equal meaning are written alike", and no others are
+  pub alike : (s t out lent : List ℕ) (a : Saved s out) (b : Saved t lent) → meaning s ≡ meaning t → savedSheet s out a ≡ savedSheet t lent b
+  pub apart : (s t out lent : List ℕ) (a : Saved s out) (b : Saved t lent) → savedSheet s out a ≡ savedSheet t lent b → meaning s ≡ meaning t
+  -- so what was written, written again, gives the same bytes
+  pub again : (s out lent : List ℕ) (a : Saved s out) (b : Saved (savedSheet s out a) lent) → savedSheet (savedSheet s out a) lent b ≡ savedSheet s out a
+  -- it is laid as the request says
+  pub laid : (s out : List ℕ) (a : Saved s out) → AsEdited (savedSheet s out a)
+  -- never longer than the sheet given
+  pub noLonger : (s out : List ℕ) (a : Saved s out) → a .bytes ≤ length s
+  -- it stands whole at the beginning of what is lent, and a longer output keeps its tail
+  pub whole : (s out : List ℕ) (a : Saved s out) → (length (savedSheet s out a) ≡ a .bytes) × (writeSheetAfter s out ≡ savedSheet s out a ++ drop (a .bytes) out)
+  -- `route`, `clutter`, `layout` and `list` answer to it, and leave, what they do for the sheet given,
+  pub drawn : (s out : List ℕ) (a : Saved s out) → AnsweredAlike s (savedSheet s out a)
+  -- and so do `check` and `write_sheet`
+  pub checked : (s out : List ℕ) (a : Saved s out) → check s ≡ check (savedSheet s out a)
+  pub rewritten : (s out : List ℕ) (a : Saved s out) (lent : List ℕ)
+      → (writeSheet s (length lent) ≡ writeSheet (savedSheet s out a) (length lent)) × (writeSheetAfter s lent ≡ writeSheetAfter (savedSheet s out a) lent)
+  -- ---- when a call is answered
+
+  -- an accepted sheet, if as many bytes are lent as it has, and so where 65,536 are
+  pub enough : (s out : List ℕ) → check s ≡ values tt → length s ≤ length out → Saved s out
+  pub always : (s out : List ℕ) → check s ≡ values tt → 65536 ≤ length out → Saved s out
+  -- 7 comes only from the output lent: of an accepted sheet,
+  pub seven : (s out : List ℕ) → writeSheet s (length out) ≡ number 7 → (check s ≡ values tt) × (length out < length s)
+  -- exactly where it is shorter than the written sheet; any other is enough
+  pub exactly : (s out lent : List ℕ) (a : Saved s out)
+      → (writeSheet s (length lent) ≡ number 7 → length lent < a .bytes)
+      × (length lent < a .bytes → writeSheet s (length lent) ≡ number 7)
+      × (a .bytes ≤ length lent → writeSheet s (length lent) ≡ values (a .bytes))
+  -- a sheet that `check` refuses is refused by that number; refused by any, everything that is lent is as it was
+  pub refused : (s out : List ℕ) (n : ℕ) → check s ≡ number n → writeSheet s (length out) ≡ number n
+  pub kept : (s out : List ℕ) (n : ℕ) → writeSheet s (length out) ≡ number n → writeSheetAfter s out ≡ out
+  -- ---- of graphs
+
+  -- every graph is what its sheet means, and its sheet is laid as the request says
+  pub graphs : (g : Graph) → (meaning (encode g) ≡ g) × AsEdited (encode g) × (count (encode g) ≡ recordsFor g)
+  -- a screen accepts it where the graph is within its limits, every line is well-formed, no flag bit above 1 is set, and there are at most 4,095 records
+  pub screens : (m : Limits) (g : Graph) → Encodable m g → checkOf m (encode g) ≡ Accepted
+  -- it is bytes where the graph's flags and texts are and its ends are u16
+  pub ofBytes : (g : Graph) → OfBytes g → recordsFor g ≤ 65535 → (i : ℕ) → byteAt (encode g) i < 256
+  -- what an accepted sheet means is such a graph, in no more records than the sheet has; what a sheet of bytes means has bytes and u16 ends
+  pub encodable : (m : Limits) (s : List ℕ) → checkOf m s ≡ Accepted → Encodable m (meaning s) × (recordsFor (meaning s) ≤ count s)
+  pub meant : (s : List ℕ) → ((i : ℕ) → byteAt s i < 256) → OfBytes (meaning s)

@@ -1,0 +1,12 @@
+pub mod Encode
+pub mod Blocks
+pub mod Kinds
+pub mod Pieces
+pub mod Means
+pub mod Meets
+pub mod Clean
+pub mod Accepts
+pub mod Fewer
+pub mod Forward
+pub mod Bytes
+pub mod Worked

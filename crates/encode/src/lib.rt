@@ -1,0 +1,1 @@
+// No code: the sheet of a graph, and what holds of it.

@@ -1,0 +1,5 @@
+pub mod Writing
+pub mod Puts
+pub mod Writes
+pub mod Cuts
+pub mod Lines

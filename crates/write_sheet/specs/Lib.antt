@@ -1,0 +1,4 @@
+pub mod Sheets
+pub mod Chained
+pub mod Arrows
+pub mod Whole

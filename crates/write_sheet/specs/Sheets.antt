@@ -1,0 +1,23 @@
+-- Whether a chain goes on, and what writing asks of a sheet.
+use mathlib.Core.Path.{_≡_}
+use mathlib.Core.Bool.{Bool, false, cond, not}
+use mathlib.Core.List.{List}
+use Prim.Native.Nat.{ℕ, _≤_}
+use lib.Dec.{eqb}
+use Rattle.laws.specs.Any.{anyOf}
+use Rattle.sheet.specs.Sheet.{Arrow, arrowsOf, meaning}
+use Rattle.sheet.specs.Refusals.{longLine, mainScreen}
+use Rattle.encode.specs.Encode.{recordsFor}
+
+-- whether a chain of which at most `left` records are met has one at index i
+abbrev pub goesOn : ℕ → ℕ → Bool
+goesOn i left = cond (eqb i 0) false (not (eqb left 0))
+
+-- an arrow with a line of more than 96 bytes
+abbrev pub longArrow : Arrow → Bool
+longArrow a = anyOf (longLine mainScreen) (a .lines)
+
+-- no line has more bytes than there is room for, and the sheet is written in at most 4,095 records
+pub record Savable (s : List ℕ) : Type 0 where
+  pub lines : anyOf longArrow (arrowsOf s) ≡ false
+  pub few : recordsFor (meaning s) ≤ 4095
