@@ -3,6 +3,8 @@
 //!     state [start] [final]    a state, numbered from 0 in order
 //!     arrow FROM TO            an arrow between two numbers
 //!     line TEXT                a label line of the arrow above it
+//!     cut N..                  the pieces of the lines below have these lengths, again and again, instead of 12
+//!     step N                   at the end, record 1 + K moves to the place 1 + K * N, counted round
 //!     byte AT VALUE            at the end, the sheet's byte AT becomes VALUE
 //!     # ..                     a comment
 
@@ -22,6 +24,8 @@ struct Sheet {
     first: [u16; 2],
     last: [usize; 2],
     last_line: usize,
+    cut: Vec<usize>,
+    step: usize,
     damage: Vec<(usize, u8)>,
 }
 
@@ -48,7 +52,7 @@ impl Sheet {
         self.last[which] = n as usize;
     }
 
-    /// Adds a line to the last arrow: a line record, and its text in pieces of 12 bytes.
+    /// Adds a line to the last arrow: a line record, and its text in pieces.
     fn line(&mut self, text: &str) {
         let n = self.add(3, 0, &[]);
         match self.last_line {
@@ -57,7 +61,13 @@ impl Sheet {
         }
         self.last_line = n as usize;
         let mut before = 0;
-        for piece in text.as_bytes().chunks(12) {
+        let mut rest = text.as_bytes();
+        for &most in self.cut.clone().iter().cycle() {
+            if rest.is_empty() {
+                break;
+            }
+            let piece;
+            (piece, rest) = rest.split_at(most.min(rest.len()));
             let k = self.add(4, piece.len() as u8, piece);
             match before {
                 0 => self.records[n as usize - 1].rest[..2].copy_from_slice(&k.to_le_bytes()),
@@ -78,6 +88,7 @@ impl Sheet {
             out.extend(r.next.to_le_bytes());
             out.extend(r.rest);
         }
+        out = moved(&out, self.step);
         for &(at, value) in &self.damage {
             out[at] = value;
         }
@@ -85,10 +96,37 @@ impl Sheet {
     }
 }
 
+/// The sheet with each record moved to its new place; every index follows.
+fn moved(sheet: &[u8], step: usize) -> Vec<u8> {
+    let count = sheet.len() / 16 - 1;
+    let place = |n: usize| if n == 0 { 0 } else { 1 + (n - 1) * step % count };
+    let mut out = vec![0; sheet.len()];
+    for (n, record) in sheet.chunks(16).enumerate() {
+        let to = 16 * place(n);
+        assert!(out[to..to + 16] == [0; 16], "step {step}: two records go to one place");
+        out[to..to + 16].copy_from_slice(record);
+        let indices: &[usize] = match record[0] {
+            _ if n == 0 => &[4, 6],
+            2 => &[2, 8],
+            3 => &[2, 4],
+            _ => &[2],
+        };
+        for &at in indices {
+            let index = u16::from_le_bytes([record[at], record[at + 1]]) as usize;
+            out[to + at..to + at + 2].copy_from_slice(&(place(index) as u16).to_le_bytes());
+        }
+    }
+    out
+}
+
 fn main() {
     let mut text = String::new();
     std::io::stdin().read_to_string(&mut text).unwrap();
-    let mut sheet = Sheet::default();
+    let mut sheet = Sheet {
+        cut: vec![12],
+        step: 1,
+        ..Sheet::default()
+    };
     for line in text
         .lines()
         .filter(|l| !l.is_empty() && !l.starts_with('#'))
@@ -112,6 +150,8 @@ fn main() {
                 sheet.last_line = 0;
             }
             "line" => sheet.line(rest),
+            "cut" => sheet.cut = numbers().iter().map(|&n| n as usize).collect(),
+            "step" => sheet.step = numbers()[0] as usize,
             "byte" => sheet
                 .damage
                 .push((numbers()[0] as usize, numbers()[1] as u8)),

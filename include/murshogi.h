@@ -1,4 +1,4 @@
-/* Murshogi: the calls of document 01 and its further requests for C. Link target/staticlib/libmurshogi.a (`rt staticlib murshogi`);
+/* Murshogi: the calls of documents 01 and 02 for C. Link target/staticlib/libmurshogi.a (`rt staticlib murshogi`);
  * of a C library it calls memcpy, memmove and memset alone.
  *
  * Each call returns 0, or the number of the refusal (1 to 11). What it is lent is written only where it returns 0;

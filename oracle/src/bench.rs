@@ -15,6 +15,8 @@ pub mod calls;
 #[cfg(all(port = "murshogi", not(test)))]
 pub mod counts;
 #[cfg(all(port = "murshogi", not(test)))]
+pub mod saved;
+#[cfg(all(port = "murshogi", not(test)))]
 pub mod search;
 #[cfg(all(port = "murshogi", not(test)))]
 pub mod stack;

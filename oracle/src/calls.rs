@@ -1,4 +1,4 @@
-//! The seven calls with all their refusals, from document 01, over the Rust.
+//! The eight calls with all their refusals, from documents 01 and 02, over the Rust.
 
 use std::cell::Cell;
 
@@ -139,6 +139,13 @@ fn fits(room: usize, wanted: usize) -> Result<(), u8> {
 
 pub fn check(bytes: &[u8]) -> Result<(), u8> {
     sheet::read(bytes).map(|_| ())
+}
+
+/// Document 02, T-04: the sheet as the editor saves it.
+pub fn write_sheet(bytes: &[u8], room: usize) -> Result<Vec<u8>, u8> {
+    let saved = sheet::read(bytes)?.saved();
+    fits(room, saved.len())?;
+    Ok(saved)
 }
 
 pub fn layout(bytes: &[u8], kind: u8, x_room: usize, y_room: usize) -> Result<Layout, u8> {
@@ -381,6 +388,90 @@ mod tests {
         }
         assert!((900..1_100).contains(&some), "accents in {some}");
         assert!(parted > 500, "in two pieces in {parted}");
+    }
+
+    fn saved(bytes: &[u8]) -> Vec<u8> {
+        write_sheet(bytes, bytes.len()).unwrap()
+    }
+
+    /// Document 01's worked sheet, byte for byte: a start state, a second state, an arrow 0 to 1 with the line `a`.
+    const WORKED: [[u8; 16]; 6] = [
+        [1, 0, 5, 0, 1, 0, 3, 0, 0, 0, 0, 0, 0, 0, 0, 0],
+        [1, 1, 2, 0, 0, 0, 0, 0, 0, 0, 0, 0, 0, 0, 0, 0],
+        [1, 0, 0, 0, 0, 0, 0, 0, 0, 0, 0, 0, 0, 0, 0, 0],
+        [2, 0, 0, 0, 0, 0, 1, 0, 4, 0, 0, 0, 0, 0, 0, 0],
+        [3, 0, 0, 0, 5, 0, 0, 0, 0, 0, 0, 0, 0, 0, 0, 0],
+        [4, 1, 0, 0, b'a', 0, 0, 0, 0, 0, 0, 0, 0, 0, 0, 0],
+    ];
+
+    #[test]
+    fn worked_sheet_saved() {
+        let worked = WORKED.concat();
+        assert_eq!(saved(&worked), worked);
+        let sheet = sheet::read(&worked).unwrap();
+        for places in [[5, 4, 3, 2, 1], [2, 5, 1, 3, 4], [4, 1, 5, 2, 3]] {
+            let other = sheet.bytes(&places);
+            assert_ne!(other, worked);
+            assert_eq!(saved(&other), worked);
+        }
+        assert_eq!(saved(&states(&[])), states(&[]));
+        assert_eq!(write_sheet(&worked, 95), Err(7));
+        assert_eq!(write_sheet(&worked, 0), Err(7));
+        assert_eq!(write_sheet(&worked, usize::MAX), Ok(worked.clone()));
+        assert_eq!(write_sheet(&worked[..95], 0), Err(1));
+    }
+
+    /// Two arrows, one of them left out. Of the first the lines are one of 7 and 8 bytes, which a piece of 12 cuts within
+    /// a character, and one that is empty; all flags occur.
+    #[test]
+    fn pieces_saved() {
+        let line = vec![b"0123456".to_vec(), b"789a\xe2\x86\xa6b".to_vec()];
+        let sheet = Sheet {
+            states: vec![0, 3, 2, 1],
+            arrows: vec![
+                Arrow { from: 3, to: 300, lines: vec![line, vec![]] },
+                Arrow { from: 2, to: 0, lines: vec![vec![b"x".to_vec(); 12]] },
+            ],
+        };
+        let wanted = [
+            [1, 0, 12, 0, 1, 0, 5, 0, 0, 0, 0, 0, 0, 0, 0, 0],
+            [1, 0, 2, 0, 0, 0, 0, 0, 0, 0, 0, 0, 0, 0, 0, 0],
+            [1, 3, 3, 0, 0, 0, 0, 0, 0, 0, 0, 0, 0, 0, 0, 0],
+            [1, 2, 4, 0, 0, 0, 0, 0, 0, 0, 0, 0, 0, 0, 0, 0],
+            [1, 1, 0, 0, 0, 0, 0, 0, 0, 0, 0, 0, 0, 0, 0, 0],
+            [2, 0, 10, 0, 3, 0, 44, 1, 6, 0, 0, 0, 0, 0, 0, 0],
+            [3, 0, 9, 0, 7, 0, 0, 0, 0, 0, 0, 0, 0, 0, 0, 0],
+            [4, 12, 8, 0, b'0', b'1', b'2', b'3', b'4', b'5', b'6', b'7', b'8', b'9', b'a', 0xe2],
+            [4, 3, 0, 0, 0x86, 0xa6, b'b', 0, 0, 0, 0, 0, 0, 0, 0, 0],
+            [3, 0, 0, 0, 0, 0, 0, 0, 0, 0, 0, 0, 0, 0, 0, 0],
+            [2, 0, 0, 0, 2, 0, 0, 0, 11, 0, 0, 0, 0, 0, 0, 0],
+            [3, 0, 0, 0, 12, 0, 0, 0, 0, 0, 0, 0, 0, 0, 0, 0],
+            [4, 12, 0, 0, b'x', b'x', b'x', b'x', b'x', b'x', b'x', b'x', b'x', b'x', b'x', b'x'],
+        ];
+        let rng = &mut Random::new(37);
+        for _ in 0..20 {
+            assert_eq!(saved(&generate::shuffled(rng, &sheet)), wanted.concat());
+        }
+    }
+
+    /// What is saved is accepted, no longer, means the same, is saved as it is and drawn as what it was saved from; and a
+    /// sheet that means the same is saved alike.
+    #[test]
+    fn saved_round_trip() {
+        let rng = &mut Random::new(41);
+        for i in 0..3_000 {
+            let sheet = generate::stored(rng);
+            let bytes = generate::laid(rng, &sheet);
+            let out = saved(&bytes);
+            assert!(out.len() <= bytes.len());
+            assert_eq!(sheet::read(&out).unwrap().graph(), sheet.graph());
+            assert_eq!(saved(&out), out);
+            let again = generate::recut(rng, &sheet);
+            assert_eq!(saved(&generate::shuffled(rng, &again)), out);
+            if i % 10 == 0 {
+                assert_eq!(list(&out, 0, 120_000), list(&bytes, 0, 120_000));
+            }
+        }
     }
 
     #[test]

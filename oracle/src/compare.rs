@@ -1,15 +1,19 @@
-//! The port's seven calls against the oracle's, through C: answers, every number and byte of each
+//! The port's eight calls against the oracle's, through C: answers, every number and byte of each
 //! lent slice, and what must stay as it was.
 
 use std::collections::BTreeMap;
 
 use crate::calls::{self, Turns};
-use crate::generate::{SORTS, centres, drawing, has_accent, shuffled, sort_of_accents, sort_of_starts};
+use crate::generate::{
+    LIMITS, SORTS, at_limits, centres, drawing, has_accent, in_order, laid, recut, shuffled, sort_of_accents,
+    sort_of_starts, stored,
+};
 use crate::port::{
     murshogi_check, murshogi_clutter, murshogi_label_size, murshogi_layout, murshogi_list, murshogi_route,
-    murshogi_write_num,
+    murshogi_write_num, murshogi_write_sheet,
 };
 use crate::random::Random;
+use crate::sheet::{Line, Sheet, read};
 use crate::vectors::{damage, largest, unsound};
 
 /// What a lent f64, byte or number holds before a call: a NaN with a payload, whose every bit must stay.
@@ -58,16 +62,20 @@ impl Runs {
         if answer == 0 {
             self.answered(call, sheet);
         }
-        if ok {
-            return;
+        if !ok {
+            self.differs(call, &format!("the oracle says {answer}"), sheet, xs, ys);
         }
+    }
+
+    /// Counts a difference and says what it is.
+    fn differs(&mut self, what: &str, said: &str, sheet: &[u8], xs: &[f64], ys: &[f64]) {
         self.differ += 1;
-        let name = format!("differs-{}-{call}", self.differ);
+        let name = format!("differs-{}-{what}", self.differ);
         if self.differ <= 20 {
             std::fs::write(format!("{name}.sheet"), sheet).unwrap();
             std::fs::write(format!("{name}.centres"), format!("{xs:?}\n{ys:?}\n")).unwrap();
         }
-        println!("{name}: the oracle says {answer}");
+        println!("{name}: {said}");
     }
 
     /// Counts an answered call by the starts and the accents of its sheet, or by the accents of its label's text.
@@ -76,7 +84,7 @@ impl Runs {
             "write_num" => return,
             "label_size" => has_accent(sheet),
             _ => {
-                let s = crate::sheet::read(sheet).unwrap();
+                let s = read(sheet).unwrap();
                 self.starts.entry(call).or_default()[sort_of_starts(&s.graph())] += 1;
                 sort_of_accents(&s).0
             }
@@ -87,7 +95,7 @@ impl Runs {
     /// Counts the turns of a routing with so many records.
     fn turned(&mut self, turns: Turns, sheet: &[u8], records: usize) {
         self.turns.add(turns);
-        self.left_out += crate::sheet::read(sheet).map_or(0, |s| s.arrows.len()) - records;
+        self.left_out += read(sheet).map_or(0, |s| s.arrows.len()) - records;
     }
 
     /// Counts the totals of a listing, its last line.
@@ -221,9 +229,11 @@ fn full(rng: &mut Random) -> Vec<u8> {
     sheet
 }
 
-/// All seven calls on each sheet.
+/// All eight calls on each sheet. The rooms for `write_sheet` have a seed of their own, so that the other calls are those
+/// that they were without it.
 pub fn run(turns: usize, seed: u64) {
     let rng = &mut Random::new(seed);
+    let rooms = &mut Random::new(!seed);
     let mut runs = Runs::default();
     for _ in 0..turns {
         let drawing = drawing(rng);
@@ -252,8 +262,229 @@ pub fn run(turns: usize, seed: u64) {
         listed(&mut runs, rng, &sheet, kind);
         numbered(&mut runs, rng);
         measured(&mut runs, rng);
+        let n = room(rooms, saved_length(&sheet));
+        saved(&mut runs, &sheet, n);
     }
     runs.end();
+}
+
+/// The sheets that were written, by what they are; and the round trips.
+#[derive(Default)]
+struct Saved {
+    sheets: usize,
+    damaged: usize,
+    accepted: usize,
+    /// Those whose records are not in the editor's order; those with a piece under 12 bytes that is not its line's last;
+    /// with a piece that ends within a character; with such a piece written; with a line without text; with an arrow that
+    /// is left out; that stay as they are.
+    sorts: [usize; SAVED.len()],
+    limits: [usize; LIMITS.len()],
+    /// Written, accepted and written again; beside another sheet of the same meaning; drawn beside what they are written
+    /// from.
+    again: usize,
+    alike: usize,
+    drawn: usize,
+}
+
+const SAVED: [&str; 7] = [
+    "out of order", "short pieces", "a character in two pieces", "written so", "empty lines", "left-out arrows",
+    "stay as they are",
+];
+
+/// Whether a piece of a line, but for the last, has under 12 bytes, and whether one ends within a character.
+fn short_and_parted(line: &Line) -> (bool, bool) {
+    let before_last = line.split_last().map_or(&[][..], |(_, rest)| rest);
+    let short = before_last.iter().any(|p| p.len() < 12);
+    // A byte 10xxxxxx goes on with a character.
+    (short, line.iter().any(|p| p[0] & 0xc0 == 0x80))
+}
+
+impl Saved {
+    fn note(&mut self, given: &[u8], list: &Sheet, written: &[u8]) {
+        self.accepted += 1;
+        let lines = |s: &Sheet| -> Vec<Line> { s.arrows.iter().flat_map(|a| a.lines.clone()).collect() };
+        let parts: Vec<(bool, bool)> = lines(list).iter().map(short_and_parted).collect();
+        let sorts = [
+            in_order(list) != given,
+            parts.iter().any(|p| p.0),
+            parts.iter().any(|p| p.1),
+            read(written).is_ok_and(|s| lines(&s).iter().any(|l| short_and_parted(l).1)),
+            lines(list).iter().any(Vec::is_empty),
+            list.arrows.iter().any(|a| usize::from(a.from.max(a.to)) >= list.states.len()),
+            given == written,
+        ];
+        add(&mut self.sorts, sorts);
+        add(&mut self.limits, at_limits(list));
+    }
+
+    fn print(&self, calls: &[usize; 12]) {
+        let named = |names: &[&str], counts: &[usize]| -> String {
+            names.iter().zip(counts).map(|(name, n)| format!("{name} {n}")).collect::<Vec<_>>().join(", ")
+        };
+        println!("{} sheets, {} of them damaged; {} accepted", self.sheets, self.damaged, self.accepted);
+        println!("accepted: {}", named(&SAVED, &self.sorts));
+        println!("at a limit: {}", named(&LIMITS, &self.limits));
+        println!(
+            "round trips: {} written, checked and written again, {} beside another sheet of the same meaning, {} drawn \
+             by layout, route, clutter and list",
+            self.again, self.alike, self.drawn
+        );
+        let few = self.sheets < 1_000;
+        assert!(few || self.sorts.iter().chain(&self.limits).all(|&n| n > 0), "a sort or a limit is not met");
+        assert!(few || calls[..8].iter().all(|&n| n > 0), "an answer is not met: {calls:?}");
+    }
+}
+
+fn add<const N: usize>(sums: &mut [usize; N], more: [bool; N]) {
+    for (sum, yes) in sums.iter_mut().zip(more) {
+        *sum += usize::from(yes);
+    }
+}
+
+/// A sheet that is damaged, cut short, too long, over a limit or ill-formed; some are accepted all the same.
+fn damaged(rng: &mut Random, mut sheet: Vec<u8>) -> Vec<u8> {
+    match rng.below(8) {
+        0 => sheet.truncate(rng.below(sheet.len() + 1)),
+        1 => sheet.extend(vec![0; 1 + rng.below(17)]),
+        2 | 3 => {
+            let list = unsound(rng);
+            sheet = shuffled(rng, &list);
+        }
+        4 if rng.once_in(8) => sheet = full(rng),
+        _ => {
+            damage(rng, &mut sheet);
+            while rng.once_in(4) {
+                damage(rng, &mut sheet);
+            }
+        }
+    }
+    sheet
+}
+
+/// Sheets written into outputs of every sort: exact, one byte short, none, longer, too short by any number. What is
+/// written is checked and written again; another sheet of the same meaning is written beside it; some are drawn.
+pub fn sheets(count: usize, seed: u64) {
+    let rng = &mut Random::new(seed);
+    let mut runs = Runs::default();
+    let mut all = Saved::default();
+    for i in 0..count {
+        let list = stored(rng);
+        let mut sheet = laid(rng, &list);
+        all.sheets += 1;
+        if rng.once_in(4) {
+            sheet = damaged(rng, sheet);
+            all.damaged += 1;
+        }
+        let n = saved_length(&sheet);
+        let written = saved(&mut runs, &sheet, n);
+        for room in [n - 1, 0, n + 1 + rng.below(200), rng.below(n)] {
+            saved(&mut runs, &sheet, room);
+        }
+        if let Ok(list) = read(&sheet) {
+            all.note(&sheet, &list, &written);
+            trip(&mut runs, &mut all, rng, &sheet, &list, &written);
+            if i % 10 == 0 {
+                let (xs, ys) = centres(rng, &list);
+                all.drawn += 1;
+                if drawn(&written, &xs, &ys) != drawn(&sheet, &xs, &ys) {
+                    runs.differs("drawn", "what is written is not drawn alike", &sheet, &xs, &ys);
+                }
+            }
+        }
+    }
+    all.print(runs.counts.get("write_sheet").unwrap_or(&[0; 12]));
+    runs.end();
+}
+
+/// The length that the oracle writes, or the sheet's where it is refused.
+fn saved_length(sheet: &[u8]) -> usize {
+    calls::write_sheet(sheet, usize::MAX).map_or(sheet.len().max(1), |t| t.len())
+}
+
+/// What a sheet is written as is accepted, is no longer, means the same and is written as it is; another sheet of the
+/// same meaning is written alike.
+fn trip(runs: &mut Runs, all: &mut Saved, rng: &mut Random, sheet: &[u8], list: &Sheet, written: &[u8]) {
+    checked(runs, written);
+    let accepted = unsafe { murshogi_check(written.as_ptr(), written.len()) } == 0;
+    let same = accepted && written.len() <= sheet.len() && read(written).is_ok_and(|s| s.graph() == list.graph());
+    if !same {
+        runs.differs("meaning", "what is written is refused, longer or means something else", sheet, &[], &[]);
+        return;
+    }
+    all.again += 1;
+    if saved(runs, written, written.len()) != written {
+        runs.differs("again", "what is written is not written again as it is", sheet, &[], &[]);
+    }
+    let other = recut(rng, list);
+    let other = laid(rng, &other);
+    all.alike += 1;
+    if saved(runs, &other, written.len()) != written {
+        runs.differs("alike", "a sheet of the same meaning is not written alike", &other, &[], &[]);
+    }
+}
+
+/// All that the port draws of a sheet: layouts and listings by each kind, a routing and a clutter count at given centres,
+/// with their answers; numbers as their bits.
+fn drawn(sheet: &[u8], xs: &[f64], ys: &[f64]) -> (Vec<u8>, Vec<u64>, Vec<u8>) {
+    let (s, n) = (sheet.as_ptr(), sheet.len());
+    let (mut answers, mut numbers, mut text) = (Vec::new(), Vec::new(), Vec::new());
+    let bits = |list: &[f64]| list.iter().map(|v| v.to_bits()).collect::<Vec<_>>();
+    let mut out = vec![BYTE; 120_000];
+    for kind in 0..3 {
+        let (mut x, mut y, mut size, mut states) = ([BEFORE; 64], [BEFORE; 64], [BEFORE; 2], NUMBER);
+        answers.push(unsafe {
+            murshogi_layout(s, n, kind, x.as_mut_ptr(), 64, y.as_mut_ptr(), 64, size.as_mut_ptr(), &mut states)
+        });
+        numbers.extend([bits(&x), bits(&y), bits(&size), vec![states as u64]].concat());
+        let mut length = NUMBER;
+        answers.push(unsafe { murshogi_list(s, n, kind, out.as_mut_ptr(), out.len(), &mut length) });
+        numbers.push(length as u64);
+        text.extend(&out);
+        out.fill(BYTE);
+    }
+    let (mut records, mut lengths, mut count) = (vec![BEFORE; 5120], [NUMBER; 2], NUMBER);
+    answers.push(unsafe {
+        murshogi_route(
+            s, n, xs.as_ptr(), xs.len(), ys.as_ptr(), ys.len(), records.as_mut_ptr(), records.len(), out.as_mut_ptr(),
+            out.len(), lengths.as_mut_ptr(),
+        )
+    });
+    answers.push(unsafe { murshogi_clutter(s, n, xs.as_ptr(), xs.len(), ys.as_ptr(), ys.len(), &mut count) });
+    numbers.extend(bits(&records));
+    numbers.extend([lengths[0] as u64, lengths[1] as u64, count as u64]);
+    text.extend(&out);
+    (answers, numbers, text)
+}
+
+/// Bytes before and behind what is lent for a sheet.
+const AROUND: usize = 64;
+
+/// What a byte around and in it holds before the call: no two neighbours are alike.
+fn unset(i: usize) -> u8 {
+    (37 * i + 11) as u8
+}
+
+/// Writes a sheet into the middle of a longer array, with so much room, and gives as many of its bytes as the oracle
+/// writes.
+fn saved(runs: &mut Runs, sheet: &[u8], room: usize) -> Vec<u8> {
+    let wanted = calls::write_sheet(sheet, room);
+    let given = sheet.to_vec();
+    let mut all: Vec<u8> = (0..room + 2 * AROUND).map(unset).collect();
+    let mut lengths = [NUMBER; 3];
+    let got = unsafe {
+        murshogi_write_sheet(given.as_ptr(), given.len(), all[AROUND..].as_mut_ptr(), room, &mut lengths[1])
+    };
+    let answer = wanted.as_ref().err().copied().unwrap_or(0);
+    let length = wanted.as_ref().map_or(NUMBER, Vec::len);
+    let wanted = wanted.unwrap_or_default();
+    let end = AROUND + wanted.len();
+    let ok = got == answer
+        && all[AROUND..end] == wanted
+        && (0..AROUND).chain(end..all.len()).all(|i| all[i] == unset(i))
+        && lengths == [NUMBER, length, NUMBER]
+        && given == sheet;
+    runs.note("write_sheet", answer, ok, sheet, &[room as f64], &[]);
+    all[AROUND..end].to_vec()
 }
 
 fn checked(runs: &mut Runs, sheet: &[u8]) {
@@ -294,7 +525,7 @@ fn routed(runs: &mut Runs, rng: &mut Random, sheet: &[u8], xs: &[f64], ys: &[f64
     let mut text = vec![BYTE; room(rng, m)];
     let wanted = calls::route(sheet, xs, ys, (records.len(), text.len()));
     if let Ok(r) = &wanted {
-        let graph = crate::sheet::read(sheet).unwrap().graph();
+        let graph = read(sheet).unwrap().graph();
         runs.turned(calls::turns(&graph, xs, ys), sheet, r.records.len() / 20);
     }
     let mut lengths = [NUMBER; 2];

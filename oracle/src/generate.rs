@@ -3,7 +3,10 @@
 use crate::graph::Graph;
 use crate::layout::{LayoutKind, layout};
 use crate::random::Random;
-use crate::sheet::{Arrow, LINE_BYTES, Line, SHEET_BYTES, Sheet};
+use crate::sheet::{ARROWS, Arrow, LINE_BYTES, LINES, Line, SHEET_BYTES, STATES, Sheet};
+
+/// The most records that a sheet holds.
+const RECORDS: usize = SHEET_BYTES / 16 - 1;
 
 /// Characters of every length, at the borders of each length too.
 const CHARACTERS: [char; 24] = [
@@ -153,7 +156,7 @@ pub fn accented_line(rng: &mut Random, text: String) -> Line {
 
 /// Puts accents into a third of a sheet's lines, into one at the least, as long as there is room for their records.
 pub fn accented(rng: &mut Random, list: &mut Sheet) {
-    let mut room = (SHEET_BYTES / 16 - 1).saturating_sub(list.records());
+    let mut room = RECORDS.saturating_sub(list.records());
     let lines: Vec<&mut Line> = list.arrows.iter_mut().flat_map(|a| &mut a.lines).collect();
     let sure = rng.below(lines.len().max(1));
     for (i, line) in lines.into_iter().enumerate() {
@@ -272,6 +275,183 @@ pub fn shuffled(rng: &mut Random, sheet: &Sheet) -> Vec<u8> {
 pub fn ordered(sheet: &Sheet) -> Vec<u8> {
     let order: Vec<usize> = (1..=sheet.records()).collect();
     sheet.bytes(&order)
+}
+
+/// The sheet's bytes with its records in the editor's order: each arrow is followed by its lines, each line by its
+/// pieces.
+pub fn in_order(sheet: &Sheet) -> Vec<u8> {
+    let mut last = sheet.states.len();
+    let mut next = || {
+        last += 1;
+        last
+    };
+    let (mut arrows, mut below) = (Vec::new(), Vec::new());
+    for a in &sheet.arrows {
+        arrows.push(next());
+        let mut texts = Vec::new();
+        for l in &a.lines {
+            below.push(next());
+            texts.extend(l.iter().map(|_| next()));
+        }
+        below.extend(texts);
+    }
+    let order: Vec<usize> = (1..=sheet.states.len()).chain(arrows).chain(below).collect();
+    sheet.bytes(&order)
+}
+
+/// The sheet's bytes: in the editor's order, as its records are met, the other way round, or in any order.
+pub fn laid(rng: &mut Random, sheet: &Sheet) -> Vec<u8> {
+    match rng.below(8) {
+        0 => in_order(sheet),
+        1 => ordered(sheet),
+        2 => {
+            let order: Vec<usize> = (1..=sheet.records()).rev().collect();
+            sheet.bytes(&order)
+        }
+        _ => shuffled(rng, sheet),
+    }
+}
+
+/// The sheet with each line in as few pieces as can be.
+pub fn few_pieces(sheet: &Sheet) -> Sheet {
+    let mut list = sheet.clone();
+    for line in list.arrows.iter_mut().flat_map(|a| &mut a.lines) {
+        *line = full_pieces(&line.concat());
+    }
+    list
+}
+
+/// The sheet with its lines in other pieces, as long as there is room for their records.
+pub fn recut(rng: &mut Random, sheet: &Sheet) -> Sheet {
+    let mut list = few_pieces(sheet);
+    let mut room = RECORDS - list.records();
+    for line in list.arrows.iter_mut().flat_map(|a| &mut a.lines) {
+        let new = pieces(rng, &line.concat());
+        if new.len() <= room + line.len() {
+            room = room + line.len() - new.len();
+            *line = new;
+        }
+    }
+    list
+}
+
+/// A sheet to be saved. Most are small; of the others each stands at one limit or at several. Some lines are empty, and
+/// one in four has its lines in as few pieces as can be.
+pub fn stored(rng: &mut Random) -> Sheet {
+    let tiny = Size { states: rng.below(3), arrows: rng.below(3), lines: 1, characters: 3 };
+    let small = Size { states: rng.below(9), arrows: rng.below(10), lines: 3, characters: 20 };
+    let mut list = match rng.below(20) {
+        0 => sheet(rng, tiny),
+        1 => drawing(rng),
+        _ => sheet(rng, small),
+    };
+    for line in list.arrows.iter_mut().flat_map(|a| &mut a.lines) {
+        if rng.once_in(8) {
+            line.clear();
+        }
+    }
+    if rng.once_in(4) {
+        for limit in 0..5 {
+            if rng.once_in(4) {
+                up_to(rng, &mut list, limit);
+            }
+        }
+    }
+    if rng.once_in(4) { few_pieces(&list) } else { list }
+}
+
+/// The limits of a sheet, in the order in which [`at_limits`] counts them.
+pub const LIMITS: [&str; 5] = ["64 states", "256 arrows", "8 lines", "96 bytes", "4,095 records"];
+
+/// Whether a sheet stands at each limit.
+pub fn at_limits(sheet: &Sheet) -> [bool; 5] {
+    let lines = || sheet.arrows.iter().flat_map(|a| &a.lines);
+    [
+        sheet.states.len() == STATES,
+        sheet.arrows.len() == ARROWS,
+        sheet.arrows.iter().any(|a| a.lines.len() == LINES),
+        lines().any(|l| l.concat().len() == LINE_BYTES),
+        sheet.records() == RECORDS,
+    ]
+}
+
+/// Makes a sheet longer until it stands at a limit; it stays as it is where that would take too many records.
+fn up_to(rng: &mut Random, list: &mut Sheet, limit: usize) {
+    let before = list.clone();
+    let full = |rng: &mut Random| {
+        let wide = ['é', '↦', '𝔸', '\u{301}'];
+        let mut t = text(rng, 20);
+        while t.len() < LINE_BYTES {
+            let c = rng.pick(&wide);
+            t.push(if t.len() + c.len_utf8() <= LINE_BYTES { c } else { 'z' });
+        }
+        pieces(rng, t.as_bytes())
+    };
+    match limit {
+        0 => list.states.resize_with(STATES, || rng.below(4) as u8),
+        1 => list.arrows.resize_with(ARROWS, || any_arrow(rng)),
+        2 => {
+            let mut a = any_arrow(rng);
+            a.lines.resize_with(LINES, || {
+                let n = rng.below(9);
+                line(rng, n)
+            });
+            one_of(rng, list, a);
+        }
+        3 => {
+            let mut a = any_arrow(rng);
+            let line = full(rng);
+            a.lines.push(line);
+            one_of(rng, list, a);
+        }
+        _ => fill(rng, list),
+    }
+    if list.records() > RECORDS {
+        *list = before;
+    }
+}
+
+/// An arrow without lines, now and then between any numbers.
+fn any_arrow(rng: &mut Random) -> Arrow {
+    let mut end = || if rng.once_in(12) { rng.below(65_536) } else { rng.below(8) };
+    Arrow { from: end() as u16, to: end() as u16, lines: vec![] }
+}
+
+/// Adds an arrow, or puts it in the place of one where there are as many as may be.
+fn one_of(rng: &mut Random, list: &mut Sheet, arrow: Arrow) {
+    if list.arrows.len() < ARROWS {
+        list.arrows.insert(rng.below(list.arrows.len() + 1), arrow);
+    } else {
+        let at = rng.below(ARROWS);
+        list.arrows[at] = arrow;
+    }
+}
+
+/// Adds lines, and arrows where those have as many as may be, until there are 4,095 records. The pieces are of one byte,
+/// of any length or full.
+fn fill(rng: &mut Random, list: &mut Sheet) {
+    let way = rng.below(3);
+    let mut i = 0;
+    while list.records() < RECORDS {
+        let left = RECORDS - list.records();
+        if i == list.arrows.len() {
+            list.arrows.push(any_arrow(rng));
+            continue;
+        }
+        if list.arrows[i].lines.len() == LINES {
+            i += 1;
+            continue;
+        }
+        let n = 1 + rng.below(if way == 2 { LINE_BYTES } else { 48 });
+        let bytes: Vec<u8> = (0..n).map(|_| b' ' + rng.below(95) as u8).collect();
+        let mut line = match way {
+            0 => bytes.iter().map(|&b| vec![b]).collect(),
+            1 => pieces(rng, &bytes),
+            _ => full_pieces(&bytes),
+        };
+        line.truncate(left - 1);
+        list.arrows[i].lines.push(line);
+    }
 }
 
 /// Centres for a sheet: on a grid, spread, as laid out, close together, far apart, in a row, missing

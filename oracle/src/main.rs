@@ -36,7 +36,8 @@ fn main() {
         ["compare", "remainders", count, seed] => bench::remainders(count.parse().unwrap(), seed.parse().unwrap()),
         ["differ", "route", count, seed] => differ::routings(count.parse().unwrap(), seed.parse().unwrap()),
         ["differ", "layout", count, seed] => differ::layouts(count.parse().unwrap(), seed.parse().unwrap()),
-        ["list", kind] => list(kind.parse().unwrap_or(255)),
+        ["list", kind] => answer(|sheet| calls::list(sheet, kind.parse().unwrap_or(255), 65_536)),
+        ["save"] => answer(|sheet| calls::write_sheet(sheet, 65_536)),
         #[cfg(all(port = "murshogi", not(test)))]
         ["bench", "calls"] => bench::calls::print(),
         #[cfg(all(port = "murshogi", not(test)))]
@@ -47,6 +48,10 @@ fn main() {
         ["bench", "search"] => bench::search::print(),
         #[cfg(all(port = "murshogi", not(test)))]
         ["bench", "routed", name] => bench::search::routed(name),
+        #[cfg(all(port = "murshogi", not(test)))]
+        ["bench", "saved"] => bench::saved::print(),
+        #[cfg(all(port = "murshogi", not(test)))]
+        ["bench", "saved-each"] => bench::saved::each(),
         #[cfg(all(port = "murshogi", not(test)))]
         ["bench", "stack"] => bench::stack::print(),
         #[cfg(all(port = "murshogi", not(test)))]
@@ -60,24 +65,23 @@ fn main() {
         #[cfg(port = "murshogi")]
         ["compare", "labels", count, seed] => compare::labels(count.parse().unwrap(), seed.parse().unwrap()),
         #[cfg(port = "murshogi")]
+        ["compare", "sheets", count, seed] => compare::sheets(count.parse().unwrap(), seed.parse().unwrap()),
+        #[cfg(port = "murshogi")]
         ["compare"] => compare::run(15_000, 5),
         #[cfg(port = "murshogi")]
         ["compare", turns, seed] => compare::run(turns.parse().unwrap(), seed.parse().unwrap()),
         _ => {
-            eprintln!("usage: oracle vectors FILE | differ (route | layout) COUNT SEED | bench (root | angles | check | calls | counts | search | stack | sheet NAME) | list KIND < SHEET | compare [[routings | layouts | listings | labels | remainders] COUNT SEED]");
+            eprintln!("usage: oracle vectors FILE | differ (route | layout) COUNT SEED | bench (root | angles | check | calls | counts | search | saved | stack | sheet NAME) | list KIND < SHEET | save < SHEET | compare [[routings | layouts | listings | labels | sheets | remainders] COUNT SEED]");
             std::process::exit(2);
         }
     }
 }
 
-/// The listing of the sheet in standard input.
-fn list(kind: u8) {
+/// Prints what a call writes of the sheet in standard input: its listing, or the sheet as it is saved.
+fn answer(call: impl Fn(&[u8]) -> Result<Vec<u8>, u8>) {
     use std::io::{Read, Write};
     let mut sheet = Vec::new();
     std::io::stdin().read_to_end(&mut sheet).unwrap();
-    let text = match calls::list(&sheet, kind, 65_536) {
-        Ok(text) => text,
-        Err(n) => format!("refused {n}\n").into_bytes(),
-    };
-    std::io::stdout().write_all(&text).unwrap();
+    let written = call(&sheet).unwrap_or_else(|n| format!("refused {n}\n").into_bytes());
+    std::io::stdout().write_all(&written).unwrap();
 }

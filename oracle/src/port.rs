@@ -1,4 +1,4 @@
-//! The port's seven calls, as `include/murshogi.h` declares them.
+//! The port's eight calls, as `include/murshogi.h` declares them.
 
 unsafe extern "C" {
     pub fn murshogi_check(sheet: *const u8, sheet_len: usize) -> u8;
@@ -22,5 +22,8 @@ unsafe extern "C" {
     pub fn murshogi_list(
         sheet: *const u8, sheet_len: usize, kind: u8, out: *mut u8, out_len: usize,
         length: *mut usize,
+    ) -> u8;
+    pub fn murshogi_write_sheet(
+        sheet: *const u8, sheet_len: usize, out: *mut u8, out_len: usize, length: *mut usize,
     ) -> u8;
 }

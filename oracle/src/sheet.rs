@@ -1,5 +1,7 @@
 //! Method sheets, read and written from document 01's words alone.
 
+use std::mem;
+
 use super::graph::{Edge, Graph, Node};
 
 pub const STATES: usize = 64;
@@ -176,6 +178,45 @@ impl Sheet {
         }
         out
     }
+
+    /// The sheet as the editor saves it (document 02, T-04): all states, then all arrows, each followed by its lines and
+    /// each line by its text in pieces of 12 bytes. The indices are set from the last record back to the first.
+    pub fn saved(&self) -> Vec<u8> {
+        let mut records: Vec<[u8; 16]> = self.states.iter().map(|&flags| record(1, flags, &[])).collect();
+        for a in &self.arrows {
+            records.push(record(2, 0, &[a.from.to_le_bytes(), a.to.to_le_bytes()].concat()));
+            for line in &a.lines {
+                records.push(record(3, 0, &[]));
+                records.extend(line.concat().chunks(12).map(|piece| record(4, piece.len() as u8, piece)));
+            }
+        }
+        // For each kind the record behind this one that a chain goes on with or begins with, or 0.
+        let mut ahead = [0; 5];
+        for (i, r) in records.iter_mut().enumerate().rev() {
+            let kind = usize::from(r[0]);
+            put(r, 2, ahead[kind]);
+            ahead[kind] = i + 1;
+            match kind {
+                2 => put(r, 8, mem::take(&mut ahead[3])),
+                3 => put(r, 4, mem::take(&mut ahead[4])),
+                _ => {}
+            }
+        }
+        let mut out = vec![0; 16];
+        for (at, n) in [(0, 1), (2, records.len()), (4, ahead[1]), (6, ahead[2])] {
+            put(&mut out, at, n);
+        }
+        out.extend(records.concat());
+        out
+    }
+}
+
+/// A record of a kind with its byte 1 and what stands from byte 4 on.
+fn record(kind: u8, flag: u8, rest: &[u8]) -> [u8; 16] {
+    let mut r = [0; 16];
+    (r[0], r[1]) = (kind, flag);
+    r[4..4 + rest.len()].copy_from_slice(rest);
+    r
 }
 
 /// Stores a number in two bytes.
@@ -224,6 +265,17 @@ mod tests {
         assert_eq!(read(&bytes), Ok(one));
         put(&mut bytes, 18, 1);
         assert_eq!(read(&bytes), Err(3));
+    }
+
+    /// The other writer, told the editor's places, gives the same bytes.
+    #[test]
+    fn saved_by_places() {
+        use crate::generate::{few_pieces, in_order, stored};
+        let rng = &mut crate::random::Random::new(31);
+        for _ in 0..5_000 {
+            let sheet = stored(rng);
+            assert_eq!(sheet.saved(), in_order(&few_pieces(&sheet)));
+        }
     }
 
     fn line(text: &str) -> Result<(f64, f64), u8> {

@@ -12,6 +12,7 @@ mod float;
 pub mod graphs;
 mod numbers;
 mod sheets;
+mod written;
 
 use std::collections::BTreeMap;
 
@@ -65,6 +66,7 @@ pub mod kind {
     pub const CHECK: u8 = 64;
     pub const LABEL_SIZE: u8 = 65;
     pub const NUMBER: u8 = 66;
+    pub const WRITE_SHEET: u8 = 67;
     /// A kind and its payload with another answer.
     pub const SPOILED: u8 = 255;
 }
@@ -152,6 +154,7 @@ pub fn write(file: &str) {
     graphs::cases(&mut c);
     calls::cases(&mut c);
     accents::cases(&mut c);
+    written::cases(&mut c);
     c.end();
     for (kind, count) in &out.kinds {
         println!("kind {kind}: {count}");

@@ -7,11 +7,11 @@ use borrow.Author.Tests.{lt-ltb, le-ltb}
 use lib.ListN.{length}
 use Rattle.laws.specs.Put.{put, put-front}
 use Rattle.laws.specs.Refusals.{Refusal, refusal, decide-first, decide-rest, clear-none, clear-decides}
-use Rattle.sheet.specs.Sheet.{meaning}
+use Rattle.sheet.specs.Sheet.{statesOf, arrowsOf, meaning}
 use Rattle.sheet.specs.Refusals.{checkOf}
 use Rattle.sheet.specs.Order.{accepted-exactly, check-refused, check-accepted}
 use Rattle.sheet.specs.declared.Checked.the-variants as C
-use Rattle.encode.specs.Encode.{recordsFor}
+use Rattle.encode.specs.Encode.{spaceOf, stateSize, arrowSize, recordsFor}
 use Rattle.encode.specs.Means.{encode-length}
 use Rattle.write_sheet.specs.Sheets.{Savable}
 use Rattle.write_sheet.specs.Whole.{savable}
@@ -36,23 +36,27 @@ module _ (s out : List ℕ) where
   unfolding writeSheet writeSheetAfter
   write-refused n e = (check-refused mainScreen s isShort number _ n e, check-refused mainScreen s isShort (λ m. out) _ n e)
 
-  module _ (q : C.Accepted ≡ checkOf mainScreen s) (n : ℕ) (e : n ≡ recordsFor (meaning s)) where
-    fresh-length : 16 * (1 + n) ≡ length (freshSheet s)
-    fresh-length = ap (λ (k : ℕ). 16 * (1 + k)) e ∙ sym (encode-length (meaning s))
+  -- n bytes, of so many records for the states and for the arrows
+  module _ (q : C.Accepted ≡ checkOf mainScreen s) {a b : ℕ} (d : a ≡ spaceOf stateSize (statesOf s)) (e : b ≡ spaceOf arrowSize (arrowsOf s)) where
+    abbrev n : ℕ
+    n = 16 * (1 + a + b)
 
-    pub write-short : length out < 16 * (1 + n) → WritesSheet (N.Refused 7) out
+    fresh-length : n ≡ length (freshSheet s)
+    fresh-length = let l : length (freshSheet s) ≡ 16 * (1 + recordsFor (meaning s)) = encode-length (meaning s) in omega arith
+
+    pub write-short : length out < n → WritesSheet (N.Refused 7) out
     unfolding writeSheet writeSheetAfter
     write-short h =
-        let l : 16 * (1 + n) ≡ length (freshSheet s) = fresh-length in
+        let l : n ≡ length (freshSheet s) = fresh-length in
         let t = lt-ltb (length out) (length (freshSheet s)) (omega arith) in (
           decide-first 7 (short (length out) (freshSheet s)) [] number _ t ∙ check-accepted mainScreen s isShort number _ q,
           decide-first 7 (short (length out) (freshSheet s)) [] (λ m. out) _ t ∙ check-accepted mainScreen s isShort (λ m. out) _ q,
         )
 
-    pub write-done : (b : List ℕ) → 16 * (1 + n) ≤ length out → b ≡ put out 0 (freshSheet s) → WritesSheet (N.Length (16 * (1 + n))) b
+    pub write-done : (o : List ℕ) → n ≤ length out → o ≡ put out 0 (freshSheet s) → WritesSheet (N.Length n) o
     unfolding writeSheet writeSheetAfter
-    write-done b h p =
-        let l : 16 * (1 + n) ≡ length (freshSheet s) = fresh-length in
+    write-done o h p =
+        let l : n ≡ length (freshSheet s) = fresh-length in
         let t = le-ltb (length out) (length (freshSheet s)) (omega arith) in
         let w : put out 0 (freshSheet s) ≡ onto (freshSheet s) out = put-front out (freshSheet s) (omega arith) in (
           ap (λ (k : ℕ). values k) l

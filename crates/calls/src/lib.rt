@@ -1,4 +1,4 @@
-// The calls of document 01 and its further requests, for the main screen. None has a requirement.
+// The calls of documents 01 and 02, for the main screen. None has a requirement.
 use draw::Drawing;
 use number::Written;
 pub use outputs::LaidOut;
@@ -186,12 +186,13 @@ fn write_accepted(sheet: &[u8], out: &mut [u8]) -> Written
         × (now (out .exit) ≡ S.writeSheetAfter (now (sheet .entry)) (now (out .entry)))
         ⌝ }
 {
-    let n = write_sheet::records_for(sheet);
-    let bytes = 16 * (1 + n);
+    let states = write_sheet::states_size(sheet);
+    let arrows = write_sheet::arrows_size(sheet);
+    let bytes = 16 * (1 + states + arrows);
     if out.len() < bytes {
         return Written::Refused(7);
     }
-    write_sheet::write_afresh(sheet, out, n);
+    write_sheet::write_afresh(sheet, out, states, arrows);
     Written::Length(bytes)
 }
 

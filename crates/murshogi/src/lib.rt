@@ -1,5 +1,5 @@
-// The calls of document 01 and its further requests for C and Rust, as include/murshogi.h declares them. Each returns 0, or the number of the
-// refusal; what it is lent for values is written only where it returns 0.
+// The calls of documents 01 and 02 for C and Rust, as include/murshogi.h declares them. Each returns 0, or the number of
+// the refusal; what it is lent for values is written only where it returns 0.
 ghost use mathlib.Core.Path.{_≡_};
 ghost use lib.ListN as L;
 ghost use Rattle.calls.specs.Calls as C;

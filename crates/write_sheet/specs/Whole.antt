@@ -1,15 +1,15 @@
 -- A sheet written afresh: how many records, and the header before states and arrows. Assumes nothing.
-use mathlib.Core.Path.{_≡_, _∙_}
+use mathlib.Core.Path.{_≡_, sym, _∙_}
 use mathlib.Core.Bool.{false, not}
-use mathlib.Core.List.{List, _++_}
+use mathlib.Core.List.{List, _++_, map}
 use Prim.Native.Nat.{ℕ, _+_, _*_, _≤_, _<_}
 use native.Mathlib.Omega.{arith}
 use lib.Dec.{ltb, eqb}
-use lib.ListN.{length}
+use lib.ListN.{length, length-map}
 use Rattle.laws.specs.Any.{anyOf, any-narrower}
 use Rattle.laws.specs.Bools.{or-second, or-false-right}
 use Rattle.laws.specs.Put.{put, put-put}
-use Rattle.sheet.specs.Sheet.{count, firstState, firstArrow, Graph, stateOf, statesOf, arrowOf, arrowsOf, meaning}
+use Rattle.sheet.specs.Sheet.{count, firstState, firstArrow, stateChain, Graph, stateOf, statesOf, arrowOf, arrowsOf, meaning}
 use Rattle.sheet.specs.Refusals.{wrongLength, wrongVersion, wrongBytes, wrongChains, largeArrow, overLimits, mainScreen}
 use Rattle.sheet.specs.Accepted.{few}
 use Rattle.sheet.specs.Records.{header}
@@ -37,8 +37,9 @@ savable s sized first plain chained within =
 
 -- ---- any sheet
 module _ (s : List ℕ) where
-  pub records-sum : (a b : ℕ) → a ≡ length (statesOf s) → b ≡ spaceOf arrowSize (arrowsOf s) → a + b ≡ recordsFor (meaning s)
-  records-sum a b e q = let z : spaceOf stateSize (statesOf s) ≡ length (statesOf s) = space-one (statesOf s) in omega arith
+  pub states-space : (n : ℕ) → n ≡ length (stateChain s) → n ≡ spaceOf stateSize (statesOf s)
+  unfolding statesOf
+  states-space n e = e ∙ sym (length-map (stateChain s) (stateOf s)) ∙ sym (space-one (map (stateOf s) (stateChain s)))
 
   first-state : firstIndex 1 (statesOf s) ≡ indexIf (not (eqb (firstState s) 0)) 1
   unfolding statesOf

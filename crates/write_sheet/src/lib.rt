@@ -10,7 +10,7 @@ ghost use Rattle.sheet.specs.Refusals as R;
 ghost use Rattle.encode.specs.Encode as E;
 ghost use Rattle.write_line.specs.Writing as W;
 ghost use Rattle.write_sheet.specs.Sheets as Q;
-use meaning::state_count;
+use meaning::chain_length;
 use reader::Record;
 use reader::next_of;
 use reader::record_of;
@@ -51,8 +51,15 @@ fn lines_size(s: &[u8], first: usize) -> usize
     n
 }
 
+// How many records the states take.
+pub fn states_size(s: &[u8]) -> usize
+    ensures { λ r. ⌜ (r ≡ E.spaceOf E.stateSize (S.statesOf (now (s .entry)))) × (r ≤ 65536) ⌝ }
+{
+    chain_length(s, word_at(s, 4))
+}
+
 // How many records the arrows take: at most 589,825 for each of 65,536.
-fn arrows_size(s: &[u8]) -> usize
+pub fn arrows_size(s: &[u8]) -> usize
     requires { ⌜ anyOf Q.longArrow (S.arrowsOf (now s)) ≡ false ⌝ }
     ensures { λ r. ⌜ (r ≡ E.spaceOf E.arrowSize (S.arrowsOf (now (s .entry)))) × (r ≤ 38654771200) ⌝ }
 {
@@ -197,24 +204,18 @@ fn write_arrows(s: &[u8], out: &mut [u8], k: usize) -> usize
 
 // ---- the sheet
 
-// How many records the sheet is written in.
-pub fn records_for(sheet: &[u8]) -> usize
-    requires { ⌜ Q.Savable (now sheet) ⌝ }
-    ensures { λ r. ⌜ (r ≡ E.recordsFor (S.meaning (now (sheet .entry)))) × (r ≤ 4095) ⌝ }
-{
-    state_count(sheet) + arrows_size(sheet)
-}
-
-// Writes the sheet afresh, in n records: states, arrows, and the header before them.
-pub fn write_afresh(sheet: &[u8], out: &mut [u8], n: usize)
+// Writes the sheet afresh: its states and its arrows, which take so many records, and the header before them.
+pub fn write_afresh(sheet: &[u8], out: &mut [u8], states: usize, arrows: usize)
     requires { ⌜
         Q.Savable (now sheet)
-        × (n ≡ E.recordsFor (S.meaning (now sheet)))
-        × (16 * (1 + n) ≤ length (now out))
+        × (states ≡ E.spaceOf E.stateSize (S.statesOf (now sheet)))
+        × (arrows ≡ E.spaceOf E.arrowSize (S.arrowsOf (now sheet)))
+        × (16 * (1 + states + arrows) ≤ length (now out))
         ⌝ }
     ensures { λ _. ⌜ now (out .exit) ≡ put (now (out .entry)) 0 (E.encode (S.meaning (now (sheet .entry)))) ⌝ }
 {
-    let k = write_states(sheet, out, 1);
+    let k = 1 + states;
+    write_states(sheet, out, 1);
     write_arrows(sheet, out, k);
     put_record(
         out,
@@ -226,6 +227,6 @@ pub fn write_afresh(sheet: &[u8], out: &mut [u8], n: usize)
             word6: index_if(word_at(sheet, 6) != 0, k),
             word8: 0,
         },
-        n,
+        states + arrows,
     );
 }

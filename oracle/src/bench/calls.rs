@@ -8,7 +8,7 @@ use crate::calls as hardware;
 use crate::generate::{Size, from_first, shuffled};
 use crate::port::{
     murshogi_check, murshogi_clutter, murshogi_label_size, murshogi_layout, murshogi_list, murshogi_route,
-    murshogi_write_num,
+    murshogi_write_num, murshogi_write_sheet,
 };
 use crate::random::Random;
 use crate::rivals::library::calls as library;
@@ -28,10 +28,11 @@ pub enum Call {
     Clutter,
     WriteNum,
     List,
+    WriteSheet,
 }
 
 /// In the header's order.
-pub const CALLS: [(Call, &str); 7] = [
+pub const CALLS: [(Call, &str); 8] = [
     (Call::Check, "check"),
     (Call::LabelSize, "label_size"),
     (Call::Layout, "layout"),
@@ -39,6 +40,7 @@ pub const CALLS: [(Call, &str); 7] = [
     (Call::Clutter, "clutter"),
     (Call::WriteNum, "write_num"),
     (Call::List, "list"),
+    (Call::WriteSheet, "write_sheet"),
 ];
 
 impl Call {
@@ -121,6 +123,7 @@ macro_rules! theirs {
             Call::Route => $calls::route(&$case.sheet, &$case.x, &$case.y, (5120, 65_536)).err(),
             Call::Layout => $calls::layout(&$case.sheet, 0, 64, 64).err(),
             Call::List => $calls::list(&$case.sheet, 0, 65_536).err(),
+            Call::WriteSheet => $calls::write_sheet(&$case.sheet, 65_536).err(),
         }
         .unwrap_or(0)
     };
@@ -163,6 +166,7 @@ impl Case {
                     lengths.as_mut_ptr(),
                 ),
                 Call::List => murshogi_list(s, n, 0, text, room, lengths.as_mut_ptr()),
+                Call::WriteSheet => murshogi_write_sheet(s, n, text, room, lengths.as_mut_ptr()),
             }
         })
     }
@@ -192,14 +196,14 @@ impl Case {
 }
 
 /// The processor's time that this thread has had: what others take of a shared machine is not in it.
-fn spent() -> Duration {
+pub fn spent() -> Duration {
     const THREAD: i32 = 3;
     let mut t = [0; 2];
     assert!(unsafe { clock_gettime(THREAD, &mut t) } == 0);
     Duration::new(t[0] as u64, t[1] as u32)
 }
 
-const ROUNDS: usize = 15;
+pub const ROUNDS: usize = 15;
 
 /// The median of several rounds, in each of which the four take their turns.
 fn medians(case: &mut Case, call: Call) -> [f64; 4] {

@@ -43,9 +43,9 @@ pub fn callgrind(options: &[&str], words: &[&str]) -> String {
     text
 }
 
-/// The counts of a run of [`each`], in its order.
-fn counted() -> Vec<f64> {
-    callgrind(&["--dump-after=murshogi_counted", "--combine-dumps=yes"], &["each"])
+/// The counts of a run of `oracle bench` with this word, one for each call of [`murshogi_counted`].
+pub fn counted(word: &str) -> Vec<f64> {
+    callgrind(&["--dump-after=murshogi_counted", "--combine-dumps=yes"], &[word])
         .lines()
         .filter_map(|l| l.strip_prefix("totals: "))
         .map(|n| n.trim().parse().unwrap())
@@ -55,7 +55,7 @@ fn counted() -> Vec<f64> {
 
 /// The table of counts.
 pub fn print() {
-    let list = counted();
+    let list = counted("each");
     assert!(list.len() == 3 * CALLS.len() * SIDES.len(), "{} counts", list.len());
     table("thousands", |i, j| {
         let at = (i * CALLS.len() + j) * SIDES.len();

@@ -1,6 +1,6 @@
-//! Cases of the seven calls. The answer and the layout's kind, a byte each; the length of the sheet,
+//! Cases of the eight calls. The answer and the layout's kind, a byte each; the length of the sheet,
 //! or of a label's text, four bytes; the sheet; what the call is given besides; and what it writes.
-//! A number of things is two bytes.
+//! A number of things is two bytes, the room for a sheet four.
 
 use std::collections::BTreeMap;
 
@@ -15,6 +15,9 @@ use crate::sheet::{Arrow, Sheet, label_block, read};
 
 /// No case is longer than the program's room for one.
 const LONGEST: usize = 140_000;
+
+/// The most that is lent for a sheet: the program has that much room, and sixteen bytes before it and behind it.
+pub const MOST_ROOM: usize = 65_568;
 
 /// A call and what it gives.
 #[derive(Default)]
@@ -52,6 +55,20 @@ impl Call {
     }
 }
 
+/// A sheet written into so much room.
+fn saving(sheet: &[u8], room: usize) -> Call {
+    let answer = calls::write_sheet(sheet, room);
+    Call {
+        kind: kind::WRITE_SHEET,
+        answer: answer.as_ref().err().copied().unwrap_or(0),
+        sheet: sheet.to_vec(),
+        given: Payload::new().long(room),
+        written: answer.unwrap_or_default(),
+        other: vec![1, 0, 0, 0, 0, 0, 0, 0, 0, 0, 0, 0, 0, 0, 0, 0],
+        ..Call::default()
+    }
+}
+
 /// A sheet and centres.
 pub struct Drawn {
     pub sheet: Vec<u8>,
@@ -73,7 +90,7 @@ pub struct Calls<'a> {
 }
 
 /// The room for an answer of n: plenty, just enough, one too few, or anything less.
-fn room(rng: &mut Random, n: usize) -> usize {
+pub fn room(rng: &mut Random, n: usize) -> usize {
     match rng.below(14) {
         0 | 1 => n,
         2 => n.saturating_sub(1),
@@ -142,10 +159,6 @@ impl<'a> Calls<'a> {
         self.answers.values().sum()
     }
 
-    fn answered(&self, kind: u8) -> usize {
-        self.answers.get(&(kind, 0)).copied().unwrap_or(0)
-    }
-
     /// The counts; every refusal is there, and 1 to 6 by each call that takes a sheet, and accents in every kind.
     pub fn end(&self) {
         for refusal in 1..=11 {
@@ -154,9 +167,12 @@ impl<'a> Calls<'a> {
         for refusal in [0, 1, 2, 3, 4, 5, 6, 7, 11] {
             assert!(self.answers.contains_key(&(kind::LIST, refusal)), "no listing {refusal}");
         }
+        for answer in 0..=7 {
+            assert!(self.answers.contains_key(&(kind::WRITE_SHEET, answer)), "no written sheet {answer}");
+        }
         assert!(self.starts.iter().all(|&n| n > 0), "starts: {:?}", self.starts);
         println!("listings, by starts: {:?}", SORTS.iter().zip(self.starts).collect::<Vec<_>>());
-        for kind in kind::ROUTE..=kind::LABEL_SIZE {
+        for kind in (kind::ROUTE..=kind::LABEL_SIZE).chain([kind::WRITE_SHEET]) {
             let [some, none, parted] = self.accents[&kind];
             println!("kind {kind}, not refused: {some} with accents, {none} without; in two pieces {parted}");
             assert!(some > 0 && none > 0 && (parted > 0 || kind == kind::LABEL_SIZE), "accents of kind {kind}");
@@ -288,6 +304,27 @@ impl<'a> Calls<'a> {
             ..Call::default()
         };
         self.add(&call);
+    }
+
+    /// Given: the room that is lent, four bytes, at most [`MOST_ROOM`]. Written: the sheet as it is saved. The answer.
+    pub fn write_sheet(&mut self, sheet: &[u8], room: usize) -> Result<Vec<u8>, u8> {
+        assert!(room <= MOST_ROOM);
+        let call = saving(sheet, room);
+        let answer = call.answer;
+        self.add(&call);
+        if answer == 0 { Ok(call.written) } else { Err(answer) }
+    }
+
+    /// The same case, spoiled: with this answer and this that is written.
+    pub fn spoiled_sheet(&mut self, sheet: &[u8], room: usize, answer: u8, written: &[u8]) {
+        let call = saving(sheet, room);
+        assert!((answer, written) != (call.answer, &call.written), "it is as it was");
+        self.out.spoiled(kind::WRITE_SHEET, call.case(answer, written));
+    }
+
+    /// How many cases of a kind have an answer.
+    pub fn with_answer(&self, kind: u8, answer: u8) -> usize {
+        self.answers.get(&(kind, answer)).copied().unwrap_or(0)
     }
 
     fn call(&mut self, kind: u8, d: &Drawn) {
@@ -422,7 +459,7 @@ fn turn(rng: &mut Random, i: usize) -> Drawn {
 /// what is missing of the refusals 1 to 6 by each call that takes a sheet.
 pub fn cases(c: &mut Calls) {
     let rng = &mut Random::new(707);
-    while c.answered(kind::LIST) < 260 {
+    while c.with_answer(kind::LIST, 0) < 260 {
         let drawing = if rng.once_in(40) { drawing(rng) } else { small(rng) };
         let d = drawn(rng, &drawing);
         let by = layout_kind(rng);
