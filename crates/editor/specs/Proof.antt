@@ -75,7 +75,7 @@ module _ (s : List ℕ) (c : Clear (refusals mainScreen s)) where
       let d : length s ≡ 16 * (1 + count s) = sheet-long in
       omega arith
 
-  pub save : (out : List ℕ) → length s ≤ length out → Saved s out
+  save : (out : List ℕ) → length s ≤ length out → Saved s out
   save out h =
       let a : length (freshSheet s) ≤ length s = fresh-shorter in
       record { bytes = length (freshSheet s); answer = room-enough s (length out) c (omega arith) }
@@ -97,7 +97,7 @@ module _ (s out : List ℕ) (a : Saved s out) where
   unfolding writeSheet
   heard = answered-clear (writeRefusals s (length out)) (length (freshSheet s)) (a .bytes) (sym (a .answer))
 
-  pub given-clear : Clear (refusals mainScreen s)
+  given-clear : Clear (refusals mainScreen s)
   given-clear = clear-from (refusals mainScreen s) [] (writeRefusals s (length out)) clear-none (heard .0) refl
 
   given : check s ≡ values tt
@@ -107,7 +107,7 @@ module _ (s out : List ℕ) (a : Saved s out) where
   unfolding writeSheetAfter
   after = clear-decides (λ m. out) (onto (freshSheet s) out) (writeRefusals s (length out)) (heard .0)
 
-  pub saved-is : savedSheet s out a ≡ freshSheet s
+  saved-is : savedSheet s out a ≡ freshSheet s
   saved-is = rw (after, heard .1) (take-append-seam (freshSheet s) (drop (length (freshSheet s)) out))
 
   saved-accepted : check (savedSheet s out a) ≡ values tt
@@ -165,7 +165,7 @@ module _ (s : List ℕ) (room : ℕ) where
   unfolding writeSheet
   carried n f = first-joined number (values (length (freshSheet s))) (refusals mainScreen s) (last s room) n f
 
-  pub check-carried : (n : ℕ) → check s ≡ number n → writeSheet s room ≡ number n
+  check-carried : (n : ℕ) → check s ≡ number n → writeSheet s room ≡ number n
   check-carried n e = carried n (check-answered s .numbers n .0 e)
 
   -- none of the sheet's own refusals is 7

@@ -69,7 +69,7 @@ over-join P k n m p q j a b = by-lt j (k + n) (λ h. p j a h) (λ h. q j h (omeg
 abbrev pub Ahead : ℕ → ℕ → Type 0
 Ahead k n = (n ≡ 0 → ⊥) → k < n
 
-pub first-ahead : {A : Type 0} (k n : ℕ) (l : List A) → 1 ≤ n → Ahead k (firstIndex (k + n) l)
+first-ahead : {A : Type 0} (k n : ℕ) (l : List A) → 1 ≤ n → Ahead k (firstIndex (k + n) l)
 first-ahead k n [] h z = absurd (z refl)
 first-ahead k n (x ∷ l) h z = omega arith
 
@@ -81,7 +81,7 @@ module _ {A : Type 0} {size : A → ℕ} {write : ℕ → ℕ → A → List ℕ
       rw (length-append (write k (firstIndex (k + size x) l) x) (allRecords size write (k + size x) l), y .wide k (firstIndex (k + size x) l) x (any-head bad x l b), all-length (k + size x) l (any-rest bad x l b))
       (omega arith)
 
-  pub space-some : (l : List A) → length l ≤ spaceOf size l
+  space-some : (l : List A) → length l ≤ spaceOf size l
   unfolding spaceOf
   space-some [] = omega arith
   space-some (x ∷ l) = let a : 1 ≤ size x = y .some x in let b : length l ≤ spaceOf size l = space-some l in omega arith

@@ -33,7 +33,7 @@ by-least (suc m) (suc n) (b ∷ l) h =
     let r : length (piecesBy m (drop 12 (b ∷ l))) ≤ n = by-least m n (drop 12 (b ∷ l)) (omega arith) in
     omega arith
 
-pub pieces-least : (n : ℕ) (l : List ℕ) → length l ≤ 12 * n → length (pieces l) ≤ n
+pieces-least : (n : ℕ) (l : List ℕ) → length l ≤ 12 * n → length (pieces l) ≤ n
 pieces-least n l h = by-least (length l) n l h
 
 -- things that take a record each
@@ -126,7 +126,7 @@ module _ (s : List ℕ) (first : wrongVersion s ≡ false) (plain : wrongBytes s
   unfolding met
   of-arrows p e = or-false-right (anyOf p (flatMap (metAlone 1) (stateChain s))) (anyOf p (flatMap (metArrow s) (arrowChain s))) (sym (any-join p (flatMap (metAlone 1) (stateChain s)) (flatMap (metArrow s) (arrowChain s))) ∙ e)
 
-  pub flags-right : anyOf manyFlags (statesOf s) ≡ false
+  flags-right : anyOf manyFlags (statesOf s) ≡ false
   unfolding statesOf
   flags-right =
       any-map manyFlags (stateOf s) (stateChain s)

@@ -70,14 +70,14 @@ module _ (s : List ℕ) (e : length s ≡ 16 * (1 + count s)) where
       let t : toOf s k ≡ x .target = at-word 6 (arrow-head k n x a) ∙ u16-back (x .target) in
       rw (f, t, lines-are k n x a)
 
-  pub states-are : (l : List State) → firstState s ≡ firstIndex 1 l → StandsAt s 1 (allRecords stateSize stateRecords 1 l) → statesOf s ≡ l
+  states-are : (l : List State) → firstState s ≡ firstIndex 1 l → StandsAt s 1 (allRecords stateSize stateRecords 1 l) → statesOf s ≡ l
   unfolding statesOf
   states-are l q a =
       ap (map (stateOf s)) (chain-is (state-form never) (firstState s) 1 l q (omega arith) (any-never l) a)
       ∙ all-map (state-form never) s (stateOf s) (λ x. x) (λ k n x h b t. ap (λ (f : ℕ). record { flags = f }) (at-byte 1 t)) 1 l (omega arith) (any-never l) a
       ∙ map-id l
 
-  pub arrows-are : (k : ℕ) (l : List Arrow) → 1 ≤ k → firstArrow s ≡ firstIndex k l → StandsAt s k (allRecords arrowSize arrowRecords k l) → arrowsOf s ≡ l
+  arrows-are : (k : ℕ) (l : List Arrow) → 1 ≤ k → firstArrow s ≡ firstIndex k l → StandsAt s k (allRecords arrowSize arrowRecords k l) → arrowsOf s ≡ l
   unfolding arrowsOf
   arrows-are k l h q a =
       ap (map (arrowOf s)) (chain-is arrow-form (firstArrow s) k l q h (any-never l) a)

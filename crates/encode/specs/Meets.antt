@@ -146,7 +146,7 @@ module _ (g : Graph) where
       (all-none arrow-form s (metArrow s) (isOther s) (arrow-kinds s (encode-right g)) (arrowsFrom g) (g .arrows) (omega arith) (any-never (g .arrows)) (arrows-at g))
 
   -- Every record is met exactly once, in a chain of its kind.
-  pub encode-once : Once (encode g)
+  encode-once : Once (encode g)
   encode-once = record {
     each = λ k a b. let d : k ≤ recordsFor g = rw (count-is g) at b in rw met-in-order (each-once k 1 (recordsFor g) a (omega arith));
     no-zero = rw met-in-order (none-other 0 1 (recordsFor g) (λ a b. omega arith));

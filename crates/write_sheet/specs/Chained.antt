@@ -23,7 +23,7 @@ use Rattle.write_sheet.specs.Sheets.{goesOn}
 -- f is the element of a record
 module _ {A : Type 0} (s : List ℕ) (f : ℕ → A) where
   -- ---- the index of what is written from record k on: of what is left of a chain, and of a whole one
-  pub index-left : (n i k : ℕ) → firstIndex k (map f (chainBy s n i)) ≡ indexIf (goesOn i n) k
+  index-left : (n i k : ℕ) → firstIndex k (map f (chainBy s n i)) ≡ indexIf (goesOn i n) k
   unfolding chainBy
   index-left zero i k = by-bool (eqb i 0) (λ t. rw t) (λ t. rw t)
   index-left (suc n) i k = by-bool (eqb i 0) (λ t. rw t) (λ t. rw (t, ne-eqb (suc n) 0 (λ e. omega arith)))
