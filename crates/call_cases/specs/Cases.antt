@@ -95,7 +95,7 @@ listAgrees a by s rest = leb 2 (length rest) && listIs a by s (wordAt rest 0) (d
 -- ---- write a sheet: the room that is lent, four bytes; the sheet that is written. No case lends more than 65,568 bytes.
 
 unfoldable pub sheetIs : ℕ → List ℕ → ℕ → List ℕ → List ℕ → Bool
-sheetIs a s room text out = wrote a text (writeSheet s room) (around room (writeSheetAfter s) out)
+sheetIs a s room fresh out = wrote a fresh (writeSheet s room) (around room (writeSheetAfter s) out)
 
 unfoldable pub sheetAgrees : ℕ → List ℕ → List ℕ → Bool
 sheetAgrees a s rest = leb (longAt rest 0) 65568 && (leb 4 (length rest) && sheetIs a s (longAt rest 0) (drop 4 rest) (replicate 65600 170))

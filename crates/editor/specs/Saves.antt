@@ -27,7 +27,8 @@ pub record Saved (s out : List ℕ) : Type 0 where
 abbrev pub savedSheet : (s out : List ℕ) → Saved s out → List ℕ
 savedSheet s out a = take (a .bytes) (writeSheetAfter s out)
 
--- how a sheet is laid: header and as many records as the count says
+-- how a sheet is laid: header and as many records as the count says. (A first state is record 1, and the first arrow stands behind the states, by `ordered`;
+-- version 1, text counts from 1 on and zeros where no byte is named are what `check` asks.)
 pub record AsEdited (w : List ℕ) : Type 0 where
   pub long : length w ≡ 16 * (1 + count w)
   -- the records stand in the order in which the chains meet them: "all states in order, then all arrows, each followed by its lines and each line by its pieces"
@@ -66,14 +67,14 @@ pub record EditorSaves : Type 0 where
   -- an accepted sheet, if as many bytes are lent as it has, and so where 65,536 are
   pub enough : (s out : List ℕ) → check s ≡ values tt → length s ≤ length out → Saved s out
   pub always : (s out : List ℕ) → check s ≡ values tt → 65536 ≤ length out → Saved s out
-  -- 7 comes only from the output lent: of an accepted sheet,
+  -- 7 comes only from the output lent, of an accepted sheet;
   pub seven : (s out : List ℕ) → writeSheet s (length out) ≡ number 7 → (check s ≡ values tt) × (length out < length s)
-  -- exactly where it is shorter than the written sheet; any other is enough
+  -- it is given exactly where that is shorter than the written sheet, and any other is enough
   pub exactly : (s out lent : List ℕ) (a : Saved s out)
       → (writeSheet s (length lent) ≡ number 7 → length lent < a .bytes)
       × (length lent < a .bytes → writeSheet s (length lent) ≡ number 7)
       × (a .bytes ≤ length lent → writeSheet s (length lent) ≡ values (a .bytes))
-  -- a sheet that `check` refuses is refused by that number; refused by any, everything that is lent is as it was
+  -- a sheet that `check` refuses is refused by that number (that no other is given: `write-answered`); refused by any, everything that is lent is as it was
   pub refused : (s out : List ℕ) (n : ℕ) → check s ≡ number n → writeSheet s (length out) ≡ number n
   pub kept : (s out : List ℕ) (n : ℕ) → writeSheet s (length out) ≡ number n → writeSheetAfter s out ≡ out
   -- ---- of graphs
@@ -82,8 +83,8 @@ pub record EditorSaves : Type 0 where
   pub graphs : (g : Graph) → (meaning (encode g) ≡ g) × AsEdited (encode g) × (count (encode g) ≡ recordsFor g)
   -- a screen accepts it where the graph is within its limits, every line is well-formed, no flag bit above 1 is set, and there are at most 4,095 records
   pub screens : (m : Limits) (g : Graph) → Encodable m g → checkOf m (encode g) ≡ Accepted
-  -- it is bytes where the graph's flags and texts are and its ends are u16
+  -- it is bytes where the graph's flags and texts are, its ends are u16 and there are at most 65,535 records
   pub ofBytes : (g : Graph) → OfBytes g → recordsFor g ≤ 65535 → (i : ℕ) → byteAt (encode g) i < 256
-  -- what an accepted sheet means is such a graph, in no more records than the sheet has; what a sheet of bytes means has bytes and u16 ends
+  -- what an accepted sheet means can be written, in no more records than the sheet has; what a sheet of bytes means has bytes and u16 ends
   pub encodable : (m : Limits) (s : List ℕ) → checkOf m s ≡ Accepted → Encodable m (meaning s) × (recordsFor (meaning s) ≤ count s)
   pub meant : (s : List ℕ) → ((i : ℕ) → byteAt s i < 256) → OfBytes (meaning s)

@@ -5,11 +5,12 @@ use lib.ListN.{replicate}
 use Rattle.laws.specs.Any.{anyOf}
 use Rattle.laws.specs.Loops.{anyFor, anyUp, over}
 use Rattle.laws.specs.Refusals.{decide}
+use Rattle.text.specs.Ascii.{ascii}
 use Rattle.sheet.specs.Sheet.{chainBy, metLine, metArrow, met, lineOf, linesFrom, arrowOf, statesOf, arrowsOf}
 use Rattle.sheet.specs.Refusals.{repeats, isSet, wrongRecord, wrongBytes, indices, wrongChains, largeArrow, overLimits, illArrow, illFormed}
-use Rattle.sheet.specs.Examples.{small, shuffled}
+use Rattle.sheet.specs.Examples.{small, shuffled, lined}
 use Rattle.encode.specs.Encode.{spaceOf, allRecords, piecesBy, lineRecords, arrowRecords, encode}
-use Rattle.calls.specs.Calls.{number, writeSheet, writeSheetAfter}
+use Rattle.calls.specs.Calls.{values, number, writeSheet, writeSheetAfter}
 use Rattle.editor.specs.Saves.{Saved}
 
 pub record WorkedSave : Type 0 where
@@ -18,8 +19,10 @@ pub record WorkedSave : Type 0 where
   pub bytes : saved .bytes ≡ 96
   pub after : writeSheetAfter shuffled (replicate 100 170) ≡ small ++ replicate 4 170
   -- one byte less than the sheet has
-  pub short : writeSheet shuffled 95 ≡ number 7
+  pub refused : writeSheet shuffled 95 ≡ number 7
+  -- two pieces of one byte become one of two: 80 bytes become 64
+  pub joined : writeSheet (lined (ascii "a") (ascii "b")) 80 ≡ values 64
 
 pub worked-save : WorkedSave
 unfolding writeSheet writeSheetAfter decide wrongBytes wrongRecord isSet anyUp anyFor wrongChains indices met metArrow metLine flatMap chainBy anyOf repeats overLimits largeArrow statesOf arrowsOf arrowOf linesFrom lineOf illFormed illArrow over encode allRecords spaceOf piecesBy lineRecords arrowRecords
-worked-save = record { saved = record { bytes = 96; answer = refl }; bytes = refl; after = refl; short = refl }
+worked-save = record { saved = record { bytes = 96; answer = refl }; bytes = refl; after = refl; refused = refl; joined = refl }

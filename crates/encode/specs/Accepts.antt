@@ -1,25 +1,25 @@
 -- A graph's sheet is accepted. Assumes nothing.
-use mathlib.Core.Path.{_≡_, sym, ap, _∙_}
+use mathlib.Core.Path.{_≡_, ap, _∙_}
 use mathlib.Core.Bool.{false, not, _||_}
 use Prim.Native.Nat.{ℕ, _+_, _*_, _≤_, _<_}
 use native.Mathlib.Omega.{arith}
 use lib.Dec.{ltb, eqb}
-use lib.ListN.{length, getD, length-map}
-use borrow.Author.Tests.{ltb-false, le-ltb, eq-eqb}
-use Rattle.sheet.specs.Sheet.{version, count, State, Graph, flagsOf}
+use lib.ListN.{length, getD}
+use borrow.Author.Tests.{le-ltb, eq-eqb}
+use Rattle.sheet.specs.Sheet.{version, count, Graph, flagsOf}
 use Rattle.sheet.specs.Refusals.{wrongLength, wrongVersion, overLimits, illFormed, refusals, checkOf}
 use Rattle.laws.specs.Bools.{or-none}
 use Rattle.sheet.specs.Accepted.{Within, not-over, not-ill}
 use Rattle.sheet.specs.Order.{accepted-exactly}
-use Rattle.laws.specs.Any.{anyOf, any-map, none-at, none-all}
 use Rattle.laws.specs.Refusals.{Clear, without, clear-none}
 use Rattle.sheet.specs.declared.Checked.the-variants.{Accepted}
 use Rattle.sheet.specs.declared.Limits.{Limits}
 use Rattle.encode.specs.Encode.{recordsFor, encode}
+use Rattle.encode.specs.Flags.{none-above}
 use Rattle.encode.specs.Blocks.{at-word}
 use Rattle.encode.specs.Means.{head-at, encode-length, encode-right, meaning-encode}
 use Rattle.encode.specs.Meets.{right-chains}
-use Rattle.encode.specs.Clean.{manyFlags, right-bytes}
+use Rattle.encode.specs.Clean.{right-bytes}
 
 -- a graph whose sheet a screen accepts: within its limits, every line well-formed, no flag bit above 1, at most 4,095 records
 pub record Encodable (m : Limits) (g : Graph) : Type 0 where
@@ -27,19 +27,8 @@ pub record Encodable (m : Limits) (g : Graph) : Type 0 where
   pub flags : (k : ℕ) → k < length (g .states) → getD (flagsOf g) k 0 ≤ 3
   pub few : recordsFor g ≤ 4095
 
--- flags up to 3, said of each state and of all
-few-flags : (g : Graph) → ((k : ℕ) → k < length (g .states) → getD (flagsOf g) k 0 ≤ 3) → anyOf manyFlags (g .states) ≡ false
-few-flags g h =
-    sym (any-map (ltb 3) (λ (a : State). a .flags) (g .states))
-    ∙ none-all (ltb 3) (flagsOf g) 0 (λ k l. le-ltb 3 (getD (flagsOf g) k 0) (h k (omega (arith, length-map (g .states) (λ (a : State). a .flags)))))
-
-pub flags-few : (g : Graph) → anyOf manyFlags (g .states) ≡ false → (k : ℕ) → k < length (g .states) → getD (flagsOf g) k 0 ≤ 3
-flags-few g e k h =
-    ltb-false 3 (getD (flagsOf g) k 0)
-    (none-at (ltb 3) (flagsOf g) k 0 (any-map (ltb 3) (λ (a : State). a .flags) (g .states) ∙ e) (omega (arith, length-map (g .states) (λ (a : State). a .flags))))
-
-right-length : (g : Graph) → recordsFor g ≤ 4095 → wrongLength (encode g) ≡ false
-right-length g h =
+fits-length : (g : Graph) → recordsFor g ≤ 4095 → wrongLength (encode g) ≡ false
+fits-length g h =
     let n = length (encode g) in
     let e : n ≡ 16 * (1 + recordsFor g) = encode-length g in
     or-none (ltb n 16) (ltb 65536 n || not (eqb n (16 * (1 + count (encode g))))) (le-ltb n 16 (omega arith))
@@ -53,9 +42,9 @@ module _ (m : Limits) (g : Graph) (w : Encodable m g) where
   -- No cause of a refusal holds.
   pub encode-clear : Clear (refusals m (encode g))
   encode-clear =
-      without 1 (right-length g (w .few))
+      without 1 (fits-length g (w .few))
       (without 2 (right-version g)
-      (without 4 (right-bytes g (few-flags g (w .flags)))
+      (without 4 (right-bytes g (none-above 3 g (w .flags)))
       (without 3 (right-chains g)
       (without 5 (ap (overLimits m) (meaning-encode g) ∙ not-over m g (w .within))
       (without 6 (ap illFormed (meaning-encode g) ∙ not-ill m g (w .within))

@@ -56,14 +56,14 @@ pub record InRecords {A : Type 0} (size : A → ℕ) (write : ℕ → ℕ → A 
   pub linked : (s : List ℕ) (k n : ℕ) (x : A) → bad x ≡ false → StandsAt s k (write k n x) → next s k ≡ n
 
 -- P of each of n records from record k on
-abbrev pub Over : (ℕ → Type 0) → ℕ → ℕ → Type 0
-Over P k n = (j : ℕ) → k ≤ j → j < k + n → P j
+abbrev pub Throughout : (ℕ → Type 0) → ℕ → ℕ → Type 0
+Throughout P k n = (j : ℕ) → k ≤ j → j < k + n → P j
 
-pub over-one : (P : ℕ → Type 0) (k : ℕ) → P k → Over P k 1
-over-one P k q j a b = let d : j ≡ k = omega arith in rw d q
+pub throughout-one : (P : ℕ → Type 0) (k : ℕ) → P k → Throughout P k 1
+throughout-one P k q j a b = let d : j ≡ k = omega arith in rw d q
 
-pub over-join : (P : ℕ → Type 0) (k n m : ℕ) → Over P k n → Over P (k + n) m → Over P k (n + m)
-over-join P k n m p q j a b = by-lt j (k + n) (λ h. p j a h) (λ h. q j h (omega arith))
+pub throughout-join : (P : ℕ → Type 0) (k n m : ℕ) → Throughout P k n → Throughout P (k + n) m → Throughout P k (n + m)
+throughout-join P k n m p q j a b = by-lt j (k + n) (λ h. p j a h) (λ h. q j h (omega arith))
 
 -- an index points forward from record k: zero, or above k
 abbrev pub Ahead : ℕ → ℕ → Type 0
@@ -136,10 +136,10 @@ module _ {A : Type 0} {size : A → ℕ} {write : ℕ → ℕ → A → List ℕ
         ap₂ (λ (z r : List B). z ++ r) (t k (firstIndex (k + size x) l) x h g (all-head k x l a)) (all-flat f v t (k + size x) l (omega arith) (any-rest bad x l b) (all-rest k x l g a))
 
     -- what holds of each record of an element, of all
-    pub all-over : (P : ℕ → Type 0) → ((k n : ℕ) (x : A) → bad x ≡ false → Ahead k n → StandsAt s k (write k n x) → Over P k (size x))
-        → (k : ℕ) (l : List A) → anyOf bad l ≡ false → StandsAt s k (allRecords size write k l) → Over P k (spaceOf size l)
+    pub all-throughout : (P : ℕ → Type 0) → ((k n : ℕ) (x : A) → bad x ≡ false → Ahead k n → StandsAt s k (write k n x) → Throughout P k (size x))
+        → (k : ℕ) (l : List A) → anyOf bad l ≡ false → StandsAt s k (allRecords size write k l) → Throughout P k (spaceOf size l)
     unfolding spaceOf
-    all-over P t k [] b a = λ j h l. absurd (omega arith)
-    all-over P t k (x ∷ l) b a =
+    all-throughout P t k [] b a = λ j h l. absurd (omega arith)
+    all-throughout P t k (x ∷ l) b a =
         let g = any-head bad x l b in
-        over-join P k (size x) (spaceOf size l) (t k (firstIndex (k + size x) l) x g (first-ahead k (size x) l (y .some x)) (all-head k x l a)) (all-over P t (k + size x) l (any-rest bad x l b) (all-rest k x l g a))
+        throughout-join P k (size x) (spaceOf size l) (t k (firstIndex (k + size x) l) x g (first-ahead k (size x) l (y .some x)) (all-head k x l a)) (all-throughout P t (k + size x) l (any-rest bad x l b) (all-rest k x l g a))

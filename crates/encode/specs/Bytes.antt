@@ -1,11 +1,11 @@
--- Every number in a graph's sheet is a byte, where the graph's flags and line bytes are, its ends are u16, and it has at most 65,535 records; and so it is of what a sheet of bytes means. Assumes nothing.
-use mathlib.Core.Path.{_≡_, refl, sym, _∙_}
+-- Every number in a graph's sheet is a byte, where the graph's flags and line bytes are, its ends are u16, and it has at most 65,535 records; what a sheet of bytes means is such a graph. Assumes nothing.
+use mathlib.Core.Path.{_≡_, refl, _∙_}
 use mathlib.Core.Bool.{Bool, false, _||_}
 use mathlib.Core.List.{List, [], _∷_, _++_, map, flatMap}
 use Prim.Native.Nat.{ℕ, zero, suc, _+_, _-_, _*_, _/_, _%_, _≤_, _<_}
 use native.Mathlib.Omega.{arith}
 use lib.Dec.{ltb}
-use lib.ListN.{length, getD, take, drop, length-map, List·getD-eq-default}
+use lib.ListN.{length, getD, take, drop, List·getD-eq-default}
 use borrow.Author.Tests.{ltb-false, le-ltb}
 use Rattle.laws.specs.Cases.{by-lt}
 use Rattle.sheet.specs.Sheet.{byteAt, le16, byteOne, fromOf, toOf, piece, stateChain, arrowChain, lineChain, textChain, State, Arrow, Graph, lineOf, linesFrom, arrowOf, stateOf, statesOf, arrowsOf, meaning, flagsOf}
@@ -15,6 +15,7 @@ use Rattle.sheet.specs.Records.{zeros, header, arrowBytes, lineBytes}
 use Rattle.sheet.specs.Meaning.{noArrow, arrowAt}
 use Rattle.sheet.specs.Accepted.{lineAt}
 use Rattle.encode.specs.Encode.{firstIndex, spaceOf, allRecords, stateSize, pieceSize, piecesBy, pieces, stateRecords, pieceRecords, lineRecords, arrowRecords, lineSize, arrowSize, recordsFor, arrowsFrom, encode}
+use Rattle.encode.specs.Flags.{flagsAbove, none-above, each-below}
 use Rattle.encode.specs.Kinds.{badPiece, piece-few, pieces-good}
 
 -- flags and texts of bytes, ends that are u16
@@ -27,10 +28,6 @@ pub record OfBytes (g : Graph) : Type 0 where
 -- some number of a list is no byte
 abbrev notBytes : List ℕ → Bool
 notBytes l = anyOf (ltb 255) l
-
--- a state that has no place in a record: its flags are no byte
-abbrev wideState : State → Bool
-wideState a = ltb 255 (a .flags)
 
 -- an arrow that has no place in a record: an end that is no u16, or a line with a number that is no byte
 unfoldable wideArrow : Arrow → Bool
@@ -120,13 +117,13 @@ arrow-small k n a b h r =
     (u16-small y (i % 256 ∷ i / 256 ∷ zeros 6) (omega arith) (u16-small i (zeros 6) f (zeros-small 6)))))))
     (all-small lineSize lineRecords notBytes (λ l. omega arith) line-small (k + 1) (a .lines) (or-false-right (ltb 65535 y) (anyOf notBytes (a .lines)) c) (omega arith))
 
-state-small : (k n : ℕ) (x : State) → wideState x ≡ false → n < 65536 → k + stateSize x ≤ 65536 → notBytes (stateRecords k n x) ≡ false
+state-small : (k n : ℕ) (x : State) → flagsAbove 255 x ≡ false → n < 65536 → k + stateSize x ≤ 65536 → notBytes (stateRecords k n x) ≡ false
 state-small k n x b h r =
     let f = x .flags in
     cons-small 1 (f ∷ n % 256 ∷ n / 256 ∷ zeros 12) (omega arith) (any-none (ltb 255) f (n % 256 ∷ n / 256 ∷ zeros 12) b (u16-small n (zeros 12) h (zeros-small 12)))
 
 -- A graph's sheet is a list of bytes.
-encode-bytes : (g : Graph) → anyOf wideState (g .states) ≡ false → anyOf wideArrow (g .arrows) ≡ false → recordsFor g < 65536 → notBytes (encode g) ≡ false
+encode-bytes : (g : Graph) → anyOf (flagsAbove 255) (g .states) ≡ false → anyOf wideArrow (g .arrows) ≡ false → recordsFor g < 65536 → notBytes (encode g) ≡ false
 unfolding encode
 encode-bytes g b c h =
     let n = recordsFor g in
@@ -139,7 +136,7 @@ encode-bytes g b c h =
     (cons-small 0 (n % 256 ∷ n / 256 ∷ i % 256 ∷ i / 256 ∷ j % 256 ∷ j / 256 ∷ zeros 8) (omega arith)
     (u16-small n (i % 256 ∷ i / 256 ∷ j % 256 ∷ j / 256 ∷ zeros 8) h (u16-small i (j % 256 ∷ j / 256 ∷ zeros 8) f (u16-small j (zeros 8) e (zeros-small 8))))))
     (join-small (allRecords stateSize stateRecords 1 (g .states)) (allRecords arrowSize arrowRecords (arrowsFrom g) (g .arrows))
-    (all-small stateSize stateRecords wideState (λ x. omega arith) state-small 1 (g .states) b (omega arith))
+    (all-small stateSize stateRecords (flagsAbove 255) (λ x. omega arith) state-small 1 (g .states) b (omega arith))
     (all-small arrowSize arrowRecords wideArrow (λ x. omega arith) arrow-small (arrowsFrom g) (g .arrows) c (omega arith)))
 
 -- ---- what a list of bytes means
@@ -173,9 +170,9 @@ module _ (s : List ℕ) (b : notBytes s ≡ false) where
       (or-none (ltb 65535 (toOf s k)) (anyOf notBytes (map (lineOf s) c)) (word-small (16 * k + 6))
       (any-map notBytes (lineOf s) c ∙ none-any (λ i. notBytes (lineOf s i)) c line-bytes))
 
-  states-small : anyOf wideState (statesOf s) ≡ false
+  states-small : anyOf (flagsAbove 255) (statesOf s) ≡ false
   unfolding statesOf
-  states-small = any-map wideState (stateOf s) (stateChain s) ∙ none-any (λ i. ltb 255 (byteOne s i)) (stateChain s) (λ i. le-ltb 255 (byteOne s i) (byte-small (16 * i + 1)))
+  states-small = any-map (flagsAbove 255) (stateOf s) (stateChain s) ∙ none-any (λ i. ltb 255 (byteOne s i)) (stateChain s) (λ i. le-ltb 255 (byteOne s i) (byte-small (16 * i + 1)))
 
   arrows-small : anyOf wideArrow (arrowsOf s) ≡ false
   unfolding arrowsOf
@@ -183,15 +180,9 @@ module _ (s : List ℕ) (b : notBytes s ≡ false) where
 
 -- ---- the same of each state, arrow, line and byte
 
-flags-many : (g : Graph) → length (flagsOf g) ≡ length (g .states)
-flags-many g = length-map (g .states) (λ (a : State). a .flags)
-
 module _ (g : Graph) (o : OfBytes g) where
-  states-narrow : anyOf wideState (g .states) ≡ false
-  states-narrow =
-      sym (any-map (ltb 255) (λ (a : State). a .flags) (g .states))
-      ∙ none-all (ltb 255) (flagsOf g) 0
-      (λ k h. let a : getD (flagsOf g) k 0 < 256 = o .flags k (omega (arith, flags-many g)) in le-ltb 255 (getD (flagsOf g) k 0) (omega arith))
+  states-narrow : anyOf (flagsAbove 255) (g .states) ≡ false
+  states-narrow = none-above 255 g (λ k h. let a : getD (flagsOf g) k 0 < 256 = o .flags k h in omega arith)
 
   arrows-narrow : anyOf wideArrow (g .arrows) ≡ false
   unfolding wideArrow
@@ -219,7 +210,7 @@ narrow-ends a b =
     let v : a .target ≤ 65535 = ltb-false 65535 (a .target) (or-false-left (ltb 65535 (a .target)) (anyOf notBytes (a .lines)) c) in
     (omega arith, omega arith, or-false-right (ltb 65535 (a .target)) (anyOf notBytes (a .lines)) c)
 
--- And so is what a sheet of bytes means.
+-- What a sheet of bytes means is such a graph.
 module _ (s : List ℕ) (h : (i : ℕ) → byteAt s i < 256) where
   all-bytes : notBytes s ≡ false
   all-bytes = none-all (ltb 255) s 0 (λ i l. let a : byteAt s i < 256 = h i in le-ltb 255 (byteAt s i) (omega arith))
@@ -229,11 +220,7 @@ module _ (s : List ℕ) (h : (i : ℕ) → byteAt s i < 256) where
 
   pub meaning-bytes : OfBytes (meaning s)
   meaning-bytes = record {
-    flags = λ k l.
-        let a : getD (flagsOf (meaning s)) k 0 ≤ 255 =
-        ltb-false 255 (getD (flagsOf (meaning s)) k 0)
-        (none-at (ltb 255) (flagsOf (meaning s)) k 0 (any-map (ltb 255) (λ (a : State). a .flags) (statesOf s) ∙ states-small s all-bytes) (omega (arith, flags-many (meaning s)))) in
-        omega arith;
+    flags = λ k l. let a : getD (flagsOf (meaning s)) k 0 ≤ 255 = each-below 255 (meaning s) (states-small s all-bytes) k l in omega arith;
     sources = λ k l. narrow-at k l .0;
     targets = λ k l. narrow-at k l .1;
     texts = λ k j i l p q.

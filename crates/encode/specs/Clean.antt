@@ -1,6 +1,6 @@
 -- No byte of a graph's sheet refuses it: kinds, flags, text counts, and zeros where no byte is named. Assumes nothing.
 use mathlib.Core.Path.{_≡_, sym, ap, _∙_}
-use mathlib.Core.Bool.{Bool, false, _||_}
+use mathlib.Core.Bool.{false, _||_}
 use mathlib.Core.List.{List, _++_, append-assoc}
 use Prim.Native.Nat.{ℕ, _+_, _-_, _*_, _≤_}
 use native.Mathlib.Omega.{arith}
@@ -15,13 +15,10 @@ use Rattle.laws.specs.Any.{anyOf, up-none}
 use Rattle.laws.specs.Bools.{or-none}
 use Rattle.sheet.specs.Records.{arrowBytes, lineBytes, textBytes, zeros}
 use Rattle.encode.specs.Encode.{firstIndex, spaceOf, stateSize, pieceSize, pieces, stateRecords, lineRecords, arrowRecords, lineSize, arrowSize, recordsFor, arrowsFrom, encode}
-use Rattle.encode.specs.Blocks.{StandsAt, at-drop, at-byte, at-kind, Ahead, Over, over-one, over-join, all-over}
+use Rattle.encode.specs.Flags.{flagsAbove}
+use Rattle.encode.specs.Blocks.{StandsAt, at-drop, at-byte, at-kind, Ahead, Throughout, throughout-one, throughout-join, all-throughout}
 use Rattle.encode.specs.Kinds.{never, any-never, badPiece, piece-some, piece-few, pieces-good, state-form, piece-form, line-form, arrow-form}
 use Rattle.encode.specs.Means.{line-head, line-rest, arrow-head, arrow-rest, head-at, states-at, arrows-at, count-is, encode-right}
-
--- 'a state's flag bit above 1 set'
-abbrev pub manyFlags : State → Bool
-manyFlags a = ltb 3 (a .flags)
 
 -- zeros that stand from byte i on
 unset : (s : List ℕ) (i e n : ℕ) (r : List ℕ) → drop i s ≡ zeros n ++ r → e ≤ i + n → someSet s i e ≡ false
@@ -37,7 +34,7 @@ unset s i e n r q h =
     rw w)
 
 module _ (s : List ℕ) (k n : ℕ) where
-  state-clean : (x : State) → manyFlags x ≡ false → StandsAt s k (stateRecords k n x) → wrongRecord s k ≡ false
+  state-clean : (x : State) → flagsAbove 3 x ≡ false → StandsAt s k (stateRecords k n x) → wrongRecord s k ≡ false
   unfolding wrongRecord
   state-clean x b a =
       rw (at-kind a, at-byte 1 a)
@@ -69,24 +66,24 @@ abbrev Right : List ℕ → ℕ → Type 0
 Right s k = wrongRecord s k ≡ false
 
 module _ (s : List ℕ) (e : length s ≡ 16 * (1 + count s)) where
-  lines-clean : (k n : ℕ) (l : List ℕ) → never l ≡ false → Ahead k n → StandsAt s k (lineRecords k n l) → Over (Right s) k (lineSize l)
+  lines-clean : (k n : ℕ) (l : List ℕ) → never l ≡ false → Ahead k n → StandsAt s k (lineRecords k n l) → Throughout (Right s) k (lineSize l)
   lines-clean k n l b h a =
-      over-join (Right s) k 1 (spaceOf pieceSize (pieces l)) (over-one (Right s) k (line-clean s k n (firstIndex (k + 1) (pieces l)) (line-head s e k n l a)))
-      (all-over piece-form s (Right s) (λ i m p c z t. over-one (Right s) i (piece-clean s i m p c t)) (k + 1) (pieces l) (pieces-good l) (line-rest s e k n l a))
+      throughout-join (Right s) k 1 (spaceOf pieceSize (pieces l)) (throughout-one (Right s) k (line-clean s k n (firstIndex (k + 1) (pieces l)) (line-head s e k n l a)))
+      (all-throughout piece-form s (Right s) (λ i m p c z t. throughout-one (Right s) i (piece-clean s i m p c t)) (k + 1) (pieces l) (pieces-good l) (line-rest s e k n l a))
 
-  arrows-clean : (k n : ℕ) (x : Arrow) → never x ≡ false → Ahead k n → StandsAt s k (arrowRecords k n x) → Over (Right s) k (arrowSize x)
+  arrows-clean : (k n : ℕ) (x : Arrow) → never x ≡ false → Ahead k n → StandsAt s k (arrowRecords k n x) → Throughout (Right s) k (arrowSize x)
   arrows-clean k n x b h a =
-      over-join (Right s) k 1 (spaceOf lineSize (x .lines)) (over-one (Right s) k (arrow-clean s k n (x .source) (x .target) (firstIndex (k + 1) (x .lines)) (arrow-head s e k n x a)))
-      (all-over line-form s (Right s) lines-clean (k + 1) (x .lines) (any-never (x .lines)) (arrow-rest s e k n x a))
+      throughout-join (Right s) k 1 (spaceOf lineSize (x .lines)) (throughout-one (Right s) k (arrow-clean s k n (x .source) (x .target) (firstIndex (k + 1) (x .lines)) (arrow-head s e k n x a)))
+      (all-throughout line-form s (Right s) lines-clean (k + 1) (x .lines) (any-never (x .lines)) (arrow-rest s e k n x a))
 
 -- A graph whose states have flags below 4 has a sheet that no byte refuses.
-pub right-bytes : (g : Graph) → anyOf manyFlags (g .states) ≡ false → wrongBytes (encode g) ≡ false
+pub right-bytes : (g : Graph) → anyOf (flagsAbove 3) (g .states) ≡ false → wrongBytes (encode g) ≡ false
 unfolding wrongBytes
 right-bytes g b =
     let s = encode g in
-    let states = all-over (state-form manyFlags) s (Right s) (λ i m x c z t. over-one (Right s) i (state-clean s i m x c t)) 1 (g .states) b (states-at g) in
-    let arrows = all-over arrow-form s (Right s) (arrows-clean s (encode-right g)) (arrowsFrom g) (g .arrows) (any-never (g .arrows)) (arrows-at g) in
-    let all = over-join (Right s) 1 (spaceOf stateSize (g .states)) (spaceOf arrowSize (g .arrows)) states arrows in
+    let states = all-throughout (state-form (flagsAbove 3)) s (Right s) (λ i m x c z t. throughout-one (Right s) i (state-clean s i m x c t)) 1 (g .states) b (states-at g) in
+    let arrows = all-throughout arrow-form s (Right s) (arrows-clean s (encode-right g)) (arrowsFrom g) (g .arrows) (any-never (g .arrows)) (arrows-at g) in
+    let all = throughout-join (Right s) 1 (spaceOf stateSize (g .states)) (spaceOf arrowSize (g .arrows)) states arrows in
     let c : count s ≡ recordsFor g = count-is g in
     or-none (someSet s 8 16) (anyUp (wrongRecord s) 1 (count s + 1))
     (unset s 8 16 8 (head-at g .rest) (at-drop 8 (head-at g)) (omega arith))

@@ -8,7 +8,7 @@ use Rattle.sheet.specs.Records.{header, stateBytes, arrowBytes, lineBytes, text
 
 -- ---- things written one after another
 
--- the index of what a list begins with that is written from record k on; 'zero ends the chain'
+-- the index of the first element of a list that is written from record k on; where there is none, 0: 'zero ends the chain'
 abbrev pub firstIndex : {A : Type 0} → ℕ → List A → ℕ
 firstIndex k [] = 0
 firstIndex k (x ∷ l) = k

@@ -19,8 +19,8 @@ use Rattle.sheet.specs.Accepted.{few, Within}
 use Rattle.laws.specs.Refusals.{Clear}
 use Rattle.sheet.specs.declared.Limits.{Limits}
 use Rattle.encode.specs.Encode.{spaceOf, stateSize, pieceSize, piecesBy, pieces, lineSize, arrowSize, recordsFor}
-use Rattle.encode.specs.Clean.{manyFlags}
-use Rattle.encode.specs.Accepts.{Encodable, flags-few}
+use Rattle.encode.specs.Flags.{flagsAbove, each-below}
+use Rattle.encode.specs.Accepts.{Encodable}
 
 -- ---- no fewer pieces will do: bytes that n pieces of at most 12 can hold are written in at most n
 by-least : (m n : ℕ) (l : List ℕ) → length l ≤ 12 * n → length (piecesBy m l) ≤ n
@@ -126,10 +126,10 @@ module _ (s : List ℕ) (first : wrongVersion s ≡ false) (plain : wrongBytes s
   unfolding met
   of-arrows p e = or-false-right (anyOf p (flatMap (metAlone 1) (stateChain s))) (anyOf p (flatMap (metArrow s) (arrowChain s))) (sym (any-join p (flatMap (metAlone 1) (stateChain s)) (flatMap (metArrow s) (arrowChain s))) ∙ e)
 
-  flags-right : anyOf manyFlags (statesOf s) ≡ false
+  flags-right : anyOf (flagsAbove 3) (statesOf s) ≡ false
   unfolding statesOf
   flags-right =
-      any-map manyFlags (stateOf s) (stateChain s)
+      any-map (flagsAbove 3) (stateOf s) (stateChain s)
       ∙ any-narrower (λ i. ltb 3 (byteOne s i)) (λ i. anyOf (largeFlags s) (metAlone 1 i)) (stateChain s) (λ i h. any-here (largeFlags s) (meet 1 i) [] h)
       (sym (any-flat (largeFlags s) (metAlone 1) (stateChain s)) ∙ of-states (largeFlags s) met-flags)
 
@@ -182,4 +182,4 @@ pub meaning-encodable : (m : Limits) (s : List ℕ) → Clear (refusals m s) →
 meaning-encodable m s c i =
     let a : recordsFor (meaning s) ≤ count s = records-fewer s (c .none 2) (c .none 4) (c .none 3) in
     let b : count s < 4096 = few s (c .none 1) in
-    record { within = i; flags = flags-few (meaning s) (flags-right s (c .none 2) (c .none 4) (c .none 3)); few = omega arith }
+    record { within = i; flags = each-below 3 (meaning s) (flags-right s (c .none 2) (c .none 4) (c .none 3)); few = omega arith }

@@ -9,7 +9,7 @@ use Rattle.laws.specs.Lists.{map-at}
 use Rattle.sheet.specs.Sheet.{count, kindOf, next, firstLine, firstText, byteOne, textChain, State, Arrow, Graph}
 use Rattle.sheet.specs.Records.{arrowBytes, textBytes}
 use Rattle.encode.specs.Encode.{firstIndex, spaceOf, stateSize, pieceSize, pieces, stateRecords, lineRecords, arrowRecords, lineSize, arrowSize, recordsFor, arrowsFrom, encode}
-use Rattle.encode.specs.Blocks.{StandsAt, at-kind, at-byte, at-word, u16-back, Ahead, Over, over-one, over-join, all-map, all-over}
+use Rattle.encode.specs.Blocks.{StandsAt, at-kind, at-byte, at-word, u16-back, Ahead, Throughout, throughout-one, throughout-join, all-map, all-throughout}
 use Rattle.encode.specs.Kinds.{never, any-never, pieces-good, state-form, piece-form, line-form, arrow-form}
 use Rattle.encode.specs.Pieces.{pieces-full}
 use Rattle.encode.specs.Means.{line-head, line-rest, line-chain, arrow-head, arrow-rest, states-at, arrows-at, encode-right}
@@ -88,22 +88,22 @@ module _ (s : List ℕ) (e : length s ≡ 16 * (1 + count s)) where
         full = λ c. line-full k n l a;
       }
 
-  lines-linked : (k n : ℕ) (l : List ℕ) → never l ≡ false → Ahead k n → StandsAt s k (lineRecords k n l) → Over (Linked s) k (lineSize l)
+  lines-linked : (k n : ℕ) (l : List ℕ) → never l ≡ false → Ahead k n → StandsAt s k (lineRecords k n l) → Throughout (Linked s) k (lineSize l)
   lines-linked k n l b h a =
-      over-join (Linked s) k 1 (spaceOf pieceSize (pieces l)) (over-one (Linked s) k (line-linked k n l h a))
-      (all-over piece-form s (Linked s) (λ i m p c z t. over-one (Linked s) i (piece-linked s i m z p t)) (k + 1) (pieces l) (pieces-good l) (line-rest s e k n l a))
+      throughout-join (Linked s) k 1 (spaceOf pieceSize (pieces l)) (throughout-one (Linked s) k (line-linked k n l h a))
+      (all-throughout piece-form s (Linked s) (λ i m p c z t. throughout-one (Linked s) i (piece-linked s i m z p t)) (k + 1) (pieces l) (pieces-good l) (line-rest s e k n l a))
 
-  arrows-linked : (k n : ℕ) (x : Arrow) → never x ≡ false → Ahead k n → StandsAt s k (arrowRecords k n x) → Over (Linked s) k (arrowSize x)
+  arrows-linked : (k n : ℕ) (x : Arrow) → never x ≡ false → Ahead k n → StandsAt s k (arrowRecords k n x) → Throughout (Linked s) k (arrowSize x)
   arrows-linked k n x b h a =
-      over-join (Linked s) k 1 (spaceOf lineSize (x .lines)) (over-one (Linked s) k (arrow-linked s k n h (x .source) (x .target) (x .lines) (arrow-head s e k n x a)))
-      (all-over line-form s (Linked s) lines-linked (k + 1) (x .lines) (any-never (x .lines)) (arrow-rest s e k n x a))
+      throughout-join (Linked s) k 1 (spaceOf lineSize (x .lines)) (throughout-one (Linked s) k (arrow-linked s k n h (x .source) (x .target) (x .lines) (arrow-head s e k n x a)))
+      (all-throughout line-form s (Linked s) lines-linked (k + 1) (x .lines) (any-never (x .lines)) (arrow-rest s e k n x a))
 
 linked : (g : Graph) (k : ℕ) → 1 ≤ k → k ≤ recordsFor g → Linked (encode g) k
 linked g k a b =
     let s = encode g in
-    over-join (Linked s) 1 (spaceOf stateSize (g .states)) (spaceOf arrowSize (g .arrows))
-    (all-over (state-form never) s (Linked s) (λ i m x c z t. over-one (Linked s) i (state-linked s i m z x t)) 1 (g .states) (any-never (g .states)) (states-at g))
-    (all-over arrow-form s (Linked s) (arrows-linked s (encode-right g)) (arrowsFrom g) (g .arrows) (any-never (g .arrows)) (arrows-at g))
+    throughout-join (Linked s) 1 (spaceOf stateSize (g .states)) (spaceOf arrowSize (g .arrows))
+    (all-throughout (state-form never) s (Linked s) (λ i m x c z t. throughout-one (Linked s) i (state-linked s i m z x t)) 1 (g .states) (any-never (g .states)) (states-at g))
+    (all-throughout arrow-form s (Linked s) (arrows-linked s (encode-right g)) (arrowsFrom g) (g .arrows) (any-never (g .arrows)) (arrows-at g))
     k a (omega arith)
 
 -- Every index in a record of a graph's sheet points forward.

@@ -1,5 +1,6 @@
 pub mod Encode
 pub mod Blocks
+pub mod Flags
 pub mod Kinds
 pub mod Pieces
 pub mod Means

@@ -5,7 +5,7 @@ use mathlib.Core.List.{List, [], _∷_, _++_, flatMap}
 use Prim.Native.Nat.{ℕ, zero, suc, _≤_}
 use native.Mathlib.Omega.{arith}
 use lib.Dec.{T, eqb}
-use lib.ListN.{length, getD, replicate}
+use lib.ListN.{getD, replicate}
 use borrow.Author.Tests.{eqb-false}
 use Rattle.laws.specs.Loops.{anyFor, anyUp, over}
 use Rattle.laws.specs.Refusals.{decide}

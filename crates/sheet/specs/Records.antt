@@ -3,7 +3,7 @@ use mathlib.Core.List.{List, [], _∷_, _++_}
 use Prim.Native.Nat.{ℕ, _-_, _/_, _%_}
 use lib.ListN.{length, replicate}
 
--- 'Little-endian': a u16.
+-- 'Little-endian': a u16. From 65,536 on the second number is no byte.
 abbrev pub u16 : ℕ → List ℕ
 u16 n = n % 256 ∷ n / 256 ∷ []
 

@@ -9,7 +9,7 @@ use Rattle.sheet.specs.Sheet.{Arrow, arrowsOf, meaning}
 use Rattle.sheet.specs.Refusals.{longLine, mainScreen}
 use Rattle.encode.specs.Encode.{recordsFor}
 
--- whether a chain of which at most `left` records are met has one at index i
+-- whether a chain of at most `left` more records has one at index i
 abbrev pub goesOn : ℕ → ℕ → Bool
 goesOn i left = cond (eqb i 0) false (not (eqb left 0))
 
@@ -17,7 +17,7 @@ goesOn i left = cond (eqb i 0) false (not (eqb left 0))
 abbrev pub longArrow : Arrow → Bool
 longArrow a = anyOf (longLine mainScreen) (a .lines)
 
--- no line has more bytes than there is room for, and the sheet is written in at most 4,095 records
+-- no line has more bytes than there is room for, and the sheet is written in no more records than a sheet has
 pub record Savable (s : List ℕ) : Type 0 where
   pub lines : anyOf longArrow (arrowsOf s) ≡ false
   pub few : recordsFor (meaning s) ≤ 4095

@@ -20,7 +20,7 @@ use write_line::line_size;
 use write_line::put_record;
 use write_line::write_line;
 
-// Whether a chain of which at most `left` records are met has one at index i.
+// Whether a chain of at most `left` more records has one at index i.
 fn goes_on(i: usize, left: usize) -> bool
     ensures { λ r. ⌜ r ≡ Q.goesOn i left ⌝ }
 {
@@ -80,21 +80,20 @@ pub fn arrows_size(s: &[u8]) -> usize
 
 // ---- writing
 
-// The states, from record k on; the record after them.
-fn write_states(s: &[u8], out: &mut [u8], k: usize) -> usize
+// The states, from record k on.
+fn write_states(s: &[u8], out: &mut [u8], k: usize)
     requires { let behind = k + E.spaceOf E.stateSize (S.statesOf (now s)) in
         ⌜ (behind < 65536) × (16 * behind ≤ length (now out)) ⌝ }
-    ensures { λ r.
+    ensures { λ _.
         let states = S.statesOf (now (s .entry)) in
-        ⌜ (now (out .exit) ≡ put (now (out .entry)) (16 * k) (E.allRecords E.stateSize E.stateRecords k states))
-        × (r ≡ k + E.spaceOf E.stateSize states) ⌝ }
+        ⌜ now (out .exit) ≡ put (now (out .entry)) (16 * k) (E.allRecords E.stateSize E.stateRecords k states) ⌝ }
 {
     let mut i = word_at(s, 4);
     let mut left = word_at(s, 2) + 1;
     let mut at = k;
     while i != 0 {
         if left == 0 {
-            return at;
+            return;
         }
         let d = record_of(s, i);
         i = next_of(s, i);
@@ -114,7 +113,6 @@ fn write_states(s: &[u8], out: &mut [u8], k: usize) -> usize
         );
         at += 1;
     }
-    at
 }
 
 // The lines of the chain from `first` on with their pieces, from record k on; the record after them.
@@ -175,36 +173,35 @@ fn write_arrow(s: &[u8], i: usize, out: &mut [u8], k: usize, more: bool) -> usiz
     behind
 }
 
-// The arrows with their lines, from record k on; the record after them.
-fn write_arrows(s: &[u8], out: &mut [u8], k: usize) -> usize
+// The arrows with their lines, from record k on.
+fn write_arrows(s: &[u8], out: &mut [u8], k: usize)
     requires { let arrows = S.arrowsOf (now s) in
         let behind = k + E.spaceOf E.arrowSize arrows in
         ⌜ (anyOf Q.longArrow arrows ≡ false)
         × (behind < 65536)
         × (16 * behind ≤ length (now out)) ⌝ }
-    ensures { λ r.
+    ensures { λ _.
         let arrows = S.arrowsOf (now (s .entry)) in
-        ⌜ (now (out .exit) ≡ put (now (out .entry)) (16 * k) (E.allRecords E.arrowSize E.arrowRecords k arrows))
-        × (r ≡ k + E.spaceOf E.arrowSize arrows) ⌝ }
+        ⌜ now (out .exit) ≡ put (now (out .entry)) (16 * k) (E.allRecords E.arrowSize E.arrowRecords k arrows) ⌝ }
 {
     let mut i = word_at(s, 6);
     let mut left = word_at(s, 2) + 1;
     let mut at = k;
     while i != 0 {
         if left == 0 {
-            return at;
+            return;
         }
         let j = next_of(s, i);
         at = write_arrow(s, i, out, at, goes_on(j, left - 1));
         i = j;
         left -= 1;
     }
-    at
 }
 
 // ---- the sheet
 
-// Writes the sheet afresh: its states and its arrows, which take so many records, and the header before them.
+// Writes the sheet afresh: its states and its arrows (`states` and `arrows` are how many records they take), and the
+// header before them, a record with the version in bytes 0 and 1 and the count in bytes 2 and 3.
 pub fn write_afresh(sheet: &[u8], out: &mut [u8], states: usize, arrows: usize)
     requires { ⌜
         Q.Savable (now sheet)

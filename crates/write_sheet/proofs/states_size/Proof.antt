@@ -1,7 +1,6 @@
 -- `write_sheet::states_size` meets its contract.
 use mathlib.Core.Path.{ap, _∙_}
 use Prim.Native.Nat.{ℕ}
-use native.Mathlib.Omega.{arith}
 use lib.ListN.{length}
 use denote.Ref.{now}
 use Rattle.sheet.specs.Sheet.{chain}

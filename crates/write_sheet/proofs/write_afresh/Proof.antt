@@ -49,7 +49,7 @@ returns c =
     let n : p .args .states + p .args .arrows ≡ recordsFor (meaning s) = omega arith in
     let k : 1 + p .args .states ≡ arrowsFrom (meaning s) = omega arith in
     sheet-written s (now (p .args .out)) n k (c .before .before .before .before .before .before .word-at .ensures .0) (c .before .before .before .before .before .index-if .ensures .0) (c .before .before .before .before .word-at2 .ensures .0)
-    (c .before .before .before .index-if2 .ensures .0) (c .before .before .before .before .before .before .before .before .before .before .before .before .before .before .write-states .ensures .0) (c .before .before .before .before .before .before .before .before .before .before .write-arrows .ensures .0) (c .before .before .put-record .ensures)
+    (c .before .before .before .index-if2 .ensures .0) (c .before .before .before .before .before .before .before .before .before .before .before .before .before .before .write-states .ensures) (c .before .before .before .before .before .before .before .before .before .before .write-arrows .ensures) (c .before .before .put-record .ensures)
 
 pub write-afresh-spec : {M : Type 1} → statement M
 write-afresh-spec =

@@ -43,7 +43,7 @@ same-length : tie.Need-same-length Inv-loop μ-loop
 same-length c = follows-same arrow-form longArrow _ _ (c .before .before .loop .inv .0)
 
 returns : tie.Need-returns Inv-loop μ-loop
-returns c = follows-cut arrow-form longArrow _ _ (c .before .before .loop .inv .0) (c .if1 .taken)
+returns c = follows-cut arrow-form longArrow _ _ (c .before .before .loop .inv .0) (c .if1 .taken) .0
 
 next-of-requires : tie.Need-next-of-requires Inv-loop μ-loop
 next-of-requires c κs = search needs
@@ -83,7 +83,7 @@ same-length-2 : tie.Need-same-length-2 Inv-loop μ-loop
 same-length-2 c = follows-same arrow-form longArrow _ _ (c .before .loop .inv .0)
 
 returns-2 : tie.Need-returns-2 Inv-loop μ-loop
-returns-2 c = follows-end arrow-form longArrow _ _ (c .before .loop .inv .0) (c .loop-test .left)
+returns-2 c = follows-end arrow-form longArrow _ _ (c .before .loop .inv .0) (c .loop-test .left) .0
 
 pub write-arrows-spec : {M : Type 1} → statement M
 write-arrows-spec =

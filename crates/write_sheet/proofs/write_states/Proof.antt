@@ -47,7 +47,7 @@ same-length : tie.Need-same-length Inv-loop μ-loop
 same-length c = follows-same (state-form never) never _ _ (c .before .before .loop .inv .0)
 
 returns : tie.Need-returns Inv-loop μ-loop
-returns c = follows-cut (state-form never) never _ _ (c .before .before .loop .inv .0) (c .if1 .taken)
+returns c = follows-cut (state-form never) never _ _ (c .before .before .loop .inv .0) (c .if1 .taken) .0
 
 record-of-requires : tie.Need-record-of-requires Inv-loop μ-loop
 record-of-requires c κs = search needs
@@ -98,7 +98,7 @@ same-length-2 : tie.Need-same-length-2 Inv-loop μ-loop
 same-length-2 c = follows-same (state-form never) never _ _ (c .before .loop .inv .0)
 
 returns-2 : tie.Need-returns-2 Inv-loop μ-loop
-returns-2 c = follows-end (state-form never) never _ _ (c .before .loop .inv .0) (c .loop-test .left)
+returns-2 c = follows-end (state-form never) never _ _ (c .before .loop .inv .0) (c .loop-test .left) .0
 
 pub write-states-spec : {M : Type 1} → statement M
 write-states-spec =
