@@ -1,9 +1,8 @@
 -- An arrow with its lines as records: how many, and what is written. Assumes nothing.
-use mathlib.Core.Path.{_≡_, _∙_}
+use mathlib.Core.Path.{_≡_, refl, _∙_}
 use mathlib.Core.Bool.{false, not}
 use mathlib.Core.List.{List}
 use Prim.Native.Nat.{ℕ, _+_, _*_, _≤_}
-use native.Mathlib.Omega.{arith}
 use lib.Dec.{eqb}
 use lib.ListN.{length}
 use borrow.Author.Tests.{ltb-false}
@@ -16,7 +15,7 @@ use Rattle.reader.specs.Reading.{recordOf}
 use Rattle.sheet.specs.Records.{arrowBytes}
 use Rattle.encode.specs.Encode.{firstIndex, spaceOf, allRecords, lineSize, lineRecords, arrowSize, arrowRecords}
 use Rattle.write_line.specs.Writing.{indexIf}
-use Rattle.write_line.specs.Puts.{put-before}
+use Rattle.write_line.specs.Writes.{head-put}
 use Rattle.write_sheet.specs.Sheets.{longArrow}
 use Rattle.write_sheet.specs.Chained.{index-whole}
 
@@ -44,6 +43,5 @@ module _ (s : List ℕ) (i : ℕ) (d : Record) (e : d ≡ recordOf s i) where
   unfolding arrowRecords arrowOf
   arrow-written out k n {out′} {out″} {t} p w q =
       let b = arrowBytes n (d .word4) (d .word6) t in
-      let z : 16 * (k + 1) ≡ 16 * k + length b = omega arith in
       let r = allRecords lineSize lineRecords (k + 1) (linesFrom s (d .word8)) in
-      q ∙ rw (w, z) (put-before out (16 * k) b r ∙ rw (p, e, first-line s (firstLine s i) (k + 1)))
+      head-put out k b r refl w q ∙ rw (p, e, first-line s (firstLine s i) (k + 1))
