@@ -1,6 +1,8 @@
-/* Lists a sheet: list SHEET [KIND]. Prints the drawing, or `refused` and the number. */
+/* Lists a sheet: list SHEET [KIND] [panel]. Prints the drawing, or `refused` and the number; with the word `panel` under
+ * the service panel's limits, otherwise under the main screen's. */
 #include <stdio.h>
 #include <stdlib.h>
+#include <string.h>
 #include <murshogi.h>
 
 static uint8_t sheet[MURSHOGI_SHEET + 1];
@@ -17,8 +19,13 @@ static uint8_t kind_of(const char *word)
 int main(int argc, char **argv)
 {
     if (argc < 2) {
-        fprintf(stderr, "usage: list SHEET [KIND]\n");
+        fprintf(stderr, "usage: list SHEET [KIND] [panel]\n");
         return 2;
+    }
+    const size_t *limits = MURSHOGI_MAIN_SCREEN;
+    if (argc > 2 && strcmp(argv[argc - 1], "panel") == 0) {
+        limits = MURSHOGI_SERVICE_PANEL;
+        argc--;
     }
     FILE *file = fopen(argv[1], "rb");
     if (file == NULL) {
@@ -31,7 +38,7 @@ int main(int argc, char **argv)
     uint8_t kind = argc > 2 ? kind_of(argv[2]) : MURSHOGI_AUTO;
 
     size_t length = 0;
-    uint8_t refused = murshogi_list(sheet, sheet_len, kind, text, sizeof text, &length);
+    uint8_t refused = murshogi_list(sheet, sheet_len, limits, kind, text, sizeof text, &length);
     if (refused) {
         printf("refused %d\n", refused);
         return 1;

@@ -1,8 +1,8 @@
 #!/bin/sh
 # Builds libmurshogi.a, the program `listing` and the programs here, makes every sheet anew from its description, lists
-# it from C, from Rust and by `listing`, and compares all three with the listing beside it; saves it from C and from Rust,
-# and lists and saves again what was saved; then the same of a sheet of 65,536 bytes, and of one byte more. From anywhere:
-# examples/run.sh
+# it from C, from Rust and by `listing`, and compares all three with the listing beside it; lists it from C and from Rust
+# under the service panel's limits; saves it from C and from Rust, and lists and saves again what was saved; then the same
+# of a sheet of 65,536 bytes, and of one byte more. From anywhere: examples/run.sh
 set -eu
 cd "$(dirname "$0")/.."
 rt staticlib murshogi > /dev/null
@@ -21,6 +21,14 @@ compare() {
     $bin/list-rs "$1" > $bin/rs || true
     target/bin/listing < "$1" > $bin/program
     for output in c rs program; do cmp $bin/$output "$2"; done
+}
+
+# panel SHEET LISTING: what C and Rust print of a sheet under the service panel's limits is the listing.
+panel() {
+    for program in list-c list-rs; do
+        $bin/$program "$1" panel > $bin/listed || true
+        cmp $bin/listed "$2"
+    done
 }
 
 # saves SHEET SAVED LISTING: from C and from Rust the sheet is saved as SAVED and then listed as before; saved again, it
@@ -47,6 +55,10 @@ for description in examples/*.txt; do
     echo "== $name"
     compare "examples/$name.sheet" "examples/$name.listing"
     cat $bin/c
+    # what the panel opens it draws as the main screen does; what it refuses has a file of its own
+    listing=examples/$name.panel
+    [ -e "$listing" ] || listing=examples/$name.listing
+    panel "examples/$name.sheet" "$listing"
     # a sheet in the editor's order stays as it is; another is saved as the same description in that order
     saved=examples/$name.saved
     [ -e "$saved" ] || saved=examples/$name.sheet
@@ -70,11 +82,14 @@ test "$(wc -c < $bin/full.sheet)" -eq 65536
 $bin/list-c $bin/full.sheet > $bin/full.listing
 echo "== 65,536 bytes"
 compare $bin/full.sheet $bin/full.listing
+echo "refused 5" > $bin/full.panel
+panel $bin/full.sheet $bin/full.panel
 saves $bin/full.sheet $bin/full.sheet $bin/full.listing
 echo "== 65,537 bytes"
 printf '\000' | cat $bin/full.sheet - > $bin/longer.sheet
 echo "refused 1" > $bin/longer.listing
 compare $bin/longer.sheet $bin/longer.listing
+panel $bin/longer.sheet $bin/longer.listing
 saves $bin/longer.sheet $bin/longer.sheet $bin/longer.listing
 cat $bin/c
 echo "all as listed and saved"

@@ -1,5 +1,6 @@
 /* Saves a sheet and lists it again: save SHEET SAVED. Writes the sheet to the file SAVED as the editor does, and prints
- * the drawing of what it wrote, laid out as Auto; or prints `refused` and the number, and writes no file. */
+ * the drawing of what it wrote, laid out as Auto; or prints `refused` and the number, and writes no file. Both under the
+ * main screen's limits. */
 #include <stdio.h>
 #include <murshogi.h>
 
@@ -24,7 +25,8 @@ int main(int argc, char **argv)
 
     /* what is saved is never longer than the sheet */
     size_t saved_len = 0;
-    uint8_t refused = murshogi_write_sheet(sheet, sheet_len, saved, sizeof saved, &saved_len);
+    uint8_t refused =
+        murshogi_write_sheet(sheet, sheet_len, MURSHOGI_MAIN_SCREEN, saved, sizeof saved, &saved_len);
     if (refused) {
         printf("refused %d\n", refused);
         return 1;
@@ -36,7 +38,7 @@ int main(int argc, char **argv)
     }
 
     size_t length = 0;
-    refused = murshogi_list(saved, saved_len, MURSHOGI_AUTO, text, sizeof text, &length);
+    refused = murshogi_list(saved, saved_len, MURSHOGI_MAIN_SCREEN, MURSHOGI_AUTO, text, sizeof text, &length);
     if (refused) {
         printf("saved, but the drawing is refused %d\n", refused);
         return 1;

@@ -1,5 +1,6 @@
 //! Saves a sheet and lists it again: `save SHEET SAVED`. Writes the sheet to the file SAVED as the editor does, and
-//! prints the drawing of what it wrote, laid out as Auto; or prints `refused` and the number, and writes no file.
+//! prints the drawing of what it wrote, laid out as Auto; or prints `refused` and the number, and writes no file. Both under
+//! the main screen's limits.
 
 use std::io::Write;
 
@@ -7,6 +8,7 @@ unsafe extern "C" {
     fn murshogi_write_sheet(
         sheet: *const u8,
         sheet_len: usize,
+        limits: *const usize,
         out: *mut u8,
         out_len: usize,
         length: *mut usize,
@@ -14,12 +16,16 @@ unsafe extern "C" {
     fn murshogi_list(
         sheet: *const u8,
         sheet_len: usize,
+        limits: *const usize,
         kind: u8,
         out: *mut u8,
         out_len: usize,
         length: *mut usize,
     ) -> u8;
 }
+
+/// States, arrows, lines of an arrow.
+const MAIN_SCREEN: [usize; 3] = [64, 256, 8];
 
 /// What a call writes into so much room, or the number of the refusal.
 fn written(room: usize, call: impl Fn(*mut u8, usize, *mut usize) -> u8) -> Result<Vec<u8>, u8> {
@@ -37,14 +43,14 @@ fn written(room: usize, call: impl Fn(*mut u8, usize, *mut usize) -> u8) -> Resu
 fn write_sheet(sheet: &[u8]) -> Result<Vec<u8>, u8> {
     // Pointers and lengths are of the slices; what is written overlaps nothing.
     written(sheet.len(), |out, room, length| unsafe {
-        murshogi_write_sheet(sheet.as_ptr(), sheet.len(), out, room, length)
+        murshogi_write_sheet(sheet.as_ptr(), sheet.len(), MAIN_SCREEN.as_ptr(), out, room, length)
     })
 }
 
 fn list(sheet: &[u8]) -> Result<Vec<u8>, u8> {
     // MURSHOGI_LISTING: the most bytes that a listing has.
     written(112_578, |out, room, length| unsafe {
-        murshogi_list(sheet.as_ptr(), sheet.len(), 0, out, room, length)
+        murshogi_list(sheet.as_ptr(), sheet.len(), MAIN_SCREEN.as_ptr(), 0, out, room, length)
     })
 }
 

@@ -160,8 +160,9 @@ pub fn check() {
         let t: Vec<f64> = [&states, &full].iter().map(|s| timed_on(s, f)).collect();
         println!("{name:<10} {:8.1} {:8.1}   answers {} {}", t[0], t[1], f(&states), f(&full));
     };
-    row("oracle", &|s| crate::calls::check(s).err().unwrap_or(0));
-    row("port", &|s| unsafe { crate::port::murshogi_check(s.as_ptr(), s.len()) });
+    let limits = crate::sheet::MAIN_SCREEN;
+    row("oracle", &|s| crate::calls::check(s, limits).err().unwrap_or(0));
+    row("port", &|s| unsafe { crate::port::murshogi_check(s.as_ptr(), s.len(), limits.list().as_ptr()) });
 }
 
 /// The least time a call on one sheet over some rounds, in microseconds.

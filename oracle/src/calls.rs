@@ -6,8 +6,10 @@ use super::counted;
 use super::graph::Graph;
 use super::layout::{Layout, LayoutKind, NODE_RADIUS, layout as place};
 use super::route::{Anchor, Geometry, clutter as count, geometry, probe};
-use super::sheet::{self, Arrow, Sheet};
+use super::sheet::{self, Arrow, Limits, Sheet};
 use super::svg;
+
+pub use super::sheet::MAIN_SCREEN;
 
 thread_local! {
     static LARGEST_BOW: Cell<f64> = const { Cell::new(0.0) };
@@ -137,23 +139,37 @@ fn fits(room: usize, wanted: usize) -> Result<(), u8> {
     if room < wanted { Err(7) } else { Ok(()) }
 }
 
-pub fn check(bytes: &[u8]) -> Result<(), u8> {
-    sheet::read(bytes).map(|_| ())
+/// Document 02, T-05: each limit above the main screen's counts as the main screen's.
+pub fn capped(limits: Limits) -> Limits {
+    Limits {
+        states: limits.states.min(MAIN_SCREEN.states),
+        arrows: limits.arrows.min(MAIN_SCREEN.arrows),
+        lines: limits.lines.min(MAIN_SCREEN.lines),
+    }
+}
+
+/// The sheet's meaning under any limits, or the number of the refusal.
+fn opened(bytes: &[u8], limits: Limits) -> Result<Sheet, u8> {
+    sheet::read(bytes, capped(limits))
+}
+
+pub fn check(bytes: &[u8], limits: Limits) -> Result<(), u8> {
+    opened(bytes, limits).map(|_| ())
 }
 
 /// Document 02, T-04: the sheet as the editor saves it.
-pub fn write_sheet(bytes: &[u8], room: usize) -> Result<Vec<u8>, u8> {
-    let saved = sheet::read(bytes)?.saved();
+pub fn write_sheet(bytes: &[u8], limits: Limits, room: usize) -> Result<Vec<u8>, u8> {
+    let saved = opened(bytes, limits)?.saved();
     fits(room, saved.len())?;
     Ok(saved)
 }
 
-pub fn layout(bytes: &[u8], kind: u8, x_room: usize, y_room: usize) -> Result<Layout, u8> {
+pub fn layout(bytes: &[u8], limits: Limits, kind: u8, rooms: (usize, usize)) -> Result<Layout, u8> {
     let kind = layout_kind(kind)?;
-    let graph = sheet::read(bytes)?.graph();
+    let graph = opened(bytes, limits)?.graph();
     let answer = bowed(|| place(&graph, kind))?;
-    fits(x_room, answer.x.len())?;
-    fits(y_room, answer.y.len())?;
+    fits(rooms.0, answer.x.len())?;
+    fits(rooms.1, answer.y.len())?;
     Ok(answer)
 }
 
@@ -200,8 +216,10 @@ fn drawn(graph: &Graph, xs: &[f64], ys: &[f64]) -> Result<(Vec<Geometry>, Routin
     Ok((list, routing))
 }
 
-pub fn route(bytes: &[u8], xs: &[f64], ys: &[f64], rooms: (usize, usize)) -> Result<Routing, u8> {
-    let sheet = sheet::read(bytes)?;
+pub fn route(
+    bytes: &[u8], limits: Limits, xs: &[f64], ys: &[f64], rooms: (usize, usize),
+) -> Result<Routing, u8> {
+    let sheet = opened(bytes, limits)?;
     centred(&sheet, xs, ys)?;
     let (_, routing) = drawn(&sheet.graph(), xs, ys)?;
     fits(rooms.0, routing.records.len())?;
@@ -209,14 +227,14 @@ pub fn route(bytes: &[u8], xs: &[f64], ys: &[f64], rooms: (usize, usize)) -> Res
     Ok(routing)
 }
 
-pub fn clutter(bytes: &[u8], xs: &[f64], ys: &[f64]) -> Result<usize, u8> {
-    let sheet = sheet::read(bytes)?;
+pub fn clutter(bytes: &[u8], limits: Limits, xs: &[f64], ys: &[f64]) -> Result<usize, u8> {
+    let sheet = opened(bytes, limits)?;
     centred(&sheet, xs, ys)?;
     bowed(|| count(&sheet.graph(), xs, ys))
 }
 
-pub fn label_size(text: &[u8], lengths: &[usize]) -> Result<(f64, f64), u8> {
-    sheet::label_block(text, lengths)
+pub fn label_size(text: &[u8], lengths: &[usize], limits: Limits) -> Result<(f64, f64), u8> {
+    sheet::label_block(text, lengths, capped(limits).lines)
 }
 
 pub fn write_num(v: f64, room: usize) -> Result<Vec<u8>, u8> {
@@ -235,9 +253,9 @@ pub fn totals(sheet: &Sheet, drawing: &[Geometry]) -> [usize; 5] {
     [with(2), with(3), with(4), left_out.len(), kept.iter().map(|a| a.lines.len()).sum()]
 }
 
-pub fn list(bytes: &[u8], kind: u8, room: usize) -> Result<Vec<u8>, u8> {
+pub fn list(bytes: &[u8], limits: Limits, kind: u8, room: usize) -> Result<Vec<u8>, u8> {
     let kind = layout_kind(kind)?;
-    let sheet = sheet::read(bytes)?;
+    let sheet = opened(bytes, limits)?;
     let graph = sheet.graph();
     let l = bowed(|| place(&graph, kind))?;
     centred(&sheet, &l.x, &l.y)?;
@@ -285,6 +303,7 @@ mod tests {
     use super::*;
     use crate::generate::{self, ordered};
     use crate::random::Random;
+    use crate::sheet::SERVICE_PANEL;
 
     fn states(flags: &[u8]) -> Vec<u8> {
         let sheet = Sheet {
@@ -301,11 +320,11 @@ mod tests {
             (vec![0], vec![38.0], vec![38.0], 76.0, 76.0),
             (vec![1], vec![66.0], vec![38.0], 104.0, 76.0),
         ] {
-            let l = layout(&states(&flags), 0, 64, 64).unwrap();
+            let l = layout(&states(&flags), MAIN_SCREEN, 0, (64, 64)).unwrap();
             assert_eq!((l.x, l.y, l.width, l.height), (x, y, w, h));
         }
-        assert_eq!(layout(&states(&[1]), 3, 64, 64), Err(11));
-        assert_eq!(layout(&states(&[1]), 0, 64, 0), Err(7));
+        assert_eq!(layout(&states(&[1]), MAIN_SCREEN, 3, (64, 64)), Err(11));
+        assert_eq!(layout(&states(&[1]), MAIN_SCREEN, 0, (64, 0)), Err(7));
     }
 
     #[test]
@@ -318,12 +337,12 @@ mod tests {
                 lines: vec![vec![b"a".to_vec()]],
             }],
         };
-        let text = list(&ordered(&sheet), 0, 65_536).unwrap();
+        let text = list(&ordered(&sheet), MAIN_SCREEN, 0, 65_536).unwrap();
         let wanted = "size 244 76\nstate 0 66 38\nstate 1 206 38\nedge 0 M 88 38 L 184 38\n\
             tip 0 184 38 0\nhead 0 M 184 38 L 175 41.5 L 175 34.5 Z\nlabel 0 136 19 middle\n\
             start 0 M 44 38 L 35 41.5 L 35 34.5 Z\ntotal 1 0 0 0 1\n";
         assert_eq!(String::from_utf8(text).unwrap(), wanted);
-        let empty = list(&states(&[]), 0, 65_536).unwrap();
+        let empty = list(&states(&[]), MAIN_SCREEN, 0, 65_536).unwrap();
         assert_eq!(String::from_utf8(empty).unwrap(), "size 32 32\ntotal 0 0 0 0 0\n");
     }
 
@@ -345,7 +364,7 @@ mod tests {
                 arrow(0, 3, &["d"]),
             ],
         };
-        let text = list(&ordered(&sheet), 0, 65_536).unwrap();
+        let text = list(&ordered(&sheet), MAIN_SCREEN, 0, 65_536).unwrap();
         assert!(text.ends_with(b"\ntotal 1 2 1 1 4\n"));
     }
 
@@ -379,19 +398,23 @@ mod tests {
             let plain = generate::without_accents(rng, &sheet);
             assert!(!generate::sort_of_accents(&plain).0);
             let (sheet, plain) = (ordered(&sheet), ordered(&plain));
-            let l = layout(&sheet, by, 64, 64).unwrap();
-            assert_eq!(layout(&plain, by, 64, 64).as_ref(), Ok(&l));
-            let routed = |s: &[u8]| route(s, &l.x, &l.y, (5120, 65_536)).map(|r| (r.records, r.text));
+            let placed = |s: &[u8]| layout(s, MAIN_SCREEN, by, (64, 64));
+            let l = placed(&sheet).unwrap();
+            assert_eq!(placed(&plain).as_ref(), Ok(&l));
+            let routed =
+                |s: &[u8]| route(s, MAIN_SCREEN, &l.x, &l.y, (5120, 65_536)).map(|r| (r.records, r.text));
             assert_eq!(routed(&sheet), routed(&plain));
-            assert_eq!(clutter(&sheet, &l.x, &l.y), clutter(&plain, &l.x, &l.y));
-            assert_eq!(list(&sheet, by, 65_536), list(&plain, by, 65_536));
+            let counted = |s: &[u8]| clutter(s, MAIN_SCREEN, &l.x, &l.y);
+            assert_eq!(counted(&sheet), counted(&plain));
+            let listed = |s: &[u8]| list(s, MAIN_SCREEN, by, 65_536);
+            assert_eq!(listed(&sheet), listed(&plain));
         }
         assert!((900..1_100).contains(&some), "accents in {some}");
         assert!(parted > 500, "in two pieces in {parted}");
     }
 
     fn saved(bytes: &[u8]) -> Vec<u8> {
-        write_sheet(bytes, bytes.len()).unwrap()
+        write_sheet(bytes, MAIN_SCREEN, bytes.len()).unwrap()
     }
 
     /// Document 01's worked sheet, byte for byte: a start state, a second state, an arrow 0 to 1 with the line `a`.
@@ -408,17 +431,18 @@ mod tests {
     fn worked_sheet_saved() {
         let worked = WORKED.concat();
         assert_eq!(saved(&worked), worked);
-        let sheet = sheet::read(&worked).unwrap();
+        let sheet = sheet::read(&worked, MAIN_SCREEN).unwrap();
         for places in [[5, 4, 3, 2, 1], [2, 5, 1, 3, 4], [4, 1, 5, 2, 3]] {
             let other = sheet.bytes(&places);
             assert_ne!(other, worked);
             assert_eq!(saved(&other), worked);
         }
         assert_eq!(saved(&states(&[])), states(&[]));
-        assert_eq!(write_sheet(&worked, 95), Err(7));
-        assert_eq!(write_sheet(&worked, 0), Err(7));
-        assert_eq!(write_sheet(&worked, usize::MAX), Ok(worked.clone()));
-        assert_eq!(write_sheet(&worked[..95], 0), Err(1));
+        let into = |bytes: &[u8], room| write_sheet(bytes, MAIN_SCREEN, room);
+        assert_eq!(into(&worked, 95), Err(7));
+        assert_eq!(into(&worked, 0), Err(7));
+        assert_eq!(into(&worked, usize::MAX), Ok(worked.clone()));
+        assert_eq!(into(&worked[..95], 0), Err(1));
     }
 
     /// Two arrows, one of them left out. Of the first the lines are one of 7 and 8 bytes, which a piece of 12 cuts within
@@ -464,12 +488,13 @@ mod tests {
             let bytes = generate::laid(rng, &sheet);
             let out = saved(&bytes);
             assert!(out.len() <= bytes.len());
-            assert_eq!(sheet::read(&out).unwrap().graph(), sheet.graph());
+            assert_eq!(sheet::read(&out, MAIN_SCREEN).unwrap().graph(), sheet.graph());
             assert_eq!(saved(&out), out);
             let again = generate::recut(rng, &sheet);
             assert_eq!(saved(&generate::shuffled(rng, &again)), out);
             if i % 10 == 0 {
-                assert_eq!(list(&out, 0, 120_000), list(&bytes, 0, 120_000));
+                let listed = |s: &[u8]| list(s, MAIN_SCREEN, 0, 120_000);
+                assert_eq!(listed(&out), listed(&bytes));
             }
         }
     }
@@ -493,9 +518,174 @@ mod tests {
 
     #[test]
     fn centres() {
-        let bytes = states(&[1]);
-        assert!(clutter(&bytes, &[1_048_576.0], &[]).is_ok());
-        assert_eq!(clutter(&bytes, &[1_048_576.000_000_000_2], &[]), Err(8));
-        assert_eq!(clutter(&bytes, &[0.0, 1e9], &[f64::INFINITY]), Ok(0));
+        let at = |xs: &[f64], ys: &[f64]| clutter(&states(&[1]), MAIN_SCREEN, xs, ys);
+        assert!(at(&[1_048_576.0], &[]).is_ok());
+        assert_eq!(at(&[1_048_576.000_000_000_2], &[]), Err(8));
+        assert_eq!(at(&[0.0, 1e9], &[f64::INFINITY]), Ok(0));
+    }
+
+    /// So many states, as many arrows from state 0 to itself, and of these the last with as many empty lines.
+    fn sheet_of(states: usize, arrows: usize, lines: usize) -> Vec<u8> {
+        let mut list = Sheet { states: vec![0; states], arrows: vec![Arrow::default(); arrows] };
+        if let Some(last) = list.arrows.last_mut() {
+            last.lines = vec![vec![]; lines];
+        }
+        ordered(&list)
+    }
+
+    /// What all calls that take a sheet answer to one.
+    fn all_calls(bytes: &[u8], limits: Limits) -> Vec<u8> {
+        let answer = |refusal: Option<u8>| refusal.unwrap_or(0);
+        vec![
+            answer(check(bytes, limits).err()),
+            answer(layout(bytes, limits, 0, (64, 64)).err()),
+            answer(route(bytes, limits, &[], &[], (5120, 65_536)).err()),
+            answer(clutter(bytes, limits, &[], &[]).err()),
+            answer(list(bytes, limits, 0, 120_000).err()),
+            answer(write_sheet(bytes, limits, 65_536).err()),
+        ]
+    }
+
+    #[track_caller]
+    fn all_answer(counts: [usize; 3], limits: Limits, answer: u8) {
+        let [states, arrows, lines] = counts;
+        assert_eq!(all_calls(&sheet_of(states, arrows, lines), limits), vec![answer; 6], "{counts:?} {limits:?}");
+    }
+
+    /// At each limit of the panel and of the main screen, and one over.
+    #[test]
+    fn worked_limits() {
+        for (counts, answer) in [
+            ([24, 0, 0], 0), ([25, 0, 0], 5), ([1, 64, 0], 0), ([1, 65, 0], 5), ([1, 1, 4], 0), ([1, 1, 5], 5),
+            ([24, 64, 4], 0), ([25, 64, 4], 5), ([24, 65, 4], 5), ([24, 64, 5], 5), ([0, 64, 4], 0), ([0, 0, 0], 0),
+        ] {
+            all_answer(counts, SERVICE_PANEL, answer);
+        }
+        for (counts, answer) in [
+            ([64, 0, 0], 0), ([65, 0, 0], 5), ([1, 256, 0], 0), ([1, 257, 0], 5), ([1, 1, 8], 0), ([1, 1, 9], 5),
+            ([25, 65, 5], 0),
+        ] {
+            all_answer(counts, MAIN_SCREEN, answer);
+        }
+        for (n, panel, main) in [(0, 0, 0), (4, 0, 0), (5, 5, 0), (8, 5, 0), (9, 5, 5)] {
+            let block = |limits| label_size(b"", &vec![0; n], limits).err().unwrap_or(0);
+            assert_eq!((block(SERVICE_PANEL), block(MAIN_SCREEN)), (panel, main), "{n} lines");
+        }
+    }
+
+    /// Each limit above the main screen's counts as the main screen's, by itself; the other two stay.
+    #[test]
+    fn limits_above() {
+        for most in [usize::MAX, 1 << 63, 1 << 32] {
+            let above = Limits::of([most; 3]);
+            for counts in [[64, 0, 0], [0, 256, 0], [1, 1, 8]] {
+                all_answer(counts, above, 0);
+            }
+            for counts in [[65, 0, 0], [0, 257, 0], [1, 1, 9]] {
+                all_answer(counts, above, 5);
+            }
+            assert_eq!(label_size(b"", &[0; 8], above), Ok((0.0, 120.0)));
+            assert_eq!(label_size(b"", &[0; 9], above), Err(5));
+            assert_eq!(capped(Limits::of([most, 3, 2])), Limits::of([64, 3, 2]));
+            assert_eq!(capped(Limits::of([3, most, 2])), Limits::of([3, 256, 2]));
+            assert_eq!(capped(Limits::of([3, 2, most])), Limits::of([3, 2, 8]));
+        }
+        assert_eq!(capped(Limits::of([65, 257, 9])), MAIN_SCREEN);
+        assert_eq!(capped(Limits::of([63, 255, 7])), Limits::of([63, 255, 7]));
+        assert_eq!(capped(SERVICE_PANEL), SERVICE_PANEL);
+    }
+
+    /// Limits of 0 are limits like others: nothing of that sort is accepted.
+    #[test]
+    fn limits_of_0() {
+        let none = Limits::of([0; 3]);
+        all_answer([0, 0, 0], none, 0);
+        all_answer([1, 0, 0], none, 5);
+        all_answer([0, 1, 0], none, 5);
+        all_answer([0, 4, 2], Limits::of([0, 4, 2]), 0);
+        all_answer([4, 0, 0], Limits::of([4, 0, 0]), 0);
+        all_answer([4, 1, 0], Limits::of([4, 0, 8]), 5);
+        all_answer([2, 2, 0], Limits::of([2, 2, 0]), 0);
+        all_answer([2, 2, 1], Limits::of([2, 2, 0]), 5);
+        assert_eq!(label_size(b"", &[], none), Ok((0.0, 0.0)));
+        assert_eq!(label_size(b"", &[0], none), Err(5));
+        assert_eq!(label_size(b"", &[0], Limits::of([0, 0, 1])), Ok((0.0, 15.0)));
+    }
+
+    /// 11, 1, 2, 4 and 3 come before 5; 6, 8, 9 and 7 behind it. A line of 97 bytes is refused under any limits.
+    #[test]
+    fn limits_in_order() {
+        let limits = Limits::of([2, 1, 1]);
+        let over = sheet_of(3, 2, 2);
+        assert_eq!(all_calls(&over, limits), [5; 6]);
+        assert_eq!(layout(&over, limits, 3, (0, 0)), Err(11));
+        assert_eq!(list(&over, limits, 255, 0), Err(11));
+        for (at, value, answer) in [(2, 8, 1), (0, 2, 2), (8, 1, 4), (18, 1, 3)] {
+            let mut bytes = over.clone();
+            bytes[at] = value;
+            assert_eq!(all_calls(&bytes, limits), [answer; 6]);
+            assert_eq!(list(&bytes, limits, 3, 0), Err(11));
+        }
+        let lined = |lines: &[&[u8]]| {
+            let arrow = |from, to, lines| Arrow { from, to, lines };
+            let lines = lines.iter().map(|l| generate::full_pieces(l)).collect();
+            ordered(&Sheet { states: vec![0; 2], arrows: vec![arrow(0, 1, lines), arrow(1, 0, vec![])] })
+        };
+        let ill = lined(&[b"\xff"]);
+        assert_eq!(all_calls(&ill, limits), [5; 6]);
+        assert_eq!(all_calls(&ill, Limits::of([2, 2, 1])), [6; 6]);
+        assert_eq!(all_calls(&ill, Limits::of([2, 2, 0])), [5; 6]);
+        assert_eq!(all_calls(&lined(&[b"a", b"\xff"]), Limits::of([2, 2, 1])), [5; 6]);
+        assert_eq!(all_calls(&lined(&[&[b'a'; 97]]), Limits::of([usize::MAX; 3])), [5; 6]);
+        assert_eq!(all_calls(&lined(&[&[b'a'; 96]]), Limits::of([usize::MAX; 3])), [0; 6]);
+        assert_eq!(label_size(b"\xff", &[1], Limits::of([0, 0, 1])), Err(6));
+        assert_eq!(label_size(b"\xff", &[1, 0], Limits::of([9, 9, 1])), Err(5));
+        let sound = lined(&[b"a"]);
+        for (limits, far, short) in [(limits, 5, 5), (Limits::of([2, 2, 1]), 8, 7)] {
+            assert_eq!(clutter(&sound, limits, &[1e9], &[]), Err(far));
+            assert_eq!(route(&sound, limits, &[1e9], &[], (0, 0)).err(), Some(far));
+            assert_eq!(route(&sound, limits, &[], &[], (0, 0)).err(), Some(short));
+            assert_eq!(layout(&sound, limits, 0, (2, 1)), Err(short));
+            assert_eq!(list(&sound, limits, 0, 10), Err(short));
+            assert_eq!(write_sheet(&sound, limits, sound.len() - 1), Err(short));
+        }
+        // A third state beside an end of the pair.
+        let pair = |from, to| Arrow { from, to, lines: vec![] };
+        let crowded = ordered(&Sheet { states: vec![0; 3], arrows: vec![pair(0, 1), pair(1, 0)] });
+        let at = (&[0.0, 140.0, 1e-12], &[0.0, 0.0, 31.0]);
+        assert_eq!(clutter(&crowded, Limits::of([3, 2, 0]), at.0, at.1), Err(9));
+        assert_eq!(clutter(&crowded, Limits::of([3, 1, 0]), at.0, at.1), Err(5));
+        assert_eq!(clutter(&crowded, Limits::of([2, 2, 0]), at.0, at.1), Err(5));
+    }
+
+    /// A sheet is answered alike under all limits that its counts are within, and refused by 5 under all others.
+    #[test]
+    fn limits_change_nothing_else() {
+        let rng = &mut Random::new(53);
+        let (mut within, mut over) = (0, 0);
+        for i in 0..2_000 {
+            let by = (i % 3) as u8;
+            let sheet = generate::drawing(rng);
+            let own = sheet.counts();
+            let (xs, ys) = generate::centres(rng, &sheet);
+            let bytes = generate::shuffled(rng, &sheet);
+            let limits = generate::limits(rng, own);
+            let most = capped(limits);
+            let all = |limits| {
+                let drawn = route(&bytes, limits, &xs, &ys, (5120, 65_536)).map(|r| (r.records, r.text));
+                let saved = write_sheet(&bytes, limits, 65_536);
+                (layout(&bytes, limits, by, (64, 64)), drawn, clutter(&bytes, limits, &xs, &ys), saved)
+            };
+            if own.states <= most.states && own.arrows <= most.arrows && own.lines <= most.lines {
+                within += 1;
+                assert_eq!(all(limits), all(MAIN_SCREEN), "{limits:?}");
+                let saved = write_sheet(&bytes, limits, 65_536).unwrap();
+                assert_eq!(check(&saved, limits), Ok(()));
+            } else {
+                over += 1;
+                assert_eq!(all(limits), (Err(5), Err(5), Err(5), Err(5)), "{limits:?}");
+            }
+        }
+        assert!(within > 500 && over > 200, "{within} within, {over} over");
     }
 }

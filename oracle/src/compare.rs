@@ -1,47 +1,59 @@
-//! The port's eight calls against the oracle's, through C: answers, every number and byte of each
-//! lent slice, and what must stay as it was.
+//! The port's eight calls against the oracle's, through C and under limits of every sort: answers, every number and byte
+//! of each lent slice, and what must stay as it was.
+
+mod asked;
+mod limits;
 
 use std::collections::BTreeMap;
 
 use crate::calls::{self, Turns};
 use crate::generate::{
-    LIMITS, SORTS, at_limits, centres, drawing, has_accent, in_order, laid, recut, shuffled, sort_of_accents,
+    self, LIMITS, SORTS, at_limits, centres, drawing, has_accent, in_order, laid, recut, shuffled, sort_of_accents,
     sort_of_starts, stored,
 };
-use crate::port::{
-    murshogi_check, murshogi_clutter, murshogi_label_size, murshogi_layout, murshogi_list, murshogi_route,
-    murshogi_write_num, murshogi_write_sheet,
-};
 use crate::random::Random;
-use crate::sheet::{Line, Sheet, read};
+use crate::sheet::{Limits, Line, MAIN_SCREEN, SERVICE_PANEL, Sheet, read};
 use crate::vectors::{damage, largest, unsound};
+use asked::{Asked, Left};
 
-/// What a lent f64, byte or number holds before a call: a NaN with a payload, whose every bit must stay.
-const BEFORE: f64 = f64::from_bits(0x7ff8_dead_beef_0001);
-const BYTE: u8 = 170;
-const NUMBER: usize = 987_654_321;
+pub use limits::limits;
 
-/// Bit for bit, but zeros of either sign are equal; NaN is NaN.
-fn same(a: f64, b: f64) -> bool {
-    a.to_bits() == b.to_bits() || a == b || (a.is_nan() && b.is_nan())
+/// The sorts of limits; some are of several.
+const UNDER: [&str; 7] = [
+    "main screen", "service panel", "one above the main screen's", "a 0", "the sheet's counts", "one below a count",
+    "none of these",
+];
+
+/// The sorts that the limits of a call are of.
+fn sorts_of_limits(asked: &Asked, limits: Limits) -> [bool; UNDER.len()] {
+    let list = limits.list();
+    let own = match asked {
+        // Of a label block the lines alone count.
+        Asked::LabelSize { lengths, .. } => Some(Limits { lines: lengths.len(), ..limits }),
+        _ => asked.own(),
+    };
+    let below = |own: Limits| list.iter().zip(own.list()).any(|(most, n)| most.checked_add(1) == Some(n));
+    let mut sorts = [
+        limits == MAIN_SCREEN,
+        limits == SERVICE_PANEL,
+        calls::capped(limits) != limits,
+        list.contains(&0),
+        own == Some(limits),
+        own.is_some_and(below),
+        false,
+    ];
+    sorts[6] = !sorts.contains(&true);
+    sorts
 }
 
-/// The lent numbers hold the wanted ones and after them what they held before.
-fn holds(lent: &[f64], wanted: &[f64]) -> bool {
-    lent.len() >= wanted.len()
-        && lent.iter().zip(wanted).all(|(&v, &w)| same(v, w))
-        && lent[wanted.len()..].iter().all(|v| v.to_bits() == BEFORE.to_bits())
-}
-
-fn holds_bytes(lent: &[u8], wanted: &[u8]) -> bool {
-    lent.len() >= wanted.len()
-        && lent.iter().enumerate().all(|(i, &b)| b == wanted.get(i).copied().unwrap_or(BYTE))
-}
-
-#[derive(Default)]
 struct Runs {
+    /// Draws the limits, so that what is given besides does not depend on them.
+    rng: Random,
     /// How many calls had each answer: 0, or the refusal's number.
     counts: BTreeMap<&'static str, [usize; 12]>,
+    /// How many were made under each sort of limits, and how many of them met 5.
+    under: BTreeMap<&'static str, [usize; UNDER.len()]>,
+    over: BTreeMap<&'static str, [usize; UNDER.len()]>,
     /// The sorts of starts of the sheets of answered calls.
     starts: BTreeMap<&'static str, [usize; SORTS.len()]>,
     /// The answered calls whose sheet or label block has an accent in some line, and those whose has none.
@@ -56,26 +68,60 @@ struct Runs {
 }
 
 impl Runs {
-    /// Counts an answer; where the two differ, keeps the sheet and the centres in files.
-    fn note(&mut self, call: &'static str, answer: u8, ok: bool, sheet: &[u8], xs: &[f64], ys: &[f64]) {
-        self.counts.entry(call).or_default()[usize::from(answer)] += 1;
-        if answer == 0 {
-            self.answered(call, sheet);
-        }
-        if !ok {
-            self.differs(call, &format!("the oracle says {answer}"), sheet, xs, ys);
+    fn new(seed: u64) -> Self {
+        Self {
+            rng: Random::new(seed.wrapping_add(0x7005)),
+            counts: BTreeMap::new(),
+            under: BTreeMap::new(),
+            over: BTreeMap::new(),
+            starts: BTreeMap::new(),
+            accents: BTreeMap::new(),
+            differ: 0,
+            turns: Turns::default(),
+            left_out: 0,
+            listed: 0,
+            totals: [0; 5],
+            some: [0; 5],
         }
     }
 
+    /// Limits for what a call is given.
+    fn limits(&mut self, asked: &Asked) -> Limits {
+        let own = asked.own().unwrap_or(SERVICE_PANEL);
+        generate::limits(&mut self.rng, own)
+    }
+
+    /// Asks both under limits and counts the answer; where they differ, keeps the sheet and the centres in files. What the
+    /// port leaves, and what the oracle would.
+    fn ask(&mut self, asked: &Asked, limits: Limits) -> (Left, Left) {
+        let (port, oracle) = (asked.port(limits), asked.oracle(limits));
+        let (call, answer) = (asked.name(), oracle.answer);
+        self.counts.entry(call).or_default()[usize::from(answer)] += 1;
+        if call != "write_num" {
+            let sorts = sorts_of_limits(asked, limits);
+            add(self.under.entry(call).or_default(), sorts);
+            add(self.over.entry(call).or_default(), sorts.map(|yes| yes && answer == 5));
+        }
+        if answer == 0 {
+            self.answered(call, asked.sheet());
+        }
+        if !port.agrees(&oracle) {
+            let said = format!("the port says {}, the oracle {answer}", port.answer);
+            self.differs(call, &said, asked, limits);
+        }
+        (port, oracle)
+    }
+
     /// Counts a difference and says what it is.
-    fn differs(&mut self, what: &str, said: &str, sheet: &[u8], xs: &[f64], ys: &[f64]) {
+    fn differs(&mut self, what: &str, said: &str, asked: &Asked, limits: Limits) {
         self.differ += 1;
         let name = format!("differs-{}-{what}", self.differ);
         if self.differ <= 20 {
-            std::fs::write(format!("{name}.sheet"), sheet).unwrap();
+            let (xs, ys) = asked.centres();
+            std::fs::write(format!("{name}.sheet"), asked.sheet()).unwrap();
             std::fs::write(format!("{name}.centres"), format!("{xs:?}\n{ys:?}\n")).unwrap();
         }
-        println!("{name}: {said}");
+        println!("{name}: {said}; limits {:?} {}", limits.list(), asked.given());
     }
 
     /// Counts an answered call by the starts and the accents of its sheet, or by the accents of its label's text.
@@ -84,7 +130,7 @@ impl Runs {
             "write_num" => return,
             "label_size" => has_accent(sheet),
             _ => {
-                let s = read(sheet).unwrap();
+                let s = read(sheet, MAIN_SCREEN).unwrap();
                 self.starts.entry(call).or_default()[sort_of_starts(&s.graph())] += 1;
                 sort_of_accents(&s).0
             }
@@ -93,9 +139,9 @@ impl Runs {
     }
 
     /// Counts the turns of a routing with so many records.
-    fn turned(&mut self, turns: Turns, sheet: &[u8], records: usize) {
+    fn turned(&mut self, turns: Turns, sheet: &Sheet, records: usize) {
         self.turns.add(turns);
-        self.left_out += read(sheet).map_or(0, |s| s.arrows.len()) - records;
+        self.left_out += sheet.arrows.len() - records;
     }
 
     /// Counts the totals of a listing, its last line.
@@ -114,6 +160,8 @@ impl Runs {
     fn end(&self) {
         let heads: Vec<String> = (1..12).map(|n| format!("by {n}")).collect();
         table("calls", ["answered"].into_iter().chain(heads.iter().map(String::as_str)), &self.counts);
+        table("calls, by limits", UNDER, &self.under);
+        table("refused by 5, by limits", UNDER, &self.over);
         table("answered, by starts", SORTS, &self.starts);
         table("answered, by accents", ["some", "none"], &self.accents);
         for (call, [some, none]) in &self.accents {
@@ -176,7 +224,7 @@ fn room(rng: &mut Random, n: usize) -> usize {
 /// Routings and clutter counts of sound sheets at centres of every sort.
 pub fn routings(count: usize, seed: u64) {
     let rng = &mut Random::new(seed);
-    let mut runs = Runs::default();
+    let mut runs = Runs::new(seed);
     for _ in 0..count {
         let drawing = drawing(rng);
         let sheet = shuffled(rng, &drawing);
@@ -190,7 +238,7 @@ pub fn routings(count: usize, seed: u64) {
 /// A call on each of some sound sheets, by all three kinds.
 fn by_kinds(count: usize, seed: u64, call: fn(&mut Runs, &mut Random, &[u8], u8)) {
     let rng = &mut Random::new(seed);
-    let mut runs = Runs::default();
+    let mut runs = Runs::new(seed);
     for _ in 0..count {
         let drawing = drawing(rng);
         let sheet = shuffled(rng, &drawing);
@@ -212,7 +260,7 @@ pub fn listings(count: usize, seed: u64) {
 /// Label blocks alone.
 pub fn labels(count: usize, seed: u64) {
     let rng = &mut Random::new(seed);
-    let mut runs = Runs::default();
+    let mut runs = Runs::new(seed);
     for _ in 0..count {
         measured(&mut runs, rng);
     }
@@ -234,7 +282,7 @@ fn full(rng: &mut Random) -> Vec<u8> {
 pub fn run(turns: usize, seed: u64) {
     let rng = &mut Random::new(seed);
     let rooms = &mut Random::new(!seed);
-    let mut runs = Runs::default();
+    let mut runs = Runs::new(seed);
     for _ in 0..turns {
         let drawing = drawing(rng);
         let mut sheet = shuffled(rng, &drawing);
@@ -253,7 +301,7 @@ pub fn run(turns: usize, seed: u64) {
         if rng.once_in(250) {
             sheet = full(rng);
         }
-        checked(&mut runs, &sheet);
+        drawn_limits(&mut runs, &Asked::Check { sheet: &sheet });
         let kind = if rng.once_in(12) { rng.pick(&[3, 4, 255]) } else { rng.below(3) as u8 };
         placed(&mut runs, rng, &sheet, kind);
         routed(&mut runs, rng, &sheet, &xs, &ys);
@@ -262,8 +310,8 @@ pub fn run(turns: usize, seed: u64) {
         listed(&mut runs, rng, &sheet, kind);
         numbered(&mut runs, rng);
         measured(&mut runs, rng);
-        let n = room(rooms, saved_length(&sheet));
-        saved(&mut runs, &sheet, n);
+        let room = room(rooms, saved_length(&sheet));
+        drawn_limits(&mut runs, &Asked::WriteSheet { sheet: &sheet, room });
     }
     runs.end();
 }
@@ -284,6 +332,8 @@ struct Saved {
     again: usize,
     alike: usize,
     drawn: usize,
+    /// Those under limits other than the main screen's.
+    within: usize,
 }
 
 const SAVED: [&str; 7] = [
@@ -308,7 +358,7 @@ impl Saved {
             in_order(list) != given,
             parts.iter().any(|p| p.0),
             parts.iter().any(|p| p.1),
-            read(written).is_ok_and(|s| lines(&s).iter().any(|l| short_and_parted(l).1)),
+            read(written, MAIN_SCREEN).is_ok_and(|s| lines(&s).iter().any(|l| short_and_parted(l).1)),
             lines(list).iter().any(Vec::is_empty),
             list.arrows.iter().any(|a| usize::from(a.from.max(a.to)) >= list.states.len()),
             given == written,
@@ -326,8 +376,8 @@ impl Saved {
         println!("at a limit: {}", named(&LIMITS, &self.limits));
         println!(
             "round trips: {} written, checked and written again, {} beside another sheet of the same meaning, {} drawn \
-             by layout, route, clutter and list",
-            self.again, self.alike, self.drawn
+             by layout, route, clutter and list; {} under limits other than the main screen's",
+            self.again, self.alike, self.drawn, self.within
         );
         let few = self.sheets < 1_000;
         assert!(few || self.sorts.iter().chain(&self.limits).all(|&n| n > 0), "a sort or a limit is not met");
@@ -365,7 +415,7 @@ fn damaged(rng: &mut Random, mut sheet: Vec<u8>) -> Vec<u8> {
 /// written is checked and written again; another sheet of the same meaning is written beside it; some are drawn.
 pub fn sheets(count: usize, seed: u64) {
     let rng = &mut Random::new(seed);
-    let mut runs = Runs::default();
+    let mut runs = Runs::new(seed);
     let mut all = Saved::default();
     for i in 0..count {
         let list = stored(rng);
@@ -376,19 +426,25 @@ pub fn sheets(count: usize, seed: u64) {
             all.damaged += 1;
         }
         let n = saved_length(&sheet);
-        let written = saved(&mut runs, &sheet, n);
+        let drawn = runs.limits(&Asked::Check { sheet: &sheet });
+        let within = read(&sheet, calls::capped(drawn)).is_ok();
+        let mut written = saved(&mut runs, drawn, &sheet, n);
         for room in [n - 1, 0, n + 1 + rng.below(200), rng.below(n)] {
-            saved(&mut runs, &sheet, room);
+            saved(&mut runs, drawn, &sheet, room);
         }
-        if let Ok(list) = read(&sheet) {
+        if let Ok(list) = read(&sheet, MAIN_SCREEN) {
+            // What is over the limits drawn goes round on the main screen.
+            let limits = if within { drawn } else { MAIN_SCREEN };
+            all.within += usize::from(within && drawn != MAIN_SCREEN);
+            if !within {
+                written = saved(&mut runs, limits, &sheet, n);
+            }
             all.note(&sheet, &list, &written);
-            trip(&mut runs, &mut all, rng, &sheet, &list, &written);
+            trip(&mut runs, &mut all, rng, limits, &sheet, &list, &written);
             if i % 10 == 0 {
                 let (xs, ys) = centres(rng, &list);
                 all.drawn += 1;
-                if drawn(&written, &xs, &ys) != drawn(&sheet, &xs, &ys) {
-                    runs.differs("drawn", "what is written is not drawn alike", &sheet, &xs, &ys);
-                }
+                alike(&mut runs, limits, [&sheet, &written], &xs, &ys);
             }
         }
     }
@@ -398,220 +454,115 @@ pub fn sheets(count: usize, seed: u64) {
 
 /// The length that the oracle writes, or the sheet's where it is refused.
 fn saved_length(sheet: &[u8]) -> usize {
-    calls::write_sheet(sheet, usize::MAX).map_or(sheet.len().max(1), |t| t.len())
+    calls::write_sheet(sheet, MAIN_SCREEN, usize::MAX).map_or(sheet.len().max(1), |t| t.len())
 }
 
-/// What a sheet is written as is accepted, is no longer, means the same and is written as it is; another sheet of the
-/// same meaning is written alike.
-fn trip(runs: &mut Runs, all: &mut Saved, rng: &mut Random, sheet: &[u8], list: &Sheet, written: &[u8]) {
-    checked(runs, written);
-    let accepted = unsafe { murshogi_check(written.as_ptr(), written.len()) } == 0;
-    let same = accepted && written.len() <= sheet.len() && read(written).is_ok_and(|s| s.graph() == list.graph());
+/// What a sheet is written as is accepted under the same limits, is no longer, means the same and is written as it is;
+/// another sheet of the same meaning is written alike.
+fn trip(
+    runs: &mut Runs, all: &mut Saved, rng: &mut Random, limits: Limits, sheet: &[u8], list: &Sheet, written: &[u8],
+) {
+    let asked = Asked::Check { sheet: written };
+    let (port, _) = runs.ask(&asked, limits);
+    let meant = read(written, calls::capped(limits));
+    let same = port.answer == 0 && written.len() <= sheet.len() && meant.is_ok_and(|s| s.graph() == list.graph());
     if !same {
-        runs.differs("meaning", "what is written is refused, longer or means something else", sheet, &[], &[]);
+        runs.differs("meaning", "what is written is refused, longer or means something else", &asked, limits);
         return;
     }
     all.again += 1;
-    if saved(runs, written, written.len()) != written {
-        runs.differs("again", "what is written is not written again as it is", sheet, &[], &[]);
+    if saved(runs, limits, written, written.len()) != written {
+        runs.differs("again", "what is written is not written again as it is", &asked, limits);
     }
     let other = recut(rng, list);
     let other = laid(rng, &other);
     all.alike += 1;
-    if saved(runs, &other, written.len()) != written {
-        runs.differs("alike", "a sheet of the same meaning is not written alike", &other, &[], &[]);
+    if saved(runs, limits, &other, written.len()) != written {
+        let asked = Asked::Check { sheet: &other };
+        runs.differs("alike", "a sheet of the same meaning is not written alike", &asked, limits);
     }
 }
 
-/// All that the port draws of a sheet: layouts and listings by each kind, a routing and a clutter count at given centres,
-/// with their answers; numbers as their bits.
-fn drawn(sheet: &[u8], xs: &[f64], ys: &[f64]) -> (Vec<u8>, Vec<u64>, Vec<u8>) {
-    let (s, n) = (sheet.as_ptr(), sheet.len());
-    let (mut answers, mut numbers, mut text) = (Vec::new(), Vec::new(), Vec::new());
-    let bits = |list: &[f64]| list.iter().map(|v| v.to_bits()).collect::<Vec<_>>();
-    let mut out = vec![BYTE; 120_000];
-    for kind in 0..3 {
-        let (mut x, mut y, mut size, mut states) = ([BEFORE; 64], [BEFORE; 64], [BEFORE; 2], NUMBER);
-        answers.push(unsafe {
-            murshogi_layout(s, n, kind, x.as_mut_ptr(), 64, y.as_mut_ptr(), 64, size.as_mut_ptr(), &mut states)
-        });
-        numbers.extend([bits(&x), bits(&y), bits(&size), vec![states as u64]].concat());
-        let mut length = NUMBER;
-        answers.push(unsafe { murshogi_list(s, n, kind, out.as_mut_ptr(), out.len(), &mut length) });
-        numbers.push(length as u64);
-        text.extend(&out);
-        out.fill(BYTE);
-    }
-    let (mut records, mut lengths, mut count) = (vec![BEFORE; 5120], [NUMBER; 2], NUMBER);
-    answers.push(unsafe {
-        murshogi_route(
-            s, n, xs.as_ptr(), xs.len(), ys.as_ptr(), ys.len(), records.as_mut_ptr(), records.len(), out.as_mut_ptr(),
-            out.len(), lengths.as_mut_ptr(),
-        )
-    });
-    answers.push(unsafe { murshogi_clutter(s, n, xs.as_ptr(), xs.len(), ys.as_ptr(), ys.len(), &mut count) });
-    numbers.extend(bits(&records));
-    numbers.extend([lengths[0] as u64, lengths[1] as u64, count as u64]);
-    text.extend(&out);
-    (answers, numbers, text)
+/// Writes a sheet with so much room, and gives as many of its bytes as the oracle writes.
+fn saved(runs: &mut Runs, limits: Limits, sheet: &[u8], room: usize) -> Vec<u8> {
+    let (port, oracle) = runs.ask(&Asked::WriteSheet { sheet, room }, limits);
+    port.bytes(if oracle.answer == 0 { oracle.numbers()[0] } else { 0 })
 }
 
-/// Bytes before and behind what is lent for a sheet.
-const AROUND: usize = 64;
-
-/// What a byte around and in it holds before the call: no two neighbours are alike.
-fn unset(i: usize) -> u8 {
-    (37 * i + 11) as u8
-}
-
-/// Writes a sheet into the middle of a longer array, with so much room, and gives as many of its bytes as the oracle
-/// writes.
-fn saved(runs: &mut Runs, sheet: &[u8], room: usize) -> Vec<u8> {
-    let wanted = calls::write_sheet(sheet, room);
-    let given = sheet.to_vec();
-    let mut all: Vec<u8> = (0..room + 2 * AROUND).map(unset).collect();
-    let mut lengths = [NUMBER; 3];
-    let got = unsafe {
-        murshogi_write_sheet(given.as_ptr(), given.len(), all[AROUND..].as_mut_ptr(), room, &mut lengths[1])
+/// What is written is drawn as what it is written from: layouts and listings by each kind, a routing and a clutter count
+/// at given centres, in every bit.
+fn alike(runs: &mut Runs, limits: Limits, sheets: [&[u8]; 2], xs: &[f64], ys: &[f64]) {
+    let asked = |sheet| {
+        let layouts = [0, 1, 2].map(|kind| Asked::Layout { sheet, kind, rooms: (64, 64) });
+        let listings = [0, 1, 2].map(|kind| Asked::List { sheet, kind, room: 120_000 });
+        let routing = Asked::Route { sheet, xs, ys, rooms: (5120, 120_000) };
+        [&layouts[..], &listings[..], &[routing, Asked::Clutter { sheet, xs, ys }]].concat()
     };
-    let answer = wanted.as_ref().err().copied().unwrap_or(0);
-    let length = wanted.as_ref().map_or(NUMBER, Vec::len);
-    let wanted = wanted.unwrap_or_default();
-    let end = AROUND + wanted.len();
-    let ok = got == answer
-        && all[AROUND..end] == wanted
-        && (0..AROUND).chain(end..all.len()).all(|i| all[i] == unset(i))
-        && lengths == [NUMBER, length, NUMBER]
-        && given == sheet;
-    runs.note("write_sheet", answer, ok, sheet, &[room as f64], &[]);
-    all[AROUND..end].to_vec()
+    for (a, b) in asked(sheets[0]).iter().zip(asked(sheets[1])) {
+        if !a.port(limits).identical(&b.port(limits)) {
+            runs.differs("drawn", "what is written is not drawn alike", a, limits);
+        }
+    }
 }
 
-fn checked(runs: &mut Runs, sheet: &[u8]) {
-    let wanted = calls::check(sheet).err().unwrap_or(0);
-    let got = unsafe { murshogi_check(sheet.as_ptr(), sheet.len()) };
-    runs.note("check", wanted, got == wanted, sheet, &[], &[]);
+/// Asks both under limits that are drawn for what is given.
+fn drawn_limits(runs: &mut Runs, asked: &Asked) -> (Left, Left) {
+    let limits = runs.limits(asked);
+    runs.ask(asked, limits)
+}
+
+/// How many centres a layout has, or 3 where it is refused.
+fn layout_length(sheet: &[u8], kind: u8) -> usize {
+    calls::layout(sheet, MAIN_SCREEN, kind, (usize::MAX, usize::MAX)).map_or(3, |l| l.x.len())
+}
+
+/// The numbers and bytes of a routing, or 20 where it is refused.
+fn routing_lengths(sheet: &[u8], xs: &[f64], ys: &[f64]) -> (usize, usize) {
+    calls::route(sheet, MAIN_SCREEN, xs, ys, (usize::MAX, usize::MAX))
+        .map_or((20, 20), |r| (r.records.len(), r.text.len()))
+}
+
+/// The bytes of a listing, or 20 where it is refused.
+fn listing_length(sheet: &[u8], kind: u8) -> usize {
+    calls::list(sheet, MAIN_SCREEN, kind, usize::MAX).map_or(20, |t| t.len())
 }
 
 fn placed(runs: &mut Runs, rng: &mut Random, sheet: &[u8], kind: u8) {
-    let n = calls::layout(sheet, kind, usize::MAX, usize::MAX).map_or(3, |l| l.x.len());
-    let (mut x, mut y) = (vec![BEFORE; room(rng, n)], vec![BEFORE; room(rng, n)]);
-    let wanted = calls::layout(sheet, kind, x.len(), y.len());
-    let (mut size, mut states) = ([BEFORE; 2], NUMBER);
-    let got = unsafe {
-        murshogi_layout(
-            sheet.as_ptr(), sheet.len(), kind, x.as_mut_ptr(), x.len(), y.as_mut_ptr(), y.len(),
-            size.as_mut_ptr(), &mut states,
-        )
-    };
-    let answer = wanted.as_ref().err().copied().unwrap_or(0);
-    let ok = got == answer
-        && match wanted {
-            Ok(l) => {
-                holds(&x, &l.x)
-                    && holds(&y, &l.y)
-                    && holds(&size, &[l.width, l.height])
-                    && states == l.x.len()
-            }
-            Err(_) => holds(&x, &[]) && holds(&y, &[]) && holds(&size, &[]) && states == NUMBER,
-        };
-    runs.note("layout", answer, ok, sheet, &[f64::from(kind)], &[]);
+    let n = layout_length(sheet, kind);
+    let rooms = (room(rng, n), room(rng, n));
+    drawn_limits(runs, &Asked::Layout { sheet, kind, rooms });
 }
 
 fn routed(runs: &mut Runs, rng: &mut Random, sheet: &[u8], xs: &[f64], ys: &[f64]) {
-    let (n, m) = calls::route(sheet, xs, ys, (usize::MAX, usize::MAX))
-        .map_or((20, 20), |r| (r.records.len(), r.text.len()));
-    let mut records = vec![BEFORE; room(rng, n)];
-    let mut text = vec![BYTE; room(rng, m)];
-    let wanted = calls::route(sheet, xs, ys, (records.len(), text.len()));
-    if let Ok(r) = &wanted {
-        let graph = read(sheet).unwrap().graph();
-        runs.turned(calls::turns(&graph, xs, ys), sheet, r.records.len() / 20);
+    let (n, m) = routing_lengths(sheet, xs, ys);
+    let rooms = (room(rng, n), room(rng, m));
+    let (_, oracle) = drawn_limits(runs, &Asked::Route { sheet, xs, ys, rooms });
+    if oracle.answer == 0 {
+        let list = read(sheet, MAIN_SCREEN).unwrap();
+        runs.turned(calls::turns(&list.graph(), xs, ys), &list, oracle.numbers()[0] / 20);
     }
-    let mut lengths = [NUMBER; 2];
-    let got = unsafe {
-        murshogi_route(
-            sheet.as_ptr(), sheet.len(), xs.as_ptr(), xs.len(), ys.as_ptr(), ys.len(),
-            records.as_mut_ptr(), records.len(), text.as_mut_ptr(), text.len(),
-            lengths.as_mut_ptr(),
-        )
-    };
-    let answer = wanted.as_ref().err().copied().unwrap_or(0);
-    let ok = got == answer
-        && match wanted {
-            Ok(r) => {
-                holds(&records, &r.records)
-                    && holds_bytes(&text, &r.text)
-                    && lengths == [r.records.len(), r.text.len()]
-            }
-            Err(_) => holds(&records, &[]) && holds_bytes(&text, &[]) && lengths == [NUMBER; 2],
-        };
-    runs.note("route", answer, ok, sheet, xs, ys);
 }
 
 fn cluttered(runs: &mut Runs, sheet: &[u8], xs: &[f64], ys: &[f64]) {
-    let wanted = calls::clutter(sheet, xs, ys);
-    let mut count = NUMBER;
-    let got = unsafe {
-        murshogi_clutter(
-            sheet.as_ptr(), sheet.len(), xs.as_ptr(), xs.len(), ys.as_ptr(), ys.len(), &mut count,
-        )
-    };
-    let answer = wanted.err().unwrap_or(0);
-    let ok = got == answer && count == wanted.unwrap_or(NUMBER);
-    runs.note("clutter", answer, ok, sheet, xs, ys);
+    drawn_limits(runs, &Asked::Clutter { sheet, xs, ys });
 }
 
 fn listed(runs: &mut Runs, rng: &mut Random, sheet: &[u8], kind: u8) {
-    let n = calls::list(sheet, kind, usize::MAX).map_or(20, |t| t.len());
-    let mut out = vec![BYTE; room(rng, n)];
-    let wanted = calls::list(sheet, kind, out.len());
-    let mut length = NUMBER;
-    let got = unsafe {
-        murshogi_list(sheet.as_ptr(), sheet.len(), kind, out.as_mut_ptr(), out.len(), &mut length)
-    };
-    let answer = wanted.as_ref().err().copied().unwrap_or(0);
-    let ok = got == answer
-        && match wanted {
-            Ok(t) => {
-                runs.totalled(&t);
-                holds_bytes(&out, &t) && length == t.len()
-            }
-            Err(_) => holds_bytes(&out, &[]) && length == NUMBER,
-        };
-    runs.note("list", answer, ok, sheet, &[f64::from(kind)], &[]);
+    let room = room(rng, listing_length(sheet, kind));
+    let (_, oracle) = drawn_limits(runs, &Asked::List { sheet, kind, room });
+    if oracle.answer == 0 {
+        runs.totalled(&oracle.bytes(oracle.numbers()[0]));
+    }
 }
 
 fn numbered(runs: &mut Runs, rng: &mut Random) {
     let v = crate::vectors::number(rng);
     let n = calls::write_num(v, usize::MAX).map_or(3, |t| t.len());
-    let mut out = vec![BYTE; room(rng, n)];
-    let wanted = calls::write_num(v, out.len());
-    let mut length = NUMBER;
-    let got = unsafe { murshogi_write_num(v, out.as_mut_ptr(), out.len(), &mut length) };
-    let answer = wanted.as_ref().err().copied().unwrap_or(0);
-    let ok = got == answer
-        && match wanted {
-            Ok(t) => holds_bytes(&out, &t) && length == t.len(),
-            Err(_) => holds_bytes(&out, &[]) && length == NUMBER,
-        };
-    runs.note("write_num", answer, ok, &[], &[v], &[]);
+    let room = room(rng, n);
+    runs.ask(&Asked::WriteNum { v, room }, MAIN_SCREEN);
 }
 
 fn measured(runs: &mut Runs, rng: &mut Random) {
     let (text, lengths) = crate::vectors::label_lines(rng);
-    let wanted = calls::label_size(&text, &lengths);
-    let mut size = [BEFORE; 2];
-    let got = unsafe {
-        murshogi_label_size(
-            text.as_ptr(), text.len(), lengths.as_ptr(), lengths.len(), size.as_mut_ptr(),
-        )
-    };
-    let answer = wanted.err().unwrap_or(0);
-    let ok = got == answer
-        && match wanted {
-            Ok((w, h)) => holds(&size, &[w, h]),
-            Err(_) => holds(&size, &[]),
-        };
-    runs.note("label_size", answer, ok, &text, &[], &[]);
+    drawn_limits(runs, &Asked::LabelSize { text: &text, lengths: &lengths });
 }

@@ -10,7 +10,7 @@ use crate::calls::{Turns, bowed, turns};
 use crate::generate::{SORTS, sort_of_starts};
 use crate::random::Random;
 use crate::route::geometry;
-use crate::sheet::read;
+use crate::sheet::{MAIN_SCREEN, read};
 use crate::vectors::graphs::{drawn, size};
 use crate::vectors::{Calls, Stream, plenty};
 
@@ -91,7 +91,7 @@ pub fn routings(count: usize, seed: u64) {
     for i in 0..count {
         let size = size(rng);
         let d = drawn(rng, size);
-        let graph = read(&d.sheet).unwrap().graph();
+        let graph = read(&d.sheet, MAIN_SCREEN).unwrap().graph();
         runs.starts[sort_of_starts(&graph)] += 1;
         match bowed(|| geometry(&graph, &d.xs, &d.ys)) {
             Ok(list) => {
@@ -128,7 +128,7 @@ pub fn layouts(count: usize, seed: u64) {
     for i in 0..count {
         let size = size(rng);
         let d = drawn(rng, size);
-        let graph = read(&d.sheet).unwrap().graph();
+        let graph = read(&d.sheet, MAIN_SCREEN).unwrap().graph();
         runs.starts[sort_of_starts(&graph)] += 1;
         states += graph.nodes.len();
         arrows += graph.edges.len();

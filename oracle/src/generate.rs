@@ -3,7 +3,9 @@
 use crate::graph::Graph;
 use crate::layout::{LayoutKind, layout};
 use crate::random::Random;
-use crate::sheet::{ARROWS, Arrow, LINE_BYTES, LINES, Line, SHEET_BYTES, STATES, Sheet};
+use crate::sheet::{
+    ARROWS, Arrow, LINE_BYTES, LINES, Limits, Line, MAIN_SCREEN, SERVICE_PANEL, SHEET_BYTES, STATES, Sheet,
+};
 
 /// The most records that a sheet holds.
 const RECORDS: usize = SHEET_BYTES / 16 - 1;
@@ -373,6 +375,52 @@ pub fn at_limits(sheet: &Sheet) -> [bool; 5] {
         lines().any(|l| l.concat().len() == LINE_BYTES),
         sheet.records() == RECORDS,
     ]
+}
+
+/// Numbers that are above each of the main screen's limits by much.
+pub const LARGE: [usize; 5] = [1_000, 65_536, 1 << 32, 1 << 63, usize::MAX];
+
+/// Limits for a sheet with these counts: the main screen's, the panel's, the counts themselves, one below one of them,
+/// all above the main screen's, or each for itself any of these or another number.
+pub fn limits(rng: &mut Random, own: Limits) -> Limits {
+    let mut list = own.list();
+    match rng.below(12) {
+        0..=2 => return MAIN_SCREEN,
+        3 => return SERVICE_PANEL,
+        4 | 5 => {}
+        6 => {
+            let i = rng.below(3);
+            list = if rng.once_in(2) { MAIN_SCREEN.list() } else { list };
+            list[i] = own.list()[i].saturating_sub(1);
+        }
+        7 => {
+            for (most, main) in list.iter_mut().zip(MAIN_SCREEN.list()) {
+                *most = if rng.once_in(3) { main + 1 } else { rng.pick(&LARGE) };
+            }
+        }
+        _ => {
+            for (most, main) in list.iter_mut().zip(MAIN_SCREEN.list()) {
+                *most = limit(rng, *most, main);
+            }
+        }
+    }
+    Limits::of(list)
+}
+
+/// A limit for a count, beside the main screen's.
+fn limit(rng: &mut Random, own: usize, main: usize) -> usize {
+    match rng.below(16) {
+        0..=3 => main,
+        4 => own,
+        5 => own.saturating_sub(1),
+        6..=8 => own + 1,
+        9 => main - 1,
+        10 => main + 1,
+        11 => rng.below(2),
+        12 => rng.pick(&LARGE),
+        13 => rng.next() as usize,
+        _ => rng.below(main + 1),
+    }
 }
 
 /// Makes a sheet longer until it stands at a limit; it stays as it is where that would take too many records.

@@ -22,6 +22,8 @@ mod standin;
 mod svg;
 mod vectors;
 
+use sheet::{Limits, MAIN_SCREEN, SERVICE_PANEL};
+
 fn main() {
     let args: Vec<String> = std::env::args().skip(1).collect();
     let words: Vec<&str> = args.iter().map(String::as_str).collect();
@@ -36,8 +38,9 @@ fn main() {
         ["compare", "remainders", count, seed] => bench::remainders(count.parse().unwrap(), seed.parse().unwrap()),
         ["differ", "route", count, seed] => differ::routings(count.parse().unwrap(), seed.parse().unwrap()),
         ["differ", "layout", count, seed] => differ::layouts(count.parse().unwrap(), seed.parse().unwrap()),
-        ["list", kind] => answer(|sheet| calls::list(sheet, kind.parse().unwrap_or(255), 65_536)),
-        ["save"] => answer(|sheet| calls::write_sheet(sheet, 65_536)),
+        ["list", kind] => list(kind, MAIN_SCREEN),
+        ["list", kind, "panel"] => list(kind, SERVICE_PANEL),
+        ["save"] => answer(|sheet| calls::write_sheet(sheet, MAIN_SCREEN, 65_536)),
         #[cfg(all(port = "murshogi", not(test)))]
         ["bench", "calls"] => bench::calls::print(),
         #[cfg(all(port = "murshogi", not(test)))]
@@ -67,14 +70,21 @@ fn main() {
         #[cfg(port = "murshogi")]
         ["compare", "sheets", count, seed] => compare::sheets(count.parse().unwrap(), seed.parse().unwrap()),
         #[cfg(port = "murshogi")]
+        ["compare", "limits", count, seed] => compare::limits(count.parse().unwrap(), seed.parse().unwrap()),
+        #[cfg(port = "murshogi")]
         ["compare"] => compare::run(15_000, 5),
         #[cfg(port = "murshogi")]
         ["compare", turns, seed] => compare::run(turns.parse().unwrap(), seed.parse().unwrap()),
         _ => {
-            eprintln!("usage: oracle vectors FILE | differ (route | layout) COUNT SEED | bench (root | angles | check | calls | counts | search | saved | stack | sheet NAME) | list KIND < SHEET | save < SHEET | compare [[routings | layouts | listings | labels | sheets | remainders] COUNT SEED]");
+            eprintln!("usage: oracle vectors FILE | differ (route | layout) COUNT SEED | bench (root | angles | check | calls | counts | search | saved | stack | sheet NAME) | list KIND [panel] < SHEET | save < SHEET | compare [[routings | layouts | listings | labels | sheets | limits | remainders] COUNT SEED]");
             std::process::exit(2);
         }
     }
+}
+
+/// Prints the listing of the sheet in standard input.
+fn list(kind: &str, limits: Limits) {
+    answer(|sheet| calls::list(sheet, limits, kind.parse().unwrap_or(255), 65_536));
 }
 
 /// Prints what a call writes of the sheet in standard input: its listing, or the sheet as it is saved.

@@ -10,6 +10,28 @@ pub const LINES: usize = 8;
 pub const LINE_BYTES: usize = 96;
 pub const SHEET_BYTES: usize = 65_536;
 
+/// Document 02, T-05: the most states and arrows that a sheet may have, and lines that an arrow may have.
+#[derive(Clone, Copy, Debug, PartialEq)]
+pub struct Limits {
+    pub states: usize,
+    pub arrows: usize,
+    pub lines: usize,
+}
+
+pub const MAIN_SCREEN: Limits = Limits { states: STATES, arrows: ARROWS, lines: LINES };
+pub const SERVICE_PANEL: Limits = Limits { states: 24, arrows: 64, lines: 4 };
+
+impl Limits {
+    /// As they are given to a call.
+    pub fn list(self) -> [usize; 3] {
+        [self.states, self.arrows, self.lines]
+    }
+
+    pub fn of([states, arrows, lines]: [usize; 3]) -> Self {
+        Self { states, arrows, lines }
+    }
+}
+
 /// What a sheet says. A line is its text's pieces.
 #[derive(Clone, Debug, Default, PartialEq)]
 pub struct Sheet {
@@ -30,8 +52,27 @@ fn word(bytes: &[u8], at: usize) -> usize {
     usize::from(bytes[at]) + 256 * usize::from(bytes[at + 1])
 }
 
-/// The sheet's meaning, or the number of the first refusal in document 01's order.
-pub fn read(bytes: &[u8]) -> Result<Sheet, u8> {
+/// The sheet's meaning under limits, none of which is above the main screen's, or the number of the first refusal in
+/// document 01's order.
+pub fn read(bytes: &[u8], limits: Limits) -> Result<Sheet, u8> {
+    let sheet = walked(bytes)?;
+    let lines = || sheet.arrows.iter().flat_map(|a| &a.lines);
+    let own = sheet.counts();
+    if own.states > limits.states
+        || own.arrows > limits.arrows
+        || own.lines > limits.lines
+        || lines().any(|l| l.concat().len() > LINE_BYTES)
+    {
+        return Err(5);
+    }
+    if lines().any(|l| std::str::from_utf8(&l.concat()).is_err()) {
+        return Err(6);
+    }
+    Ok(sheet)
+}
+
+/// What the records say, however many there are of each kind, or 1, 2, 4 or 3.
+pub fn walked(bytes: &[u8]) -> Result<Sheet, u8> {
     if bytes.len() < 16 || bytes.len() > SHEET_BYTES || bytes.len() != 16 * (1 + word(bytes, 2)) {
         return Err(1);
     }
@@ -49,17 +90,6 @@ pub fn read(bytes: &[u8]) -> Result<Sheet, u8> {
     let sheet = walk.sheet(word(bytes, 4), word(bytes, 6)).ok_or(3)?;
     if walk.met.iter().any(|m| !m) {
         return Err(3);
-    }
-    let lines = || sheet.arrows.iter().flat_map(|a| &a.lines);
-    if sheet.states.len() > STATES
-        || sheet.arrows.len() > ARROWS
-        || sheet.arrows.iter().any(|a| a.lines.len() > LINES)
-        || lines().any(|l| l.concat().len() > LINE_BYTES)
-    {
-        return Err(5);
-    }
-    if lines().any(|l| std::str::from_utf8(&l.concat()).is_err()) {
-        return Err(6);
     }
     Ok(sheet)
 }
@@ -133,6 +163,12 @@ impl Sheet {
             nodes: nodes.collect(),
             edges: edges.collect(),
         }
+    }
+
+    /// The states, the arrows and the lines of the arrow that has most: the least limits that they are within.
+    pub fn counts(&self) -> Limits {
+        let lines = self.arrows.iter().map(|a| a.lines.len()).max().unwrap_or(0);
+        Limits { states: self.states.len(), arrows: self.arrows.len(), lines }
     }
 
     /// How many records the sheet takes.
@@ -235,10 +271,10 @@ fn chain(out: &mut [u8], kind: u8, list: &[usize]) {
     }
 }
 
-/// The label block's size, or 5 or 6.
-pub fn label_block(text: &[u8], lengths: &[usize]) -> Result<(f64, f64), u8> {
+/// The size of a label block of so many lines at the most, or 5 or 6.
+pub fn label_block(text: &[u8], lengths: &[usize], most: usize) -> Result<(f64, f64), u8> {
     let sum: u128 = lengths.iter().map(|&n| n as u128).sum();
-    if lengths.len() > LINES || lengths.iter().any(|&n| n > LINE_BYTES) || sum != text.len() as u128 {
+    if lengths.len() > most || lengths.iter().any(|&n| n > LINE_BYTES) || sum != text.len() as u128 {
         return Err(5);
     }
     let mut lines = Vec::new();
@@ -257,6 +293,7 @@ mod tests {
 
     #[test]
     fn worked() {
+        let read = |bytes: &[u8]| read(bytes, MAIN_SCREEN);
         let empty = Sheet::default().bytes(&[]);
         assert_eq!(read(&empty), Ok(Sheet::default()));
         assert_eq!(read(&[&empty[..], &[0]].concat()), Err(1));
@@ -279,7 +316,7 @@ mod tests {
     }
 
     fn line(text: &str) -> Result<(f64, f64), u8> {
-        label_block(text.as_bytes(), &[text.len()])
+        label_block(text.as_bytes(), &[text.len()], LINES)
     }
 
     /// Document 02's T-02: U+0300 to U+036F have width 0, the characters beside them 12. A line of accents alone is a
@@ -294,10 +331,10 @@ mod tests {
         }
         let all = (0..0x11_0000).filter_map(char::from_u32).filter(|c| line(&c.to_string()) == Ok((0.0, 15.0)));
         assert!(all.eq('\u{300}'..='\u{36f}'));
-        assert_eq!(label_block("\u{301}".repeat(8).as_bytes(), &[2; 8]), Ok((0.0, 120.0)));
+        assert_eq!(label_block("\u{301}".repeat(8).as_bytes(), &[2; 8], LINES), Ok((0.0, 120.0)));
         assert_eq!(line(&"\u{301}".repeat(48)), Ok((0.0, 15.0)));
         assert_eq!(line(&format!("{}a", "\u{301}".repeat(48))), Err(5));
-        assert_eq!(label_block("\u{301}".as_bytes(), &[1, 1]), Err(6));
+        assert_eq!(label_block("\u{301}".as_bytes(), &[1, 1], LINES), Err(6));
     }
 
     /// A line has the width that it has without its accents.

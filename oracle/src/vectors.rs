@@ -10,6 +10,7 @@ mod calls;
 mod edges;
 mod float;
 pub mod graphs;
+mod limits;
 mod numbers;
 mod sheets;
 mod written;
@@ -67,6 +68,8 @@ pub mod kind {
     pub const LABEL_SIZE: u8 = 65;
     pub const NUMBER: u8 = 66;
     pub const WRITE_SHEET: u8 = 67;
+    /// Limits, three numbers of eight bytes; a kind from 60 to 65 or 67, and its payload.
+    pub const UNDER_LIMITS: u8 = 68;
     /// A kind and its payload with another answer.
     pub const SPOILED: u8 = 255;
 }
@@ -155,6 +158,7 @@ pub fn write(file: &str) {
     calls::cases(&mut c);
     accents::cases(&mut c);
     written::cases(&mut c);
+    limits::cases(&mut c);
     c.end();
     for (kind, count) in &out.kinds {
         println!("kind {kind}: {count}");

@@ -15,8 +15,8 @@ use Rattle.laws.specs.Refusals.{Refusal, refusal, decide, clear-joined}
 use Rattle.sheet.specs.Sheet.{Arrow, Graph, meaning, flagsOf}
 use Rattle.sheet.specs.Meaning.{endsBelow, noArrow, arrowAt}
 use Rattle.sheet.specs.Refusals.{refusals}
-use Rattle.sheet.specs.Order.{accepted-exactly}
-use Rattle.sheet.specs.Accepted.{OnMainScreen, on-main-screen}
+use Rattle.sheet.specs.Accepted.{OnMainScreen}
+use Rattle.sheet.specs.declared.Limits.{Limits}
 use Rattle.label.specs.Label.{blockHeight}
 use Rattle.label_spots.specs.declared.Geometry.{Geometry}
 use Rattle.svg.specs.Paths.{curveText}
@@ -38,7 +38,8 @@ use Rattle.beyond.specs.Beyond.{beyond}
 use Rattle.layout.specs.Layout.{Plan, Layout, planOf, lastKind, layoutOf}
 use Rattle.layout.specs.Alike.{same-plan, same-layout}
 use Rattle.plan.specs.Measured.{layoutBeyond}
-use Rattle.calls.specs.Calls.{values, number, mainScreen, onto, short, check, drawnOf, numbersOf, routeRefusals, route, recordsAfter, textAfter, clutter, layoutFor, layoutRefusals, layout, xsAfter, ysAfter, listing, listRefusals, list, listAfter}
+use Rattle.calls.specs.Calls.{values, number, cappedLimits, onto, short, check, drawnOf, numbersOf, routeRefusals, route, recordsAfter, textAfter, clutter, layoutFor, layoutRefusals, layout, xsAfter, ysAfter, listing, listRefusals, list, listAfter}
+use Rattle.calls.specs.Laws.{accepted-shown}
 use Rattle.calls.specs.Refused.{check-answered}
 use Rattle.demand3.specs.Demand.{Call, Answered, recordAt, pathAt, graph, frame, sizes, drawnAt}
 use Rattle.demand3.specs.Proof.{callRecords, stands, record-is, path-is, call-frames}
@@ -122,26 +123,17 @@ listLeft n kind p f flags gs totals room =
     ∷ refusal 7 (short room (listingLeft l flags gs totals))
     ∷ []
 
-module _ (s t : List ℕ) (a : check s ≡ values tt) (b : check t ≡ values tt) (o : SameSizes (meaning s) (meaning t)) where
-  -- the causes of 1 to 6 do not hold
-  past : {A : Type 0} (refuse : ℕ → A) (u v : A) (rs qs : List Refusal) → decide rs refuse u ≡ decide qs refuse v
-      → decide (refusals mainScreen s ++ rs) refuse u ≡ decide (refusals mainScreen t ++ qs) refuse v
-  past refuse u v rs qs e =
-      clear-joined refuse u (refusals mainScreen s) rs (check-answered s .answer .0 a)
-      ∙ e
-      ∙ sym (clear-joined refuse v (refusals mainScreen t) qs (check-answered t .answer .0 b))
+-- what follows 1 to 6 decides alike, the one sheet under the limits l and the other under m
+abbrev pub DecidesAlike : List ℕ → Limits → List ℕ → Limits → Type 1
+DecidesAlike s l t m =
+    (A : Type 0) (refuse : ℕ → A) (u v : A) (rs qs : List Refusal) → decide rs refuse u ≡ decide qs refuse v
+    → decide (refusals (cappedLimits l) s ++ rs) refuse u ≡ decide (refusals (cappedLimits m) t ++ qs) refuse v
 
-  -- a sheet that is accepted has at most 8 lines an arrow
-  within : (u : List ℕ) → check u ≡ values tt → OnMainScreen (meaning u)
-  within u c = on-main-screen u (accepted-exactly mainScreen u .1 (check-answered u .answer .0 c))
+-- as many lines at each arrow
+abbrev pub LinesMany : Graph → Graph → Type 0
+LinesMany g h = (k : ℕ) → k < length (g .arrows) → length (arrowAt g k .lines) ≡ length (arrowAt h k .lines)
 
-  same-lines-many : (k : ℕ) → k < length (meaning s .arrows) → length (arrowAt (meaning s) k .lines) ≡ length (arrowAt (meaning t) k .lines)
-  same-lines-many k h =
-      let i : k < length (meaning t .arrows) = omega (arith, o .ends .many) in
-      same-many (length (arrowAt (meaning s) k .lines)) (length (arrowAt (meaning t) k .lines)) (within s a .lines k h) (within t b .lines k i)
-      (ap (λ (z : BlockSize). z .height)
-      (map-at sizeOf (meaning s .arrows) k noArrow noSize h ∙ ap (λ (l : List BlockSize). getD l k noSize) (o .sizes) ∙ sym (map-at sizeOf (meaning t .arrows) k noArrow noSize i)))
-
+module _ (s t : List ℕ) (l m : Limits) (past : DecidesAlike s l t m) (lines-many : LinesMany (meaning s) (meaning t)) (o : SameSizes (meaning s) (meaning t)) where
   same-states : length (meaning s .states) ≡ length (meaning t .states)
   same-states = o .ends .states
 
@@ -158,27 +150,27 @@ module _ (s t : List ℕ) (a : check s ≡ values tt) (b : check t ≡ values tt
     drawn-same = ap₂ Routing.records frame-same (o .sizes)
 
     route-decides : {A : Type 0} (refuse : ℕ → A) (room textRoom : ℕ) (answer : List Geometry → A)
-        → decide (routeRefusals s xs ys room textRoom) refuse (answer (drawnOf s xs ys)) ≡ decide (routeRefusals t xs ys room textRoom) refuse (answer (drawnOf t xs ys))
+        → decide (routeRefusals s l xs ys room textRoom) refuse (answer (drawnOf s xs ys)) ≡ decide (routeRefusals t m xs ys room textRoom) refuse (answer (drawnOf t xs ys))
     route-decides refuse room textRoom answer =
-        past refuse (answer (drawnOf s xs ys)) (answer (drawnOf t xs ys))
+        past _ refuse (answer (drawnOf s xs ys)) (answer (drawnOf t xs ys))
         (routeLeft (length (meaning s .states)) (frameOf (meaning s) xs ys) (drawnOf s xs ys) xs ys room textRoom)
         (routeLeft (length (meaning t .states)) (frameOf (meaning t) xs ys) (drawnOf t xs ys) xs ys room textRoom)
         (same same-states frame-same drawn-same)
       where
-        same : {n m : ℕ} {f g : Frame} {gs hs : List Geometry} → n ≡ m → f ≡ g → gs ≡ hs
-            → decide (routeLeft n f gs xs ys room textRoom) refuse (answer gs) ≡ decide (routeLeft m g hs xs ys room textRoom) refuse (answer hs)
+        same : {n k : ℕ} {f g : Frame} {gs hs : List Geometry} → n ≡ k → f ≡ g → gs ≡ hs
+            → decide (routeLeft n f gs xs ys room textRoom) refuse (answer gs) ≡ decide (routeLeft k g hs xs ys room textRoom) refuse (answer hs)
         same p q r = rw (p, q, r)
 
     clutter-decides : {A : Type 0} (refuse : ℕ → A) (answer : Frame → List Geometry → A)
-        → decide (drawRefusals mainScreen s xs ys) refuse (answer (frameOf (meaning s) xs ys) (drawnOf s xs ys)) ≡ decide (drawRefusals mainScreen t xs ys) refuse (answer (frameOf (meaning t) xs ys) (drawnOf t xs ys))
+        → decide (drawRefusals (cappedLimits l) s xs ys) refuse (answer (frameOf (meaning s) xs ys) (drawnOf s xs ys)) ≡ decide (drawRefusals (cappedLimits m) t xs ys) refuse (answer (frameOf (meaning t) xs ys) (drawnOf t xs ys))
     clutter-decides refuse answer =
-        past refuse (answer (frameOf (meaning s) xs ys) (drawnOf s xs ys)) (answer (frameOf (meaning t) xs ys) (drawnOf t xs ys))
+        past _ refuse (answer (frameOf (meaning s) xs ys) (drawnOf s xs ys)) (answer (frameOf (meaning t) xs ys) (drawnOf t xs ys))
         (clutterLeft (length (meaning s .states)) (frameOf (meaning s) xs ys) xs ys)
         (clutterLeft (length (meaning t .states)) (frameOf (meaning t) xs ys) xs ys)
         (same same-states frame-same drawn-same)
       where
-        same : {n m : ℕ} {f g : Frame} {gs hs : List Geometry} → n ≡ m → f ≡ g → gs ≡ hs
-            → decide (clutterLeft n f xs ys) refuse (answer f gs) ≡ decide (clutterLeft m g xs ys) refuse (answer g hs)
+        same : {n k : ℕ} {f g : Frame} {gs hs : List Geometry} → n ≡ k → f ≡ g → gs ≡ hs
+            → decide (clutterLeft n f xs ys) refuse (answer f gs) ≡ decide (clutterLeft k g xs ys) refuse (answer g hs)
         same p q r = rw (p, q, r)
 
   -- by a kind
@@ -187,17 +179,17 @@ module _ (s t : List ℕ) (a : check s ≡ values tt) (b : check t ≡ values tt
     plan-same = same-plan (meaning s) (meaning t) (o .ends) (o .sizes)
 
     layout-decides : {A : Type 0} (refuse : ℕ → A) (xRoom yRoom : ℕ) (answer : ℕ → Layout → A)
-        → decide (layoutRefusals s kind xRoom yRoom) refuse (answer (length (meaning s .states)) (layoutFor s kind)) ≡ decide (layoutRefusals t kind xRoom yRoom) refuse (answer (length (meaning t .states)) (layoutFor t kind))
+        → decide (layoutRefusals s l kind xRoom yRoom) refuse (answer (length (meaning s .states)) (layoutFor s kind)) ≡ decide (layoutRefusals t m kind xRoom yRoom) refuse (answer (length (meaning t .states)) (layoutFor t kind))
     unfolding decide
     layout-decides {A} refuse xRoom yRoom answer =
         ap (λ (x : A). cond (ltb lastKind kind) (refuse 11) x)
-        (past refuse (answer (length (meaning s .states)) (layoutFor s kind)) (answer (length (meaning t .states)) (layoutFor t kind))
+        (past _ refuse (answer (length (meaning s .states)) (layoutFor s kind)) (answer (length (meaning t .states)) (layoutFor t kind))
         (layoutLeft kind (planOf (meaning s)) xRoom yRoom)
         (layoutLeft kind (planOf (meaning t)) xRoom yRoom)
         (same same-states plan-same))
       where
-        same : {n m : ℕ} {p q : Plan} → n ≡ m → p ≡ q
-            → decide (layoutLeft kind p xRoom yRoom) refuse (answer n (layoutOf kind p)) ≡ decide (layoutLeft kind q xRoom yRoom) refuse (answer m (layoutOf kind q))
+        same : {n k : ℕ} {p q : Plan} → n ≡ k → p ≡ q
+            → decide (layoutLeft kind p xRoom yRoom) refuse (answer n (layoutOf kind p)) ≡ decide (layoutLeft kind q xRoom yRoom) refuse (answer k (layoutOf kind q))
         same p q = rw (p, q)
 
     -- the drawing at the layout's centres
@@ -220,30 +212,52 @@ module _ (s t : List ℕ) (a : check s ≡ values tt) (b : check t ≡ values tt
     drawn-laid = ap₂ Routing.records frame-laid (o .sizes)
 
     list-decides : {A : Type 0} (refuse : ℕ → A) (room : ℕ) (answer : List ℕ → A)
-        → decide (listRefusals s kind room) refuse (answer (listing s kind)) ≡ decide (listRefusals t kind room) refuse (answer (listing t kind))
+        → decide (listRefusals s l kind room) refuse (answer (listing s kind)) ≡ decide (listRefusals t m kind room) refuse (answer (listing t kind))
     unfolding decide
     list-decides {A} refuse room answer =
         ap (λ (x : A). cond (ltb lastKind kind) (refuse 11) x)
-        (past refuse (answer (listing s kind)) (answer (listing t kind)) (listLeftOf s room) (listLeftOf t room)
-        (same same-states plan-same frame-laid same-flags drawn-laid (totals-alike (meaning s) (meaning t) (o .ends) same-lines-many (drawnLaid s) ∙ ap (totalsOf (meaning t)) drawn-laid)))
+        (past _ refuse (answer (listing s kind)) (answer (listing t kind)) (listLeftOf s room) (listLeftOf t room)
+        (same same-states plan-same frame-laid same-flags drawn-laid (totals-alike (meaning s) (meaning t) (o .ends) lines-many (drawnLaid s) ∙ ap (totalsOf (meaning t)) drawn-laid)))
       where
-        same : {n m : ℕ} {p q : Plan} {f g : Frame} {x y : List ℕ} {gs hs : List Geometry} {u v : Totals} → n ≡ m → p ≡ q → f ≡ g → x ≡ y → gs ≡ hs → u ≡ v
-            → decide (listLeft n kind p f x gs u room) refuse (answer (listingLeft (layoutOf kind p) x gs u)) ≡ decide (listLeft m kind q g y hs v room) refuse (answer (listingLeft (layoutOf kind q) y hs v))
+        same : {n k : ℕ} {p q : Plan} {f g : Frame} {x y : List ℕ} {gs hs : List Geometry} {u v : Totals} → n ≡ k → p ≡ q → f ≡ g → x ≡ y → gs ≡ hs → u ≡ v
+            → decide (listLeft n kind p f x gs u room) refuse (answer (listingLeft (layoutOf kind p) x gs u)) ≡ decide (listLeft k kind q g y hs v room) refuse (answer (listingLeft (layoutOf kind q) y hs v))
         same a b c d e f = rw (a, b, c, d, e, f)
 
-  pub by-sizes : AnsweredAlike s t
+  pub answered-alike : AnsweredAlike s l t m
   unfolding route recordsAfter textAfter clutter layout xsAfter ysAfter list listAfter
-  by-sizes = record {
+  answered-alike = record {
     routed = λ xs ys room textRoom. route-decides xs ys number room textRoom (λ gs. values (length (numbersOf gs), length (pathsText gs)));
     records = λ xs ys lent textRoom. route-decides xs ys (λ n. lent) (length lent) textRoom (λ gs. onto (numbersOf gs) lent);
     paths = λ xs ys room lent. route-decides xs ys (λ n. lent) room (length lent) (λ gs. onto (pathsText gs) lent);
     counted = λ xs ys. clutter-decides xs ys number (λ f gs. values (clutterOf (f .centres) gs));
-    placed = λ kind xRoom yRoom. layout-decides kind number xRoom yRoom (λ n l. values (n, l .width, l .height));
-    xs = λ kind lent yRoom. layout-decides kind (λ n. lent) (length lent) yRoom (λ n l. onto (l .xs) lent);
-    ys = λ kind xRoom lent. layout-decides kind (λ n. lent) xRoom (length lent) (λ n l. onto (l .ys) lent);
+    placed = λ kind xRoom yRoom. layout-decides kind number xRoom yRoom (λ n p. values (n, p .width, p .height));
+    xs = λ kind lent yRoom. layout-decides kind (λ n. lent) (length lent) yRoom (λ n p. onto (p .xs) lent);
+    ys = λ kind xRoom lent. layout-decides kind (λ n. lent) xRoom (length lent) (λ n p. onto (p .ys) lent);
     listed = λ kind room. list-decides kind number room (λ text. values (length text));
     lines = λ kind lent. list-decides kind (λ n. lent) (length lent) (λ text. onto text lent);
   }
+
+-- both accepted, each under its limits
+module _ (s t : List ℕ) (l m : Limits) (a : check s l ≡ values tt) (b : check t m ≡ values tt) (o : SameSizes (meaning s) (meaning t)) where
+  -- the causes of 1 to 6 do not hold
+  past : DecidesAlike s l t m
+  past A refuse u v rs qs e =
+      clear-joined refuse u (refusals (cappedLimits l) s) rs (check-answered s l .answer .0 a)
+      ∙ e
+      ∙ sym (clear-joined refuse v (refusals (cappedLimits m) t) qs (check-answered t m .answer .0 b))
+
+  -- at most 8 lines an arrow
+  same-lines-many : LinesMany (meaning s) (meaning t)
+  same-lines-many k h =
+      let i : k < length (meaning t .arrows) = omega (arith, o .ends .many) in
+      let f : OnMainScreen (meaning s) = accepted-shown l s (check-answered s l .answer .0 a) in
+      let g : OnMainScreen (meaning t) = accepted-shown m t (check-answered t m .answer .0 b) in
+      same-many (length (arrowAt (meaning s) k .lines)) (length (arrowAt (meaning t) k .lines)) (f .lines k h) (g .lines k i)
+      (ap (λ (z : BlockSize). z .height)
+      (map-at sizeOf (meaning s .arrows) k noArrow noSize h ∙ ap (λ (y : List BlockSize). getD y k noSize) (o .sizes) ∙ sym (map-at sizeOf (meaning t .arrows) k noArrow noSize i)))
+
+  pub by-sizes : AnsweredAlike s l t m
+  by-sizes = answered-alike s t l m past same-lines-many o
 
 -- ---- record by record
 

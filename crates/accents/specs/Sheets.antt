@@ -13,8 +13,9 @@ use Rattle.text.specs.Utf8.{wellFormed}
 use Rattle.text.specs.Encode.{utf8, Scalar}
 use Rattle.sheet.specs.Sheet.{Graph, meaning}
 use Rattle.sheet.specs.Meaning.{arrowAt}
-use Rattle.sheet.specs.Refusals.{wrongLength, wrongVersion, wrongBytes, wrongChains}
 use Rattle.sheet.specs.Accepted.{lineAt}
+use Rattle.sheet.specs.Over.{SoundSheet}
+use Rattle.sheet.specs.declared.Limits.{Limits}
 use Rattle.label.specs.Label.{accent, charWidth, lineWidth, blockWidth, blockHeight, block, cut, totalLength}
 use Rattle.label.specs.Accents.{AmongAccents, bare, WithAccents}
 use Rattle.routing.specs.Routing.{kept}
@@ -46,25 +47,23 @@ pub record SameSizes (g h : Graph) : Type 0 where
 
 -- No cause of 1, 2, 4 and 3 holds, and no line has more than 96 bytes.
 pub record Sound (t : List ℕ) : Type 0 where
-  pub right : wrongLength t ≡ false
-  pub first : wrongVersion t ≡ false
-  pub plain : wrongBytes t ≡ false
-  pub chained : wrongChains t ≡ false
+  pub records : SoundSheet t
   pub bytes : (k j : ℕ) → k < length (meaning t .arrows) → j < length (arrowAt (meaning t) k .lines) → length (lineAt (meaning t) k j) ≤ 96
 
 -- ---- answered alike
 
--- The calls that draw, place or list answer alike, refusals too, and leave the same in what they are lent: at all centres, by every kind, whatever is lent.
-pub record AnsweredAlike (s t : List ℕ) : Type 0 where
-  pub routed : (xs ys : List Float) (room textRoom : ℕ) → route s xs ys room textRoom ≡ route t xs ys room textRoom
-  pub records : (xs ys lent : List Float) (textRoom : ℕ) → recordsAfter s xs ys lent textRoom ≡ recordsAfter t xs ys lent textRoom
-  pub paths : (xs ys : List Float) (room : ℕ) (lent : List ℕ) → textAfter s xs ys room lent ≡ textAfter t xs ys room lent
-  pub counted : (xs ys : List Float) → clutter s xs ys ≡ clutter t xs ys
-  pub placed : (kind xRoom yRoom : ℕ) → layout s kind xRoom yRoom ≡ layout t kind xRoom yRoom
-  pub xs : (kind : ℕ) (lent : List Float) (yRoom : ℕ) → xsAfter s kind lent yRoom ≡ xsAfter t kind lent yRoom
-  pub ys : (kind xRoom : ℕ) (lent : List Float) → ysAfter s kind xRoom lent ≡ ysAfter t kind xRoom lent
-  pub listed : (kind room : ℕ) → list s kind room ≡ list t kind room
-  pub lines : (kind : ℕ) (lent : List ℕ) → listAfter s kind lent ≡ listAfter t kind lent
+-- The calls that draw, place or list answer alike, the one sheet under the limits l and the other under m, refusals too, and leave the same in what they are lent:
+-- at all centres, by every kind, whatever is lent.
+pub record AnsweredAlike (s : List ℕ) (l : Limits) (t : List ℕ) (m : Limits) : Type 0 where
+  pub routed : (xs ys : List Float) (room textRoom : ℕ) → route s l xs ys room textRoom ≡ route t m xs ys room textRoom
+  pub records : (xs ys lent : List Float) (textRoom : ℕ) → recordsAfter s l xs ys lent textRoom ≡ recordsAfter t m xs ys lent textRoom
+  pub paths : (xs ys : List Float) (room : ℕ) (lent : List ℕ) → textAfter s l xs ys room lent ≡ textAfter t m xs ys room lent
+  pub counted : (xs ys : List Float) → clutter s l xs ys ≡ clutter t m xs ys
+  pub placed : (kind xRoom yRoom : ℕ) → layout s l kind xRoom yRoom ≡ layout t m kind xRoom yRoom
+  pub xs : (kind : ℕ) (lent : List Float) (yRoom : ℕ) → xsAfter s l kind lent yRoom ≡ xsAfter t m kind lent yRoom
+  pub ys : (kind xRoom : ℕ) (lent : List Float) → ysAfter s l kind xRoom lent ≡ ysAfter t m kind xRoom lent
+  pub listed : (kind room : ℕ) → list s l kind room ≡ list t m kind room
+  pub lines : (kind : ℕ) (lent : List ℕ) → listAfter s l kind lent ≡ listAfter t m kind lent
 
 -- Two routings that are answered: as many numbers and bytes, every record alike in all twenty numbers, and its path.
 pub record RecordsAlike (c d : Call) (a : Answered c) (b : Answered d) : Type 0 where
@@ -81,8 +80,8 @@ pub record AccentsTakeNoWidth : Type 0 where
   -- "all others stay", U+02FF and U+0370 among them
   pub others : (c : ℕ) → (AmongAccents c → ⊥) → charWidth c ≡ cond (ltb c 0x80) labelCharWidth labelWideCharWidth
   pub borders : (charWidth 0x2ff ≡ f12) × (charWidth 0x300 ≡ f0) × (charWidth 0x36f ≡ f0) × (charWidth 0x370 ≡ f12)
-  -- what `label_size` answers to a line of one character
-  pub one : (c : ℕ) → Scalar c → labelSize (utf8 c) (length (utf8 c) ∷ []) ≡ values (charWidth c, f15)
+  -- what `label_size` answers to a line of one character, where the limits allow a line
+  pub one : (c : ℕ) (m : Limits) → Scalar c → 1 ≤ m .lines → labelSize (utf8 c) (length (utf8 c) ∷ []) m ≡ values (charWidth c, f15)
   -- accents put into a line, before, between or after its characters: it has the other characters that it had, its width, and is well-formed exactly where it was
   pub put : (line l : List ℕ) → WithAccents line l → (bare l ≡ bare line) × (lineWidth l ≡ lineWidth line) × (wellFormed l ≡ wellFormed line)
   -- a line of accents alone has width 0, and counts as a line
@@ -90,22 +89,22 @@ pub record AccentsTakeNoWidth : Type 0 where
       → (lineWidth (flatMap utf8 marks) ≡ f0)
       × ((l m : List (List ℕ)) → block (l ++ (flatMap utf8 marks ∷ m)) ≡ record { width = blockWidth (l ++ m); height = blockHeight (suc (length (l ++ m))) })
   -- what `label_size` answers is the size of the block of lines;
-  pub measured : (text lengths : List ℕ) (a : Float × Float) → labelSize text lengths ≡ values a → a ≡ (block (cut text lengths) .width, block (cut text lengths) .height)
-  -- two blocks that it measures and that differ in accents only have the same size;
-  pub blocks : (text lengths text′ lengths′ : List ℕ) (a b : Float × Float) → labelSize text lengths ≡ values a → labelSize text′ lengths′ ≡ values b
+  pub measured : (text lengths : List ℕ) (m : Limits) (a : Float × Float) → labelSize text lengths m ≡ values a → a ≡ (block (cut text lengths) .width, block (cut text lengths) .height)
+  -- two blocks that it measures, each under its limits, and that differ in accents only have the same size;
+  pub blocks : (text lengths text′ lengths′ : List ℕ) (l m : Limits) (a b : Float × Float) → labelSize text lengths l ≡ values a → labelSize text′ lengths′ m ≡ values b
       → map bare (cut text lengths) ≡ map bare (cut text′ lengths′) → a ≡ b
   -- and with accents put into the lines of one that it measures it measures the other too, if no line gets more than 96 bytes
-  pub blocksPut : (text lengths text′ lengths′ : List ℕ) (a : Float × Float) → labelSize text lengths ≡ values a → LinesPut (cut text lengths) (cut text′ lengths′)
-      → anyOf (ltb 96) lengths′ ≡ false → length text′ ≡ totalLength lengths′ → labelSize text′ lengths′ ≡ values a
+  pub blocksPut : (text lengths text′ lengths′ : List ℕ) (m : Limits) (a : Float × Float) → labelSize text lengths m ≡ values a → LinesPut (cut text lengths) (cut text′ lengths′)
+      → anyOf (ltb 96) lengths′ ≡ false → length text′ ≡ totalLength lengths′ → labelSize text′ lengths′ m ≡ values a
   -- "Column gaps, rings, boxes and label choice follow from the new width": labels enter by their sizes alone
-  pub bySizes : (s t : List ℕ) → check s ≡ values tt → check t ≡ values tt → SameSizes (meaning s) (meaning t) → AnsweredAlike s t
+  pub bySizes : (s t : List ℕ) (l m : Limits) → check s l ≡ values tt → check t m ≡ values tt → SameSizes (meaning s) (meaning t) → AnsweredAlike s l t m
   pub recordsBySizes : (c d : Call) (a : Answered c) (b : Answered d) → SameSizes (graph c) (graph d) → frame c .centres ≡ frame d .centres → RecordsAlike c d a b
   -- and these are the same where accents alone differ
   pub sameSizes : (g h : Graph) → AccentsOnly g h → SameSizes g h
-  -- so two accepted sheets that differ in accents only are answered alike,
-  pub sheets : (s t : List ℕ) → check s ≡ values tt → check t ≡ values tt → AccentsOnly (meaning s) (meaning t) → AnsweredAlike s t
+  -- so two sheets that differ in accents only, each accepted under its limits, are answered alike,
+  pub sheets : (s t : List ℕ) (l m : Limits) → check s l ≡ values tt → check t m ≡ values tt → AccentsOnly (meaning s) (meaning t) → AnsweredAlike s l t m
   -- and at the same centres, whatever else is lent, their records are alike
   pub routings : (c d : Call) (a : Answered c) (b : Answered d) → AccentsOnly (graph c) (graph d) → frame c .centres ≡ frame d .centres → RecordsAlike c d a b
   -- accents put into the lines of an accepted sheet: the two differ in accents only, and the second is accepted if its records are sound and no line gets more than 96 bytes
   pub only : (g h : Graph) → AccentsPut g h → AccentsOnly g h
-  pub accepted : (s t : List ℕ) → check s ≡ values tt → AccentsPut (meaning s) (meaning t) → Sound t → check t ≡ values tt
+  pub accepted : (s t : List ℕ) (m : Limits) → check s m ≡ values tt → AccentsPut (meaning s) (meaning t) → Sound t → check t m ≡ values tt

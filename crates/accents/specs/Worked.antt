@@ -13,17 +13,17 @@ use Rattle.text.specs.Ascii.{ascii}
 use Rattle.text.specs.Encode.{utf8}
 use Rattle.sheet.specs.Sheet.{chainBy, metLine, metArrow, met, lineOf, linesFrom, Graph, arrowOf, statesOf, arrowsOf, meaning}
 use Rattle.sheet.specs.Meaning.{arrowAt}
-use Rattle.sheet.specs.Refusals.{repeats, isSet, wrongRecord, wrongBytes, indices, wrongChains, largeArrow, overLimits, illArrow, illFormed}
+use Rattle.sheet.specs.Refusals.{repeats, isSet, wrongRecord, wrongBytes, indices, wrongChains, largeArrow, overLimits, illArrow, illFormed, servicePanel, AtMost}
 use Rattle.sheet.specs.Records.{header, stateBytes, arrowBytes, lineBytes, textBytes}
 use Rattle.sheet.specs.Examples.{small, smallGraph, small-means}
 use Rattle.label.specs.Accents.{WithAccents, as-it-was, more}
 use Rattle.drawing_text.specs.Worked.{workedListing}
 use Rattle.routing.specs.Routing.{Frame}
 use Rattle.routing_laws.specs.Agree.{same-frame}
-use Rattle.calls.specs.Calls.{values, check, onto, listAfter}
+use Rattle.calls.specs.Calls.{values, mainScreen, cappedLimits, check, onto, listAfter}
 use Rattle.demand3.specs.Demand.{Call, Answered}
 use Rattle.worked_calls.specs.Numbers.{smallXs, smallYs}
-use Rattle.worked_calls.specs.Worked.{worked-calls}
+use Rattle.worked_calls.specs.Worked.{smallLimits, worked-calls}
 use Rattle.accents.specs.Sheets.{LinesPut, AccentsPut, AccentsOnly, AnsweredAlike, RecordsAlike}
 use Rattle.accents.specs.Proof.{accents-take-no-width}
 
@@ -52,12 +52,12 @@ small-accented-means : meaning smallAccented ≡ accentedGraph
 unfolding statesOf arrowsOf arrowOf linesFrom lineOf chainBy flatMap
 small-accented-means = refl
 
-small-accepted : check small ≡ values tt
-unfolding check decide wrongBytes wrongRecord isSet anyUp anyFor wrongChains indices met metArrow metLine flatMap chainBy anyOf repeats overLimits largeArrow statesOf arrowsOf arrowOf linesFrom lineOf illFormed illArrow over
+small-accepted : check small mainScreen ≡ values tt
+unfolding check cappedLimits decide wrongBytes wrongRecord isSet anyUp anyFor wrongChains indices met metArrow metLine flatMap chainBy anyOf repeats overLimits largeArrow statesOf arrowsOf arrowOf linesFrom lineOf illFormed illArrow over
 small-accepted = refl
 
-small-accented-accepted : check smallAccented ≡ values tt
-unfolding check decide wrongBytes wrongRecord isSet anyUp anyFor wrongChains indices met metArrow metLine flatMap chainBy anyOf repeats overLimits largeArrow statesOf arrowsOf arrowOf linesFrom lineOf illFormed illArrow over
+small-accented-accepted : check smallAccented servicePanel ≡ values tt
+unfolding check cappedLimits decide wrongBytes wrongRecord isSet anyUp anyFor wrongChains indices met metArrow metLine flatMap chainBy anyOf repeats overLimits largeArrow statesOf arrowsOf arrowOf linesFrom lineOf illFormed illArrow over
 small-accented-accepted = refl
 
 -- the accents put in, those behind the letter first
@@ -93,33 +93,36 @@ put-in = record {
 small-only : AccentsOnly (meaning small) (meaning smallAccented)
 small-only = rw (small-means, small-accented-means) (accents-take-no-width .only smallGraph accentedGraph put-in)
 
--- a routing of each at the layout's centres, with other slices lent
+on-main : AtMost smallLimits mainScreen
+on-main = record { states = omega arith; arrows = omega arith; lines = omega arith }
+
+-- a routing of each, under the main screen's limits and under the service panel's, at the layout's centres, with other slices lent
 abbrev pub plainCall : Call
-plainCall = record { sheet = small; xs = smallXs; ys = smallYs; records = replicate 20 (whole 0); text = replicate 17 0 }
+plainCall = record { sheet = small; limits = mainScreen; xs = smallXs; ys = smallYs; records = replicate 20 (whole 0); text = replicate 17 0 }
 
 abbrev pub accentedCall : Call
-accentedCall = record { sheet = smallAccented; xs = smallXs; ys = smallYs; records = replicate 25 (whole 3); text = replicate 30 9 }
+accentedCall = record { sheet = smallAccented; limits = servicePanel; xs = smallXs; ys = smallYs; records = replicate 25 (whole 3); text = replicate 30 9 }
 
-small-alike : AnsweredAlike small smallAccented
-small-alike = accents-take-no-width .sheets small smallAccented small-accepted small-accented-accepted small-only
+small-alike : AnsweredAlike small mainScreen smallAccented servicePanel
+small-alike = accents-take-no-width .sheets small smallAccented mainScreen servicePanel small-accepted small-accented-accepted small-only
 
 pub plain-answered : Answered plainCall
-plain-answered = record { numbers = 20; bytes = 17; answer = worked-calls .routes 20 17 (omega arith) (omega arith) }
+plain-answered = record { numbers = 20; bytes = 17; answer = worked-calls mainScreen on-main .routes 20 17 (omega arith) (omega arith) }
 
 pub accented-answered : Answered accentedCall
-accented-answered = record { numbers = 20; bytes = 17; answer = sym (small-alike .routed smallXs smallYs 25 30) ∙ worked-calls .routes 25 30 (omega arith) (omega arith) }
+accented-answered = record { numbers = 20; bytes = 17; answer = sym (small-alike .routed smallXs smallYs 25 30) ∙ worked-calls mainScreen on-main .routes 25 30 (omega arith) (omega arith) }
 
 pub record WorkedAccents : Type 0 where
-  pub alike : AnsweredAlike small smallAccented
+  pub alike : AnsweredAlike small mainScreen smallAccented servicePanel
   -- the one record of each routing
   pub records : RecordsAlike plainCall accentedCall plain-answered accented-answered
   -- the listing is that of the worked sheet, whole
-  pub listing : (out : List ℕ) → 196 ≤ length out → listAfter smallAccented 0 out ≡ onto workedListing out
+  pub listing : (out : List ℕ) → 196 ≤ length out → listAfter smallAccented servicePanel 0 out ≡ onto workedListing out
 
 pub worked-accents : WorkedAccents
 worked-accents = record {
   alike = small-alike;
   records = accents-take-no-width .routings plainCall accentedCall plain-answered accented-answered small-only
       (ap (λ (f : Frame). f .centres) (same-frame (meaning small) (meaning smallAccented) smallXs smallYs (small-only .ends)));
-  listing = λ out h. sym (small-alike .lines 0 out) ∙ worked-calls .text out h;
+  listing = λ out h. sym (small-alike .lines 0 out) ∙ worked-calls mainScreen on-main .text out h;
 }

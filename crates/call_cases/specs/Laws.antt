@@ -8,6 +8,7 @@ use borrow.Author.Tests.{ne-eqb}
 use lib.ListN.{length, take, drop, length-drop}
 use lib.Seq.{length-take-le}
 use lib.Ieee.{Float}
+use Rattle.sheet.specs.declared.Limits.{Limits}
 use Rattle.cases.specs.Payload.{floatAt, floatsAt, rowRight}
 use Rattle.cases.specs.Laws.{each-first}
 use Rattle.call_cases.specs.Cases.{around, called, atCentres, layoutAgrees, listAgrees, checkIs, labelAgrees, numberAgrees, sheetAgrees}
@@ -31,39 +32,39 @@ of-three f x x′ y y′ z z′ e₁ e₂ e₃ = rw (e₁, e₂, e₃)
 
 -- ---- a case by its kind
 
-module _ (a by : ℕ) (s rest : List ℕ) where
-  pub kind-60 : (k : ℕ) → k ≡ 60 → called k a by s rest ≡ atCentres 60 a s rest
+module _ (a by : ℕ) (s : List ℕ) (m : Limits) (rest : List ℕ) where
+  pub kind-60 : (k : ℕ) → k ≡ 60 → called k a by s m rest ≡ atCentres 60 a s m rest
   unfolding called rowRight
   kind-60 k e = rw e
 
-  pub kind-61 : (k : ℕ) → k ≡ 61 → called k a by s rest ≡ layoutAgrees a by s rest
+  pub kind-61 : (k : ℕ) → k ≡ 61 → called k a by s m rest ≡ layoutAgrees a by s m rest
   unfolding called rowRight
   kind-61 k e = rw e
 
-  pub kind-62 : (k : ℕ) → k ≡ 62 → called k a by s rest ≡ atCentres 62 a s rest
+  pub kind-62 : (k : ℕ) → k ≡ 62 → called k a by s m rest ≡ atCentres 62 a s m rest
   unfolding called rowRight
   kind-62 k e = rw e
 
-  pub kind-63 : (k : ℕ) → k ≡ 63 → called k a by s rest ≡ listAgrees a by s rest
+  pub kind-63 : (k : ℕ) → k ≡ 63 → called k a by s m rest ≡ listAgrees a by s m rest
   unfolding called rowRight
   kind-63 k e = rw e
 
-  pub kind-64 : (k : ℕ) → k ≡ 64 → called k a by s rest ≡ checkIs a s
+  pub kind-64 : (k : ℕ) → k ≡ 64 → called k a by s m rest ≡ checkIs a s m
   unfolding called rowRight
   kind-64 k e = rw e
 
-  pub kind-65 : (k : ℕ) → k ≡ 65 → called k a by s rest ≡ labelAgrees a s rest
+  pub kind-65 : (k : ℕ) → k ≡ 65 → called k a by s m rest ≡ labelAgrees a s m rest
   unfolding called rowRight
   kind-65 k e = rw e
 
-  pub kind-66 : (k : ℕ) → k ≡ 66 → called k a by s rest ≡ numberAgrees a rest
+  pub kind-66 : (k : ℕ) → k ≡ 66 → called k a by s m rest ≡ numberAgrees a rest
   unfolding called rowRight
   kind-66 k e = rw e
 
-  pub kind-67 : (k : ℕ) → k ≡ 67 → called k a by s rest ≡ sheetAgrees a s rest
+  pub kind-67 : (k : ℕ) → k ≡ 67 → called k a by s m rest ≡ sheetAgrees a s m rest
   unfolding called rowRight
   kind-67 k e = rw e
 
-  pub no-kind : (k : ℕ) → (k ≡ 60 → ⊥) → (k ≡ 61 → ⊥) → (k ≡ 62 → ⊥) → (k ≡ 63 → ⊥) → (k ≡ 64 → ⊥) → (k ≡ 65 → ⊥) → (k ≡ 66 → ⊥) → (k ≡ 67 → ⊥) → called k a by s rest ≡ false
+  pub no-kind : (k : ℕ) → (k ≡ 60 → ⊥) → (k ≡ 61 → ⊥) → (k ≡ 62 → ⊥) → (k ≡ 63 → ⊥) → (k ≡ 64 → ⊥) → (k ≡ 65 → ⊥) → (k ≡ 66 → ⊥) → (k ≡ 67 → ⊥) → called k a by s m rest ≡ false
   unfolding called rowRight
   no-kind k h₀ h₁ h₂ h₃ h₄ h₅ h₆ h₇ = rw (ne-eqb k 60 h₀, ne-eqb k 61 h₁, ne-eqb k 62 h₂, ne-eqb k 63 h₃, ne-eqb k 64 h₄, ne-eqb k 65 h₅, ne-eqb k 66 h₆, ne-eqb k 67 h₇)

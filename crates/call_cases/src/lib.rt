@@ -1,4 +1,5 @@
-// Cases of the eight calls. The answer, 0 or the refusal's number, and the layout's kind, a byte each;
+// Cases of the eight calls, under the main screen's limits, or (kind 68) under limits that the case has
+// in front of the call's kind and payload. The answer, 0 or the refusal's number, and the layout's kind, a byte each;
 // the length of the sheet, or of a label's text, four bytes; the sheet; and what the call is given
 // besides, with what it must write. A lent output is the middle of a longer one, which holds 170 in
 // every byte, or UNSET in every number, before the call.
@@ -20,11 +21,13 @@ use cases::index;
 use cases::long;
 use cases::same;
 use cases::same_float;
+use cases::size;
 use label::Sized;
 use number::Written;
 use outputs::LaidOut;
 use outputs::RouteAnswer;
 use sheet::Checked;
+use sheet::Limits;
 
 // No answer holds it.
 const UNSET: f64 = 7e250;
@@ -119,10 +122,10 @@ fn numbers_in(p: &[u8], at: usize, n: usize, out: &[f64]) -> bool
 
 // ---- check, size a label block, write a number
 
-fn check_is(answer: u8, sheet: &[u8]) -> bool
-    ensures { λ r. ⌜ r ≡ S.checkIs answer (now (sheet .entry)) ⌝ }
+fn check_is(answer: u8, sheet: &[u8], m: Limits) -> bool
+    ensures { λ r. ⌜ r ≡ S.checkIs answer (now (sheet .entry)) m ⌝ }
 {
-    let c = calls::check(sheet);
+    let c = calls::check(sheet, m);
     match c {
         Checked::Accepted => answer == 0,
         Checked::Refused(n) => answer == n,
@@ -147,8 +150,8 @@ fn sized_is(s: Sized, answer: u8, rest: &[u8]) -> bool
     }
 }
 
-fn label_agrees(answer: u8, text: &[u8], rest: &[u8]) -> bool
-    ensures { λ r. ⌜ r ≡ S.labelAgrees answer (now (text .entry)) (now (rest .entry)) ⌝ }
+fn label_agrees(answer: u8, text: &[u8], m: Limits, rest: &[u8]) -> bool
+    ensures { λ r. ⌜ r ≡ S.labelAgrees answer (now (text .entry)) m (now (rest .entry)) ⌝ }
 {
     let lines = index(rest, 0);
     if lines > 16 {
@@ -156,7 +159,7 @@ fn label_agrees(answer: u8, text: &[u8], rest: &[u8]) -> bool
     }
     let mut lengths = [0usize; 16];
     fill_sizes(rest, 18, &mut lengths);
-    sized_is(calls::label_size(text, &lengths[..lines]), answer, rest)
+    sized_is(calls::label_size(text, &lengths[..lines], m), answer, rest)
 }
 
 fn written_is(w: Written, answer: u8, length: usize) -> bool
@@ -208,66 +211,74 @@ fn number_agrees(answer: u8, rest: &[u8]) -> bool
 // ---- list a drawing
 
 // Lists into the middle of `out`.
-fn list_in(sheet: &[u8], by: u8, room: usize, out: &mut [u8]) -> Written
+fn list_in(sheet: &[u8], m: Limits, by: u8, room: usize, out: &mut [u8]) -> Written
     requires { ⌜ 16 + room ≤ length (now out) ⌝ }
     ensures { λ r. ⌜
-        (C.writtenAs r ≡ C.list (now (sheet .entry)) by room)
-        × (now (out .exit) ≡ S.around room (C.listAfter (now (sheet .entry)) by) (now (out .entry)))
+        (C.writtenAs r ≡ C.list (now (sheet .entry)) m by room)
+        × (now (out .exit) ≡ S.around room (C.listAfter (now (sheet .entry)) m by) (now (out .entry)))
         ⌝ }
 {
     let end = 16 + room;
-    calls::list(sheet, by, &mut out[16..end])
+    calls::list(sheet, m, by, &mut out[16..end])
 }
 
-fn list_is(answer: u8, by: u8, sheet: &[u8], room: usize, text: &[u8], out: &mut [u8]) -> bool
+fn list_is(
+    answer: u8,
+    by: u8,
+    sheet: &[u8],
+    m: Limits,
+    room: usize,
+    text: &[u8],
+    out: &mut [u8],
+) -> bool
     requires { ⌜ 16 + room ≤ length (now out) ⌝ }
-    ensures { λ r. ⌜ r ≡ S.listIs answer by (now (sheet .entry)) room (now (text .entry)) (now (out .entry)) ⌝ }
+    ensures { λ r. ⌜ r ≡ S.listIs answer by (now (sheet .entry)) m room (now (text .entry)) (now (out .entry)) ⌝ }
 {
-    let w = list_in(sheet, by, room, out);
+    let w = list_in(sheet, m, by, room, out);
     if !written_is(w, answer, text.len()) {
         return false;
     }
     text_stands(out, text)
 }
 
-fn list_agrees(answer: u8, by: u8, sheet: &[u8], rest: &[u8]) -> bool
-    ensures { λ r. ⌜ r ≡ S.listAgrees answer by (now (sheet .entry)) (now (rest .entry)) ⌝ }
+fn list_agrees(answer: u8, by: u8, sheet: &[u8], m: Limits, rest: &[u8]) -> bool
+    ensures { λ r. ⌜ r ≡ S.listAgrees answer by (now (sheet .entry)) m (now (rest .entry)) ⌝ }
 {
     let room = index(rest, 0);
     if rest.len() < 2 {
         return false;
     }
     let mut out = [170u8; 65600];
-    list_is(answer, by, sheet, room, &rest[2..], &mut out)
+    list_is(answer, by, sheet, m, room, &rest[2..], &mut out)
 }
 
 // ---- write a sheet
 
 // Writes into the middle of `out`.
-fn sheet_in(sheet: &[u8], room: usize, out: &mut [u8]) -> Written
+fn sheet_in(sheet: &[u8], m: Limits, room: usize, out: &mut [u8]) -> Written
     requires { ⌜ 16 + room ≤ length (now out) ⌝ }
     ensures { λ r. ⌜
-        (C.writtenAs r ≡ C.writeSheet (now (sheet .entry)) room)
-        × (now (out .exit) ≡ S.around room (C.writeSheetAfter (now (sheet .entry))) (now (out .entry)))
+        (C.writtenAs r ≡ C.writeSheet (now (sheet .entry)) m room)
+        × (now (out .exit) ≡ S.around room (C.writeSheetAfter (now (sheet .entry)) m) (now (out .entry)))
         ⌝ }
 {
     let end = 16 + room;
-    calls::write_sheet(sheet, &mut out[16..end])
+    calls::write_sheet(sheet, m, &mut out[16..end])
 }
 
-fn sheet_is(answer: u8, sheet: &[u8], room: usize, text: &[u8], out: &mut [u8]) -> bool
+fn sheet_is(answer: u8, sheet: &[u8], m: Limits, room: usize, text: &[u8], out: &mut [u8]) -> bool
     requires { ⌜ 16 + room ≤ length (now out) ⌝ }
-    ensures { λ r. ⌜ r ≡ S.sheetIs answer (now (sheet .entry)) room (now (text .entry)) (now (out .entry)) ⌝ }
+    ensures { λ r. ⌜ r ≡ S.sheetIs answer (now (sheet .entry)) m room (now (text .entry)) (now (out .entry)) ⌝ }
 {
-    let w = sheet_in(sheet, room, out);
+    let w = sheet_in(sheet, m, room, out);
     if !written_is(w, answer, text.len()) {
         return false;
     }
     text_stands(out, text)
 }
 
-fn sheet_agrees(answer: u8, sheet: &[u8], rest: &[u8]) -> bool
-    ensures { λ r. ⌜ r ≡ S.sheetAgrees answer (now (sheet .entry)) (now (rest .entry)) ⌝ }
+fn sheet_agrees(answer: u8, sheet: &[u8], m: Limits, rest: &[u8]) -> bool
+    ensures { λ r. ⌜ r ≡ S.sheetAgrees answer (now (sheet .entry)) m (now (rest .entry)) ⌝ }
 {
     let room = length_at(rest, 0);
     if room > 65568 {
@@ -277,23 +288,31 @@ fn sheet_agrees(answer: u8, sheet: &[u8], rest: &[u8]) -> bool
         return false;
     }
     let mut out = [170u8; 65600];
-    sheet_is(answer, sheet, room, &rest[4..], &mut out)
+    sheet_is(answer, sheet, m, room, &rest[4..], &mut out)
 }
 
 // ---- lay out a sheet
 
 // Lays out into the middles of `xs` and `ys`.
-fn layout_in(sheet: &[u8], by: u8, nx: usize, ny: usize, xs: &mut [f64], ys: &mut [f64]) -> LaidOut
+fn layout_in(
+    sheet: &[u8],
+    m: Limits,
+    by: u8,
+    nx: usize,
+    ny: usize,
+    xs: &mut [f64],
+    ys: &mut [f64],
+) -> LaidOut
     requires { ⌜ (16 + nx ≤ length (now xs)) × (16 + ny ≤ length (now ys)) ⌝ }
     ensures { λ r. ⌜
-        (C.laidOutAs r ≡ C.layout (now (sheet .entry)) by nx ny)
-        × (now (xs .exit) ≡ S.around nx (λ (l : List Float). C.xsAfter (now (sheet .entry)) by l ny) (now (xs .entry)))
-        × (now (ys .exit) ≡ S.around ny (C.ysAfter (now (sheet .entry)) by nx) (now (ys .entry)))
+        (C.laidOutAs r ≡ C.layout (now (sheet .entry)) m by nx ny)
+        × (now (xs .exit) ≡ S.around nx (λ (l : List Float). C.xsAfter (now (sheet .entry)) m by l ny) (now (xs .entry)))
+        × (now (ys .exit) ≡ S.around ny (C.ysAfter (now (sheet .entry)) m by nx) (now (ys .entry)))
         ⌝ }
 {
     let ex = 16 + nx;
     let ey = 16 + ny;
-    calls::layout(sheet, by, &mut xs[16..ex], &mut ys[16..ey])
+    calls::layout(sheet, m, by, &mut xs[16..ex], &mut ys[16..ey])
 }
 
 fn laid_is(rest: &[u8], n: usize, w: f64, h: f64) -> bool
@@ -317,12 +336,20 @@ fn laid_out_is(l: LaidOut, answer: u8, rest: &[u8]) -> bool
     }
 }
 
-fn layout_is(answer: u8, by: u8, sheet: &[u8], rest: &[u8], xs: &mut [f64], ys: &mut [f64]) -> bool
+fn layout_is(
+    answer: u8,
+    by: u8,
+    sheet: &[u8],
+    m: Limits,
+    rest: &[u8],
+    xs: &mut [f64],
+    ys: &mut [f64],
+) -> bool
     requires { ⌜ (16 + wordAt (now rest) 0 ≤ length (now xs)) × (16 + wordAt (now rest) 2 ≤ length (now ys)) ⌝ }
-    ensures { λ r. ⌜ r ≡ S.layoutIs answer by (now (sheet .entry)) (now (rest .entry)) (now (xs .entry)) (now (ys .entry)) ⌝ }
+    ensures { λ r. ⌜ r ≡ S.layoutIs answer by (now (sheet .entry)) m (now (rest .entry)) (now (xs .entry)) (now (ys .entry)) ⌝ }
 {
     let n = index(rest, 4);
-    let l = layout_in(sheet, by, index(rest, 0), index(rest, 2), xs, ys);
+    let l = layout_in(sheet, m, by, index(rest, 0), index(rest, 2), xs, ys);
     if !laid_out_is(l, answer, rest) {
         return false;
     }
@@ -332,8 +359,8 @@ fn layout_is(answer: u8, by: u8, sheet: &[u8], rest: &[u8], xs: &mut [f64], ys: 
     numbers_in(rest, 22 + 8 * n, n, ys)
 }
 
-fn layout_agrees(answer: u8, by: u8, sheet: &[u8], rest: &[u8]) -> bool
-    ensures { λ r. ⌜ r ≡ S.layoutAgrees answer by (now (sheet .entry)) (now (rest .entry)) ⌝ }
+fn layout_agrees(answer: u8, by: u8, sheet: &[u8], m: Limits, rest: &[u8]) -> bool
+    ensures { λ r. ⌜ r ≡ S.layoutAgrees answer by (now (sheet .entry)) m (now (rest .entry)) ⌝ }
 {
     if index(rest, 0) > 128 {
         return false;
@@ -343,7 +370,7 @@ fn layout_agrees(answer: u8, by: u8, sheet: &[u8], rest: &[u8]) -> bool
     }
     let mut xs = [UNSET; 160];
     let mut ys = [UNSET; 160];
-    layout_is(answer, by, sheet, rest, &mut xs, &mut ys)
+    layout_is(answer, by, sheet, m, rest, &mut xs, &mut ys)
 }
 
 // ---- route a sheet
@@ -351,6 +378,7 @@ fn layout_agrees(answer: u8, by: u8, sheet: &[u8], rest: &[u8]) -> bool
 // Routes into the middles of `records` and `out`.
 fn route_in(
     sheet: &[u8],
+    m: Limits,
     xs: &[f64],
     ys: &[f64],
     room: usize,
@@ -363,14 +391,14 @@ fn route_in(
         let s = now (sheet .entry) in
         let xs = now (xs .entry) in
         let ys = now (ys .entry) in
-        ⌜ (C.routedAs r ≡ C.route s xs ys room bytes)
+        ⌜ (C.routedAs r ≡ C.route s m xs ys room bytes)
         × (now (records .exit)
-        ≡ S.around room (λ (l : List Float). C.recordsAfter s xs ys l bytes) (now (records .entry)))
-        × (now (out .exit) ≡ S.around bytes (C.textAfter s xs ys room) (now (out .entry))) ⌝ }
+        ≡ S.around room (λ (l : List Float). C.recordsAfter s m xs ys l bytes) (now (records .entry)))
+        × (now (out .exit) ≡ S.around bytes (C.textAfter s m xs ys room) (now (out .entry))) ⌝ }
 {
     let end = 16 + room;
     let stop = 16 + bytes;
-    calls::route(sheet, xs, ys, &mut records[16..end], &mut out[16..stop])
+    calls::route(sheet, m, xs, ys, &mut records[16..end], &mut out[16..stop])
 }
 
 fn routed_is(r: RouteAnswer, answer: u8, n: usize, text: &[u8]) -> bool
@@ -391,6 +419,7 @@ fn lengths_are(n: usize, text: &[u8], k: usize, m: usize) -> bool
 fn route_is(
     answer: u8,
     sheet: &[u8],
+    m: Limits,
     xs: &[f64],
     ys: &[f64],
     rest: &[u8],
@@ -400,12 +429,21 @@ fn route_is(
 ) -> bool
     requires { ⌜ (16 + wordAt (now rest) 0 ≤ length (now records)) × (16 + wordAt (now rest) 2 ≤ length (now out)) ⌝ }
     ensures { λ r. ⌜
-        r ≡ S.routeIs answer (now (sheet .entry)) (now (xs .entry)) (now (ys .entry)) (now (rest .entry))
+        r ≡ S.routeIs answer (now (sheet .entry)) m (now (xs .entry)) (now (ys .entry)) (now (rest .entry))
         (now (text .entry)) (now (records .entry)) (now (out .entry))
         ⌝ }
 {
     let n = index(rest, 4);
-    let r = route_in(sheet, xs, ys, index(rest, 0), index(rest, 2), records, out);
+    let r = route_in(
+        sheet,
+        m,
+        xs,
+        ys,
+        index(rest, 0),
+        index(rest, 2),
+        records,
+        out,
+    );
     if !routed_is(r, answer, n, text) {
         return false;
     }
@@ -415,8 +453,8 @@ fn route_is(
     text_stands(out, text)
 }
 
-fn route_agrees(answer: u8, sheet: &[u8], xs: &[f64], ys: &[f64], rest: &[u8]) -> bool
-    ensures { λ r. ⌜ r ≡ S.routeAgrees answer (now (sheet .entry)) (now (xs .entry)) (now (ys .entry)) (now (rest .entry)) ⌝ }
+fn route_agrees(answer: u8, sheet: &[u8], m: Limits, xs: &[f64], ys: &[f64], rest: &[u8]) -> bool
+    ensures { λ r. ⌜ r ≡ S.routeAgrees answer (now (sheet .entry)) m (now (xs .entry)) (now (ys .entry)) (now (rest .entry)) ⌝ }
 {
     let end = 6 + 8 * index(rest, 4);
     if index(rest, 0) > 5200 {
@@ -433,6 +471,7 @@ fn route_agrees(answer: u8, sheet: &[u8], xs: &[f64], ys: &[f64], rest: &[u8]) -
     route_is(
         answer,
         sheet,
+        m,
         xs,
         ys,
         rest,
@@ -444,10 +483,10 @@ fn route_agrees(answer: u8, sheet: &[u8], xs: &[f64], ys: &[f64], rest: &[u8]) -
 
 // ---- count clutter
 
-fn clutter_agrees(answer: u8, sheet: &[u8], xs: &[f64], ys: &[f64], rest: &[u8]) -> bool
-    ensures { λ r. ⌜ r ≡ S.clutterAgrees answer (now (sheet .entry)) (now (xs .entry)) (now (ys .entry)) (now (rest .entry)) ⌝ }
+fn clutter_agrees(answer: u8, sheet: &[u8], m: Limits, xs: &[f64], ys: &[f64], rest: &[u8]) -> bool
+    ensures { λ r. ⌜ r ≡ S.clutterAgrees answer (now (sheet .entry)) m (now (xs .entry)) (now (ys .entry)) (now (rest .entry)) ⌝ }
 {
-    let c = calls::clutter(sheet, xs, ys);
+    let c = calls::clutter(sheet, m, xs, ys);
     match c {
         Counted::Count(n) => n == length_at(rest, 0) && answer == 0,
         Counted::Refused(n) => answer == n,
@@ -463,19 +502,27 @@ fn length_at(p: &[u8], at: usize) -> usize
     long(p, at) as usize
 }
 
-fn drawn_agrees(kind: u8, answer: u8, sheet: &[u8], xs: &[f64], ys: &[f64], rest: &[u8]) -> bool
-    ensures { λ r. ⌜ r ≡ S.drawnAgrees kind answer (now (sheet .entry)) (now (xs .entry)) (now (ys .entry)) (now (rest .entry)) ⌝ }
+fn drawn_agrees(
+    kind: u8,
+    answer: u8,
+    sheet: &[u8],
+    m: Limits,
+    xs: &[f64],
+    ys: &[f64],
+    rest: &[u8],
+) -> bool
+    ensures { λ r. ⌜ r ≡ S.drawnAgrees kind answer (now (sheet .entry)) m (now (xs .entry)) (now (ys .entry)) (now (rest .entry)) ⌝ }
 {
     match kind {
-        60 => route_agrees(answer, sheet, xs, ys, rest),
-        62 => clutter_agrees(answer, sheet, xs, ys, rest),
+        60 => route_agrees(answer, sheet, m, xs, ys, rest),
+        62 => clutter_agrees(answer, sheet, m, xs, ys, rest),
         _ => false,
     }
 }
 
 // A call at given centres.
-fn at_centres(kind: u8, answer: u8, sheet: &[u8], rest: &[u8]) -> bool
-    ensures { λ r. ⌜ r ≡ S.atCentres kind answer (now (sheet .entry)) (now (rest .entry)) ⌝ }
+fn at_centres(kind: u8, answer: u8, sheet: &[u8], m: Limits, rest: &[u8]) -> bool
+    ensures { λ r. ⌜ r ≡ S.atCentres kind answer (now (sheet .entry)) m (now (rest .entry)) ⌝ }
 {
     let nx = index(rest, 0);
     let ny = index(rest, 2);
@@ -493,31 +540,80 @@ fn at_centres(kind: u8, answer: u8, sheet: &[u8], rest: &[u8]) -> bool
     let mut ys = [0.0f64; 80];
     fill_floats(rest, 4, &mut xs);
     fill_floats(rest, 4 + 8 * nx, &mut ys);
-    drawn_agrees(kind, answer, sheet, &xs[..nx], &ys[..ny], &rest[end..])
+    drawn_agrees(kind, answer, sheet, m, &xs[..nx], &ys[..ny], &rest[end..])
 }
 
-fn called(kind: u8, answer: u8, by: u8, sheet: &[u8], rest: &[u8]) -> bool
-    ensures { λ r. ⌜ r ≡ S.called kind answer by (now (sheet .entry)) (now (rest .entry)) ⌝ }
+fn called(kind: u8, answer: u8, by: u8, sheet: &[u8], m: Limits, rest: &[u8]) -> bool
+    ensures { λ r. ⌜ r ≡ S.called kind answer by (now (sheet .entry)) m (now (rest .entry)) ⌝ }
 {
     match kind {
-        60 => at_centres(60, answer, sheet, rest),
-        61 => layout_agrees(answer, by, sheet, rest),
-        62 => at_centres(62, answer, sheet, rest),
-        63 => list_agrees(answer, by, sheet, rest),
-        64 => check_is(answer, sheet),
-        65 => label_agrees(answer, sheet, rest),
+        60 => at_centres(60, answer, sheet, m, rest),
+        61 => layout_agrees(answer, by, sheet, m, rest),
+        62 => at_centres(62, answer, sheet, m, rest),
+        63 => list_agrees(answer, by, sheet, m, rest),
+        64 => check_is(answer, sheet, m),
+        65 => label_agrees(answer, sheet, m, rest),
         66 => number_agrees(answer, rest),
-        67 => sheet_agrees(answer, sheet, rest),
+        67 => sheet_agrees(answer, sheet, m, rest),
         _ => false,
     }
 }
 
-pub fn agrees(kind: u8, p: &[u8]) -> bool
-    ensures { λ r. ⌜ r ≡ S.callAgrees kind (now (p .entry)) ⌝ }
+// A case of a call under the limits m.
+fn called_under(m: Limits, kind: u8, p: &[u8]) -> bool
+    ensures { λ r. ⌜ r ≡ S.calledUnder m kind (now (p .entry)) ⌝ }
 {
     let end = 6 + length_at(p, 2);
     if p.len() < end {
         return false;
     }
-    called(kind, byte(p, 0), byte(p, 1), &p[6..end], &p[end..])
+    called(kind, byte(p, 0), byte(p, 1), &p[6..end], m, &p[end..])
+}
+
+// The limits at the front of a payload.
+fn limits_at(p: &[u8]) -> Limits
+    ensures { λ r. ⌜ r ≡ S.limitsAt (now (p .entry)) ⌝ }
+{
+    Limits {
+        states: size(p, 0),
+        arrows: size(p, 8),
+        lines: size(p, 16),
+    }
+}
+
+// The limits of a case: its own, or the main screen's.
+fn case_limits(kind: u8, p: &[u8]) -> Limits
+    ensures { λ r. ⌜ r ≡ S.caseLimits kind (now (p .entry)) ⌝ }
+{
+    if kind == 68 {
+        return limits_at(p);
+    }
+    sheet::main_screen()
+}
+
+// The kind of its call.
+fn case_kind(kind: u8, p: &[u8]) -> u8
+    ensures { λ r. ⌜ r ≡ S.caseKind kind (now (p .entry)) ⌝ }
+{
+    if kind == 68 {
+        return byte(p, 24);
+    }
+    kind
+}
+
+// The bytes before what the call's kind has.
+fn case_front(kind: u8) -> usize
+    ensures { λ r. ⌜ r ≡ S.caseFront kind ⌝ }
+{
+    if kind == 68 { 25 } else { 0 }
+}
+
+pub fn agrees(kind: u8, p: &[u8]) -> bool
+    ensures { λ r. ⌜ r ≡ S.callAgrees kind (now (p .entry)) ⌝ }
+{
+    let at = case_front(kind);
+    if p.len() < at {
+        return false;
+    }
+    called_under(case_limits(kind, p), case_kind(kind, p), &p[at..])
 }

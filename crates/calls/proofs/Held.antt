@@ -11,7 +11,8 @@ use Rattle.laws.specs.Refusals.{Refusal, decide, decide-map, Clear, First, clea
 use Rattle.sheet.specs.Sheet.{meaning}
 use Rattle.sheet.specs.Refusals.{refusals}
 use Rattle.sheet.specs.Order.{accepted-exactly}
-use Rattle.sheet.specs.Accepted.{OnMainScreen, on-main-screen}
+use Rattle.sheet.specs.Accepted.{Within, within-limits}
+use Rattle.sheet.specs.declared.Limits.{Limits}
 use Rattle.records.specs.Records.{decodeRecords}
 use Rattle.records.specs.Back.{Small, length-records}
 use Rattle.routing.specs.Sheets.{endsOf, frameOf, sizesOf}
@@ -19,7 +20,7 @@ use Rattle.routing_laws.specs.Decoded.{records-most, records-small, records-dec
 use Rattle.draw.specs.Drawn.{drawRefusals, drawOf, drawAfter}
 use Rattle.draw.specs.declared.Drawing.{Drawing}
 use Rattle.draw.specs.declared.Drawing.the-variants as P
-use Rattle.calls.specs.Calls.{Outcome, values, number, mainScreen, drawnOf, numbersOf}
+use Rattle.calls.specs.Calls.{Outcome, values, number, drawnOf, numbersOf}
 use Rattle.calls.specs.Decided.{refused-first, answered-clear}
 
 -- ---- what the answer says of the refusals
@@ -29,17 +30,18 @@ drawingAs (P.Records k) = values k
 drawingAs (P.Refused n) = number n
 
 module _ (rs : List Refusal) (k : ℕ) where
-  pub draw-stopped : (n : ℕ) → P.Refused n ≡ decide rs P.Refused (P.Records k) → First rs n
-  draw-stopped n e = refused-first rs k n (ap drawingAs e ∙ decide-map drawingAs rs P.Refused (P.Records k))
+  stopped : (n : ℕ) → P.Refused n ≡ decide rs P.Refused (P.Records k) → First rs n
+  stopped n e = refused-first rs k n (ap drawingAs e ∙ decide-map drawingAs rs P.Refused (P.Records k))
 
-  pub went : (m : ℕ) → P.Records m ≡ decide rs P.Refused (P.Records k) → Clear rs × (m ≡ k)
+  went : (m : ℕ) → P.Records m ≡ decide rs P.Refused (P.Records k) → Clear rs × (m ≡ k)
   went m e = answered-clear rs k m (ap drawingAs e ∙ decide-map drawingAs rs P.Refused (P.Records k))
 
 -- ---- the drawing in the slice
 
-pub record DrawingHeld (s : List ℕ) (xs ys : List Float) (count : ℕ) (slice : List Float) : Type 0 where
-  pub clear : Clear (drawRefusals mainScreen s xs ys)
-  pub shows : OnMainScreen (meaning s)
+-- drawn under the limits k
+pub record DrawingHeld (s : List ℕ) (k : Limits) (xs ys : List Float) (count : ℕ) (slice : List Float) : Type 0 where
+  pub clear : Clear (drawRefusals k s xs ys)
+  pub states : length (meaning s .states) ≤ 64
   pub many : count ≡ length (drawnOf s xs ys)
   pub few : count ≤ 256
   pub room : 20 * count ≤ length slice
@@ -47,32 +49,36 @@ pub record DrawingHeld (s : List ℕ) (xs ys : List Float) (count : ℕ) (slice 
   pub decoded : decodeRecords count slice ≡ drawnOf s xs ys
   pub numbers : take (20 * count) slice ≡ numbersOf (drawnOf s xs ys)
 
-module _ (s : List ℕ) (xs ys : List Float) where
-  accepted : Clear (drawRefusals mainScreen s xs ys) → OnMainScreen (meaning s)
-  accepted c = on-main-screen s (accepted-exactly mainScreen s .1 (clear-from (refusals mainScreen s) [] (drawRefusals mainScreen s xs ys) clear-none c refl))
+module _ (s : List ℕ) (k : Limits) (xs ys : List Float) where
+  pub draw-stopped : (n : ℕ) → P.Refused n ≡ drawOf k s xs ys → First (drawRefusals k s xs ys) n
+  draw-stopped n e = stopped (drawRefusals k s xs ys) (length (drawnOf s xs ys)) n e
 
-  held-at : (before : List Float) → 5120 ≤ length before → Clear (drawRefusals mainScreen s xs ys) → DrawingHeld s xs ys (length (drawnOf s xs ys)) (put before 0 (numbersOf (drawnOf s xs ys)))
-  unfolding frameOf
-  held-at before h c =
-      let f = frameOf (meaning s) xs ys in
-      let gs = drawnOf s xs ys in
-      let g : OnMainScreen (meaning s) = accepted c in
-      let a : length (f .arrows) ≤ 256 = omega (arith, g .arrows, length-map (meaning s .arrows) endsOf) in
-      let b : length gs ≤ length (f .arrows) = records-most f (sizesOf (meaning s)) in
-      let n = length-put before 0 (numbersOf gs) in
-      record {
-        clear = c;
-        shows = g;
-        many = refl;
-        few = omega arith;
-        room = omega arith;
-        small = records-small f (sizesOf (meaning s)) (omega arith);
-        decoded = records-decoded f (sizesOf (meaning s)) before (omega arith) (omega arith);
-        numbers = part-new (20 * length gs) 0 before (numbersOf gs) (length-records gs) (omega arith);
-      }
+  module _ (few-states : k .states ≤ 64) (few-arrows : k .arrows ≤ 256) where
+    accepted : Clear (drawRefusals k s xs ys) → Within k (meaning s)
+    accepted c = within-limits k s (accepted-exactly k s .1 (clear-from (refusals k s) [] (drawRefusals k s xs ys) clear-none c refl))
 
-  pub held : (count : ℕ) (before after : List Float) → 5120 ≤ length before → P.Records count ≡ drawOf mainScreen s xs ys → after ≡ drawAfter mainScreen s xs ys before → DrawingHeld s xs ys count after
-  held count before after h e q =
-      let rs = drawRefusals mainScreen s xs ys in
-      let w = went rs (length (drawnOf s xs ys)) count e in
-      rw (w .1, q ∙ clear-decides (λ n. before) _ rs (w .0)) (held-at before h (w .0))
+    held-at : (before : List Float) → 5120 ≤ length before → Clear (drawRefusals k s xs ys) → DrawingHeld s k xs ys (length (drawnOf s xs ys)) (put before 0 (numbersOf (drawnOf s xs ys)))
+    unfolding frameOf
+    held-at before h c =
+        let f = frameOf (meaning s) xs ys in
+        let gs = drawnOf s xs ys in
+        let g : Within k (meaning s) = accepted c in
+        let a : length (f .arrows) ≤ 256 = omega (arith, g .arrows, few-arrows, length-map (meaning s .arrows) endsOf) in
+        let b : length gs ≤ length (f .arrows) = records-most f (sizesOf (meaning s)) in
+        let n = length-put before 0 (numbersOf gs) in
+        record {
+          clear = c;
+          states = omega (arith, g .states, few-states);
+          many = refl;
+          few = omega arith;
+          room = omega arith;
+          small = records-small f (sizesOf (meaning s)) (omega arith);
+          decoded = records-decoded f (sizesOf (meaning s)) before (omega arith) (omega arith);
+          numbers = part-new (20 * length gs) 0 before (numbersOf gs) (length-records gs) (omega arith);
+        }
+
+    pub held : (count : ℕ) (before after : List Float) → 5120 ≤ length before → P.Records count ≡ drawOf k s xs ys → after ≡ drawAfter k s xs ys before → DrawingHeld s k xs ys count after
+    held count before after h e q =
+        let rs = drawRefusals k s xs ys in
+        let w = went rs (length (drawnOf s xs ys)) count e in
+        rw (w .1, q ∙ clear-decides (λ n. before) _ rs (w .0)) (held-at before h (w .0))

@@ -1,5 +1,5 @@
 -- What each call answers and what it leaves in the slices it is lent, from its inputs alone.
-use mathlib.Core.Bool.{Bool, not, _&&_, _||_}
+use mathlib.Core.Bool.{Bool, cond, not, _&&_, _||_}
 use mathlib.Core.List.{List, [], _∷_, _++_, flatMap}
 use Prim.Native.Nat.{ℕ}
 use lib.Dec.{ltb}
@@ -35,7 +35,8 @@ use Rattle.calls.specs.declared.Counted.{Counted}
 use Rattle.calls.specs.declared.Counted.the-variants as K
 use Rattle.outputs.specs.declared.LaidOut.{LaidOut}
 use Rattle.outputs.specs.declared.LaidOut.the-variants as Z
-pub use Rattle.sheet.specs.Refusals.{mainScreen}
+use Rattle.sheet.specs.declared.Limits.{Limits}
+pub use Rattle.sheet.specs.Refusals.{mainScreen, servicePanel}
 pub use Rattle.outputs.specs.Answers.{short, onto}
 
 -- What a call returns: the values, or the number of the refusal.
@@ -70,15 +71,28 @@ abbrev pub laidOutAs : LaidOut → Outcome (ℕ × Float × Float)
 laidOutAs (Z.Size n w h) = values (n, w, h)
 laidOutAs (Z.Refused n) = number n
 
+-- ---- the limits that count: document 02, T-05, "The limits become a value given to every call that takes a sheet or a label block"
+
+-- "Each limit above the main screen's counts as the main screen's": the smaller of the two
+abbrev pub smaller : ℕ → ℕ → ℕ
+smaller limit main = cond (ltb main limit) main limit
+
+unfoldable pub cappedLimits : Limits → Limits
+cappedLimits m = record {
+  states = smaller (m .states) (mainScreen .states);
+  arrows = smaller (m .arrows) (mainScreen .arrows);
+  lines = smaller (m .lines) (mainScreen .lines);
+}
+
 -- ---- check, size a label block, write a number
 
 -- "check a sheet (answer: accepted)"
-unfoldable pub check : List ℕ → Outcome (Unit {0})
-check s = decide (refusals mainScreen s) number (values tt)
+unfoldable pub check : List ℕ → Limits → Outcome (Unit {0})
+check s m = decide (refusals (cappedLimits m) s) number (values tt)
 
 -- "A label block is given text bytes and a list of line lengths; it meets only 5 (also where the lengths do not add up to the text) and 6."
-unfoldable pub labelSize : List ℕ → List ℕ → Outcome (Float × Float)
-labelSize text lengths = decide (labelRefusals mainScreen text lengths) number (values (blockWidth (cut text lengths), blockHeight (length lengths)))
+unfoldable pub labelSize : List ℕ → List ℕ → Limits → Outcome (Float × Float)
+labelSize text lengths m = decide (labelRefusals (cappedLimits m) text lengths) number (values (blockWidth (cut text lengths), blockHeight (length lengths)))
 
 -- "a finite number of size 10^13 or more to be written" is 10; "a lent output shorter than the answer" 7; "Number 7 is last"
 abbrev pub numRefusals : Float → List ℕ → List Refusal
@@ -102,30 +116,30 @@ abbrev pub numbersOf : List Geometry → List Float
 numbersOf gs = flatMap fields gs
 
 -- 1 to 6, 8 and 9; then 10 for the path text, and 7 for the records and for the path text
-abbrev pub routeRefusals : List ℕ → List Float → List Float → ℕ → ℕ → List Refusal
-routeRefusals s xs ys room textRoom =
+abbrev pub routeRefusals : List ℕ → Limits → List Float → List Float → ℕ → ℕ → List Refusal
+routeRefusals s m xs ys room textRoom =
     let gs = drawnOf s xs ys in
-    drawRefusals mainScreen s xs ys
+    drawRefusals (cappedLimits m) s xs ys
     ++ (refusal 10 (not (pathsWritable gs))
     ∷ refusal 7 (short room (numbersOf gs) || short textRoom (pathsText gs))
     ∷ [])
 
 -- "returns two lengths: f64 numbers written and bytes written"
-unfoldable pub route : List ℕ → List Float → List Float → ℕ → ℕ → Outcome (ℕ × ℕ)
-route s xs ys room textRoom =
+unfoldable pub route : List ℕ → Limits → List Float → List Float → ℕ → ℕ → Outcome (ℕ × ℕ)
+route s m xs ys room textRoom =
     let gs = drawnOf s xs ys in
-    decide (routeRefusals s xs ys room textRoom) number (values (length (numbersOf gs), length (pathsText gs)))
+    decide (routeRefusals s m xs ys room textRoom) number (values (length (numbersOf gs), length (pathsText gs)))
 
 -- "Routing fills records and path text, one path a record in record order, each ended by a newline byte"
-unfoldable pub recordsAfter : List ℕ → List Float → List Float → List Float → ℕ → List Float
-recordsAfter s xs ys records textRoom = decide (routeRefusals s xs ys (length records) textRoom) (λ (n : ℕ). records) (onto (numbersOf (drawnOf s xs ys)) records)
+unfoldable pub recordsAfter : List ℕ → Limits → List Float → List Float → List Float → ℕ → List Float
+recordsAfter s m xs ys records textRoom = decide (routeRefusals s m xs ys (length records) textRoom) (λ (n : ℕ). records) (onto (numbersOf (drawnOf s xs ys)) records)
 
-unfoldable pub textAfter : List ℕ → List Float → List Float → ℕ → List ℕ → List ℕ
-textAfter s xs ys room text = decide (routeRefusals s xs ys room (length text)) (λ (n : ℕ). text) (onto (pathsText (drawnOf s xs ys)) text)
+unfoldable pub textAfter : List ℕ → Limits → List Float → List Float → ℕ → List ℕ → List ℕ
+textAfter s m xs ys room text = decide (routeRefusals s m xs ys room (length text)) (λ (n : ℕ). text) (onto (pathsText (drawnOf s xs ys)) text)
 
 -- the clutter of what is drawn, with the states at their centres; nothing is lent and nothing written
-unfoldable pub clutter : List ℕ → List Float → List Float → Outcome ℕ
-clutter s xs ys = decide (drawRefusals mainScreen s xs ys) number (values (clutterOf (frameOf (meaning s) xs ys .centres) (drawnOf s xs ys)))
+unfoldable pub clutter : List ℕ → Limits → List Float → List Float → Outcome ℕ
+clutter s m xs ys = decide (drawRefusals (cappedLimits m) s xs ys) number (values (clutterOf (frameOf (meaning s) xs ys .centres) (drawnOf s xs ys)))
 
 -- ---- lay out a sheet by kind
 
@@ -134,21 +148,21 @@ abbrev pub layoutFor : List ℕ → ℕ → Layout
 layoutFor s kind = layoutOf kind (planOf (meaning s))
 
 -- 11, 1 to 6, and 9: "A layout is refused by 9 if any drawing it measures is"; then 7 for the centres' x and for their y
-abbrev pub layoutRefusals : List ℕ → ℕ → ℕ → ℕ → List Refusal
-layoutRefusals s kind xRoom yRoom =
+abbrev pub layoutRefusals : List ℕ → Limits → ℕ → ℕ → ℕ → List Refusal
+layoutRefusals s m kind xRoom yRoom =
     let l = layoutFor s kind in
-    planRefusals mainScreen kind s ++ (refusal 7 (short xRoom (l .xs) || short yRoom (l .ys)) ∷ [])
+    planRefusals (cappedLimits m) kind s ++ (refusal 7 (short xRoom (l .xs) || short yRoom (l .ys)) ∷ [])
 
-unfoldable pub layout : List ℕ → ℕ → ℕ → ℕ → Outcome (ℕ × Float × Float)
-layout s kind xRoom yRoom =
+unfoldable pub layout : List ℕ → Limits → ℕ → ℕ → ℕ → Outcome (ℕ × Float × Float)
+layout s m kind xRoom yRoom =
     let l = layoutFor s kind in
-    decide (layoutRefusals s kind xRoom yRoom) number (values (length (meaning s .states), l .width, l .height))
+    decide (layoutRefusals s m kind xRoom yRoom) number (values (length (meaning s .states), l .width, l .height))
 
-unfoldable pub xsAfter : List ℕ → ℕ → List Float → ℕ → List Float
-xsAfter s kind xs yRoom = decide (layoutRefusals s kind (length xs) yRoom) (λ (n : ℕ). xs) (onto (layoutFor s kind .xs) xs)
+unfoldable pub xsAfter : List ℕ → Limits → ℕ → List Float → ℕ → List Float
+xsAfter s m kind xs yRoom = decide (layoutRefusals s m kind (length xs) yRoom) (λ (n : ℕ). xs) (onto (layoutFor s kind .xs) xs)
 
-unfoldable pub ysAfter : List ℕ → ℕ → ℕ → List Float → List Float
-ysAfter s kind xRoom ys = decide (layoutRefusals s kind xRoom (length ys)) (λ (n : ℕ). ys) (onto (layoutFor s kind .ys) ys)
+unfoldable pub ysAfter : List ℕ → Limits → ℕ → ℕ → List Float → List Float
+ysAfter s m kind xRoom ys = decide (layoutRefusals s m kind xRoom (length ys)) (λ (n : ℕ). ys) (onto (layoutFor s kind .ys) ys)
 
 -- ---- list a drawing, laid out by kind: "A listing shows what routing gives at its layout's centres."
 
@@ -166,23 +180,23 @@ listingWritable s kind =
     listWritable (l .width) (l .height) (centres (l .xs) (l .ys)) (flagsOf (meaning s)) gs (totalsOf (meaning s) gs)
 
 -- 11 and 1 to 6; 8 for a centre of the layout, if there is a layout; 9 for a drawing that the layout measures, or for the one at its centres; 10 and 7
-abbrev pub listRefusals : List ℕ → ℕ → ℕ → List Refusal
-listRefusals s kind room =
+abbrev pub listRefusals : List ℕ → Limits → ℕ → ℕ → List Refusal
+listRefusals s m kind room =
     let g = meaning s in
     let l = layoutFor s kind in
     refusal 11 (ltb lastKind kind)
-    ∷ refusals mainScreen s
+    ∷ refusals (cappedLimits m) s
     ++ (refusal 8 (not (layoutBeyond kind (planOf g)) && farCentre (length (g .states)) (l .xs) (l .ys))
     ∷ refusal 9 (layoutBeyond kind (planOf g) || beyond (frameOf g (l .xs) (l .ys)))
     ∷ refusal 10 (not (listingWritable s kind))
     ∷ refusal 7 (short room (listing s kind))
     ∷ [])
 
-unfoldable pub list : List ℕ → ℕ → ℕ → Outcome ℕ
-list s kind room = decide (listRefusals s kind room) number (values (length (listing s kind)))
+unfoldable pub list : List ℕ → Limits → ℕ → ℕ → Outcome ℕ
+list s m kind room = decide (listRefusals s m kind room) number (values (length (listing s kind)))
 
-unfoldable pub listAfter : List ℕ → ℕ → List ℕ → List ℕ
-listAfter s kind out = decide (listRefusals s kind (length out)) (λ (n : ℕ). out) (onto (listing s kind) out)
+unfoldable pub listAfter : List ℕ → Limits → ℕ → List ℕ → List ℕ
+listAfter s m kind out = decide (listRefusals s m kind (length out)) (λ (n : ℕ). out) (onto (listing s kind) out)
 
 -- ---- write a sheet: document 02, T-04
 
@@ -191,11 +205,11 @@ abbrev pub freshSheet : List ℕ → List ℕ
 freshSheet s = encode (meaning s)
 
 -- 1 to 6; "A lent buffer too small is answered with 7, as it is for other calls."
-abbrev pub writeRefusals : List ℕ → ℕ → List Refusal
-writeRefusals s room = refusals mainScreen s ++ (refusal 7 (short room (freshSheet s)) ∷ [])
+abbrev pub writeRefusals : List ℕ → Limits → ℕ → List Refusal
+writeRefusals s m room = refusals (cappedLimits m) s ++ (refusal 7 (short room (freshSheet s)) ∷ [])
 
-unfoldable pub writeSheet : List ℕ → ℕ → Outcome ℕ
-writeSheet s room = decide (writeRefusals s room) number (values (length (freshSheet s)))
+unfoldable pub writeSheet : List ℕ → Limits → ℕ → Outcome ℕ
+writeSheet s m room = decide (writeRefusals s m room) number (values (length (freshSheet s)))
 
-unfoldable pub writeSheetAfter : List ℕ → List ℕ → List ℕ
-writeSheetAfter s out = decide (writeRefusals s (length out)) (λ (n : ℕ). out) (onto (freshSheet s) out)
+unfoldable pub writeSheetAfter : List ℕ → Limits → List ℕ → List ℕ
+writeSheetAfter s m out = decide (writeRefusals s m (length out)) (λ (n : ℕ). out) (onto (freshSheet s) out)

@@ -62,8 +62,8 @@ pub fn index(p: &[u8], at: usize) -> usize
     low(byte(p, at)) + 256 * low(byte(p, after(at, 1)))
 }
 
-// The number in the eight bytes from a place on, for a length.
-fn size(p: &[u8], at: usize) -> usize
+// The number in the eight bytes from a place on, for a length or a limit.
+pub fn size(p: &[u8], at: usize) -> usize
     ensures { λ r. ⌜ r ≡ S.bitsAt (now (p .entry)) at ⌝ }
 {
     bits(p, at) as usize

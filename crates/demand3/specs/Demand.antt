@@ -14,6 +14,7 @@ use Rattle.laws.specs.Flat.{part}
 use Rattle.sheet.specs.Meaning.{arrowAt}
 use Rattle.float.specs.Ops.{ofNat}
 use Rattle.sheet.specs.Sheet.{Graph, meaning}
+use Rattle.sheet.specs.declared.Limits.{Limits}
 use Rattle.svg.specs.Paths.{curveText}
 use Rattle.label_spots.specs.declared.Geometry.{Geometry}
 use Rattle.records.specs.Records.{fields}
@@ -24,9 +25,10 @@ use Rattle.calls.specs.Calls.{values, route, recordsAfter, textAfter}
 
 -- ---- a call of `route`, what it answers and what it leaves
 
--- the bytes of a sheet, the centres, and the slices lent for records and for path text
+-- the bytes of a sheet, the limits, the centres, and the slices lent for records and for path text
 pub record Call : Type 0 where
   pub sheet : List ℕ
+  pub limits : Limits
   pub xs : List Float
   pub ys : List Float
   pub records : List Float
@@ -36,14 +38,14 @@ pub record Call : Type 0 where
 pub record Answered (c : Call) : Type 0 where
   pub numbers : ℕ
   pub bytes : ℕ
-  pub answer : route (c .sheet) (c .xs) (c .ys) (length (c .records)) (length (c .text)) ≡ values (numbers, bytes)
+  pub answer : route (c .sheet) (c .limits) (c .xs) (c .ys) (length (c .records)) (length (c .text)) ≡ values (numbers, bytes)
 
 -- the two slices afterwards
 abbrev pub recordsLeft : Call → List Float
-recordsLeft c = recordsAfter (c .sheet) (c .xs) (c .ys) (c .records) (length (c .text))
+recordsLeft c = recordsAfter (c .sheet) (c .limits) (c .xs) (c .ys) (c .records) (length (c .text))
 
 abbrev pub textLeft : Call → List ℕ
-textLeft c = textAfter (c .sheet) (c .xs) (c .ys) (length (c .records)) (c .text)
+textLeft c = textAfter (c .sheet) (c .limits) (c .xs) (c .ys) (length (c .records)) (c .text)
 
 -- "Each record is written into its own twenty numbers of the lent slice": record k, its numbers from 20 · k on
 abbrev pub recordAt : Call → ℕ → List Float
@@ -203,7 +205,7 @@ pub record Curves (c d : Call) : Type 0 where
   pub curve : (e : ℕ) → Between (graph c) e → curveAt c (recordNumberOf c e) ≡ curveAt d (recordNumberOf d e)
   pub tip : (e : ℕ) → Between (graph c) e → tipAt c (recordNumberOf c e) ≡ tipAt d (recordNumberOf d e)
 
--- ---- the claim: for all sheets, all centres and all lent slices
+-- ---- the claim: for all sheets, all limits, all centres and all lent slices, two sheets each under limits of their own
 
 pub record Demand3 : Type 0 where
   pub cheapest : (c : Call) (a : Answered c) → Cheapest c a

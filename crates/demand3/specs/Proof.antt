@@ -44,7 +44,7 @@ pastRecords c = drawnAt c 0 0
 
 module _ (c : Call) (a : Answered c) where
   abbrev pub rs : List Refusal
-  rs = routeRefusals (c .sheet) (c .xs) (c .ys) (length (c .records)) (length (c .text))
+  rs = routeRefusals (c .sheet) (c .limits) (c .xs) (c .ys) (length (c .records)) (length (c .text))
 
   -- no cause holds, and the answer is what was written
   pub stands : Clear rs × (_≡_ {A = ℕ × ℕ} (a .numbers, a .bytes) (length (numbersOf (callRecords c)), length (pathsText (callRecords c))))

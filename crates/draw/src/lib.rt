@@ -3,10 +3,9 @@ ghost use mathlib.Core.Path.{_≡_};
 ghost use Prim.Native.Nat.{_≤_};
 ghost use lib.ListN.{length};
 ghost use Rattle.sheet.specs.Sheet as G;
-ghost use Rattle.sheet.specs.Refusals as R;
 ghost use Rattle.draw.specs.Drawn as S;
-ghost use Rattle.sheet.specs.declared.Checked.the-variants.{Accepted};
 use sheet::Checked;
+use sheet::Limits;
 
 // How many records a drawing has, or the number of the refusal.
 pub enum Drawing {
@@ -60,7 +59,7 @@ fn far_centre(xs: &[f64], ys: &[f64], n: usize) -> bool
 
 // ---- the call
 
-// Routes an accepted sheet, what is read of it in the slices lent for that.
+// Routes a sheet that is checked, what is read of it in the slices lent for that.
 fn draw_read(
     s: &[u8],
     flags: &mut [u8],
@@ -96,7 +95,7 @@ fn draw_read(
     Drawing::Records(n)
 }
 
-// Routes an accepted sheet of n states whose centres are not far.
+// Routes a checked sheet of n states whose centres are not far.
 fn draw_near(s: &[u8], n: usize, xs: &[f64], ys: &[f64], buf: &mut [f64]) -> Drawing
     requires { ⌜
         (n ≡ length (G.statesOf (now s)))
@@ -129,9 +128,13 @@ fn draw_near(s: &[u8], n: usize, xs: &[f64], ys: &[f64], buf: &mut [f64]) -> Dra
     )
 }
 
-// Routes an accepted sheet.
+// Routes a checked sheet for which there is room.
 fn draw_accepted(s: &[u8], xs: &[f64], ys: &[f64], buf: &mut [f64]) -> Drawing
-    requires { ⌜ (R.checkOf R.mainScreen (now s) ≡ Accepted) × (5120 ≤ length (now buf)) ⌝ }
+    requires { ⌜
+        (length (G.statesOf (now s)) ≤ 64)
+        × (length (G.arrowsOf (now s)) ≤ 256)
+        × (5120 ≤ length (now buf))
+        ⌝ }
     ensures { λ r.
         let graph = G.meaning (now (s .entry)) in
         let refusals = S.centreRefusals graph (now (xs .entry)) (now (ys .entry)) in
@@ -145,17 +148,16 @@ fn draw_accepted(s: &[u8], xs: &[f64], ys: &[f64], buf: &mut [f64]) -> Drawing
     draw_near(s, n, xs, ys, buf)
 }
 
-// Checks a sheet and routes it at the given centres: the records, twenty numbers each, from the front of `buf` on,
-// or a refusal.
-pub fn draw(s: &[u8], xs: &[f64], ys: &[f64], buf: &mut [f64]) -> Drawing
-    requires { ⌜ 5120 ≤ length (now buf) ⌝ }
+// Checks a sheet under the limits and routes it at the given centres: the records, twenty numbers each, from the front
+// of `buf` on, or a refusal. There is room for 64 states and 256 arrows.
+pub fn draw(s: &[u8], m: Limits, xs: &[f64], ys: &[f64], buf: &mut [f64]) -> Drawing
+    requires { ⌜ (m .states ≤ 64) × (m .arrows ≤ 256) × (5120 ≤ length (now buf)) ⌝ }
     ensures { λ r. ⌜
-        (r ≡ S.drawOf R.mainScreen (now (s .entry)) (now (xs .entry)) (now (ys .entry)))
-        × (now (buf .exit)
-        ≡ S.drawAfter R.mainScreen (now (s .entry)) (now (xs .entry)) (now (ys .entry)) (now (buf .entry)))
+        (r ≡ S.drawOf m (now (s .entry)) (now (xs .entry)) (now (ys .entry)))
+        × (now (buf .exit) ≡ S.drawAfter m (now (s .entry)) (now (xs .entry)) (now (ys .entry)) (now (buf .entry)))
         ⌝ }
 {
-    let c = sheet_check::check_within(s, sheet::main_screen());
+    let c = sheet_check::check_within(s, m);
     match c {
         Checked::Refused(n) => Drawing::Refused(n),
         Checked::Accepted => draw_accepted(s, xs, ys, buf),

@@ -57,12 +57,12 @@ unfoldable pub totalLength : List ℕ → ℕ
 totalLength [] = 0
 totalLength (n ∷ ns) = n + totalLength ns
 
--- 'It meets only 5 (also where the lengths do not add up to the text) and 6': more lines, or more bytes in a line, than the limits;
+-- 'it meets only 5 (also where the lengths do not add up to the text) and 6': more lines than the limit, or more than 96 bytes in a line;
 -- lengths that do not add up; then a line that is not well-formed UTF-8
 abbrev pub labelRefusals : Limits → List ℕ → List ℕ → List Refusal
 labelRefusals m text lengths =
     refusal 5 (ltb (m .lines) (length lengths))
-    ∷ refusal 5 (anyOf (ltb (m .bytes)) lengths)
+    ∷ refusal 5 (anyOf (ltb 96) lengths)
     ∷ refusal 5 (not (eqb (length text) (totalLength lengths)))
     ∷ refusal 6 (anyOf illLine (cut text lengths))
     ∷ []

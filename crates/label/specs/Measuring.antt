@@ -74,15 +74,15 @@ module _ (m : Limits) (text lengths : List ℕ) where
   unfolding sized decide
   sized-many h = rw (lt-ltb (m .lines) (length lengths) h)
 
-  pub sized-unfit : length lengths ≤ m .lines → lengthsFit (m .bytes) (length text) lengths ≡ false → sized m text lengths ≡ Refused 5
+  pub sized-unfit : length lengths ≤ m .lines → lengthsFit 96 (length text) lengths ≡ false → sized m text lengths ≡ Refused 5
   unfolding sized decide lengthsFit
   sized-unfit h f =
-      by-bool (anyOf (ltb (m .bytes)) lengths) (λ a. rw (le-ltb (m .lines) (length lengths) h, a))
+      by-bool (anyOf (ltb 96) lengths) (λ a. rw (le-ltb (m .lines) (length lengths) h, a))
       (λ a. let g : eqb (length text) (totalLength lengths) ≡ false = rw a at f in rw (le-ltb (m .lines) (length lengths) h, a, g))
 
-  pub sized-fit : length lengths ≤ m .lines → lengthsFit (m .bytes) (length text) lengths ≡ true
+  pub sized-fit : length lengths ≤ m .lines → lengthsFit 96 (length text) lengths ≡ true
       → sized m text lengths ≡ linesSize (blockHeight (length lengths)) f0 (cut text lengths)
   unfolding sized decide lengthsFit linesSize
   sized-fit h f =
-      by-bool (anyOf (ltb (m .bytes)) lengths) (λ a. let z : false ≡ true = rw a at f in absurd (subst T (sym z) tt))
+      by-bool (anyOf (ltb 96) lengths) (λ a. let z : false ≡ true = rw a at f in absurd (subst T (sym z) tt))
       (λ a. let g : eqb (length text) (totalLength lengths) ≡ true = rw a at f in rw (le-ltb (m .lines) (length lengths) h, a, g))

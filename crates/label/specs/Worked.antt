@@ -26,7 +26,7 @@ abbrev isRefused : ℕ → Sized → Bool
 isRefused k (Size w h) = false
 isRefused k (Refused n) = eqb n k
 
--- at document 01's limits
+-- at the main screen's limits
 abbrev gives : List ℕ → List ℕ → ℕ → ℕ → Bool
 gives text lengths w h = isSize w h (sized mainScreen text lengths)
 

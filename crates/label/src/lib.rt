@@ -201,14 +201,14 @@ fn lines_size(text: &[u8], lengths: &[usize]) -> Sized
     Sized::Size(width, block_height(lengths.len()))
 }
 
-// The size of a label block within the limits m.
+// The size of a label block of at most m's lines.
 pub fn label_size(text: &[u8], lengths: &[usize], m: sheet::Limits) -> Sized
     ensures { λ r. ⌜ r ≡ S.sized m (now (text .entry)) (now (lengths .entry)) ⌝ }
 {
     if m.lines < lengths.len() {
         return Sized::Refused(5);
     }
-    if !lengths_fit(lengths, m.bytes, text.len()) {
+    if !lengths_fit(lengths, sheet::LONGEST_LINE, text.len()) {
         return Sized::Refused(5);
     }
     lines_size(text, lengths)

@@ -13,7 +13,8 @@ use Rattle.laws.specs.Refusals.{Refusal, refusal, decide, clear-decides}
 use Rattle.laws.specs.Writers.{Wrote, written-fits}
 use Rattle.text.specs.Digits.{digits, digits-one, digits-more}
 use Rattle.sheet.specs.Refusals.{wrongLength}
-use Rattle.calls.specs.Calls.{Outcome, values, number, short, onto, listing, listRefusals, list, listAfter}
+use Rattle.sheet.specs.declared.Limits.{Limits}
+use Rattle.calls.specs.Calls.{Outcome, values, number, mainScreen, short, onto, listing, listRefusals, list, listAfter}
 use Rattle.calls.specs.Decided.{answered-clear}
 use Rattle.listing.specs.Listing.{asked, lent, refusedText, answerText, output}
 
@@ -38,9 +39,9 @@ butLast (r ∷ []) = []
 butLast (r ∷ q ∷ rs) = r ∷ butLast (q ∷ rs)
 
 -- "a longer listing is refused by 7"
-list-fits : (s : List ℕ) (kind room : ℕ) → count (list s kind room) ≤ room
+list-fits : (s : List ℕ) (m : Limits) (kind room : ℕ) → count (list s m kind room) ≤ room
 unfolding list decide
-list-fits s kind room = refused-fits (butLast (listRefusals s kind room)) (decide (refusal 7 (short room (listing s kind)) ∷ []) number (values (length (listing s kind)))) room (last-fits room (length (listing s kind)))
+list-fits s m kind room = refused-fits (butLast (listRefusals s m kind room)) (decide (refusal 7 (short room (listing s kind)) ∷ []) number (values (length (listing s kind)))) room (last-fits room (length (listing s kind)))
 
 -- ---- the refusal
 
@@ -69,25 +70,25 @@ front {l} {out} {txt} {n} w h =
 -- ---- the call, with as much lent as there is
 
 -- a call that is answered leaves the listing at the front
-front-listing : {n : ℕ} {after : List ℕ} (s out : List ℕ) → values n ≡ list s 0 (length out) → after ≡ listAfter s 0 out
+front-listing : {n : ℕ} {after : List ℕ} (s out : List ℕ) → values n ≡ list s mainScreen 0 (length out) → after ≡ listAfter s mainScreen 0 out
     → take n after ≡ listing s 0
 unfolding list listAfter
 front-listing {n} s out e f =
-    let rs : List Refusal = listRefusals s 0 (length out) in
+    let rs : List Refusal = listRefusals s mainScreen 0 (length out) in
     let c = answered-clear rs (length (listing s 0)) n e in
     rw (c .1, f, clear-decides (λ (k : ℕ). out) (onto (listing s 0) out) rs (c .0))
     (take-append-seam (listing s 0) (drop (length (listing s 0)) out))
 
 -- what is shown of an answer is what the program writes
-shows : {o : Outcome ℕ} (s out : List ℕ) → length out ≡ lent → o ≡ list s 0 (length out) → answerText o (listing s 0) ≡ output s
+shows : {o : Outcome ℕ} (s out : List ℕ) → length out ≡ lent → o ≡ list s mainScreen 0 (length out) → answerText o (listing s 0) ≡ output s
 unfolding output
-shows s out l e = ap (λ (p : Outcome ℕ). answerText p (listing s 0)) (e ∙ ap (list s 0) l)
+shows s out l e = ap (λ (p : Outcome ℕ). answerText p (listing s 0)) (e ∙ ap (list s mainScreen 0) l)
 
-pub listed-output : {n : ℕ} {after : List ℕ} (s out : List ℕ) → length out ≡ lent → values n ≡ list s 0 (length out)
-    → after ≡ listAfter s 0 out → (n ≤ length out) × (take n after ≡ output s)
-listed-output s out l e f = (omega (arith, ap count e, list-fits s 0 (length out)), front-listing s out e f ∙ shows s out l e)
+pub listed-output : {n : ℕ} {after : List ℕ} (s out : List ℕ) → length out ≡ lent → values n ≡ list s mainScreen 0 (length out)
+    → after ≡ listAfter s mainScreen 0 out → (n ≤ length out) × (take n after ≡ output s)
+listed-output s out l e f = (omega (arith, ap count e, list-fits s mainScreen 0 (length out)), front-listing s out e f ∙ shows s out l e)
 
-pub refused-output : {n : ℕ} (s out : List ℕ) → length out ≡ lent → number n ≡ list s 0 (length out) → refusedText n ≡ output s
+pub refused-output : {n : ℕ} (s out : List ℕ) → length out ≡ lent → number n ≡ list s mainScreen 0 (length out) → refusedText n ≡ output s
 refused-output s out l e = shows s out l e
 
 -- ---- inputs longer than a sheet

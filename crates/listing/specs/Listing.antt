@@ -3,7 +3,7 @@ use mathlib.Core.List.{List, _++_}
 use Prim.Native.Nat.{ℕ}
 use Rattle.text.specs.Digits.{digits}
 use Rattle.text.specs.Ascii.{ascii}
-use Rattle.calls.specs.Calls.{Outcome, values, number, list, listing}
+use Rattle.calls.specs.Calls.{Outcome, values, number, mainScreen, list, listing}
 
 -- one byte more than the 65,536 of a sheet is asked for, so that a longer input is refused as a sheet of that length
 abbrev pub asked : ℕ
@@ -22,6 +22,6 @@ abbrev pub answerText : Outcome ℕ → List ℕ → List ℕ
 answerText (values n) text = text
 answerText (number n) text = refusedText n
 
--- "The listing program reads a sheet from standard input and lays out as Auto": what it writes of the bytes read
+-- "The listing program reads a sheet from standard input and lays out as Auto", under the main screen's limits: what it writes of the bytes read
 unfoldable pub output : List ℕ → List ℕ
-output s = answerText (list s 0 lent) (listing s 0)
+output s = answerText (list s mainScreen 0 lent) (listing s 0)

@@ -1,4 +1,5 @@
-// Reads a sheet from standard input and writes its listing, laid out as Auto, or `refused` and the number.
+// Reads a sheet from standard input and writes its listing under the main screen's limits, laid out as Auto, or
+// `refused` and the number.
 use libc::STDIN_FILENO;
 use libc::STDOUT_FILENO;
 ghost use mathlib.Core.Path.{_≡_};
@@ -31,8 +32,9 @@ fn output(input: &[u8; ASKED], n: usize, text: &mut [u8; LENT]) -> usize
         × (take r (now (text .exit)) ≡ S.output (take n (now (input .entry))))
         ⌝ }
 {
+    let m = sheet::main_screen();
     let whole: &[u8] = input;
-    let c = calls::list(&whole[..n], 0, text);
+    let c = calls::list(&whole[..n], m, 0, text);
     match c {
         number::Written::Length(m) => m,
         number::Written::Refused(m) => put_refused(text, m),

@@ -17,8 +17,7 @@ use Rattle.laws.specs.Flats.{records-at}
 use Rattle.laws.specs.Every.{every, every-join, every-all}
 use Rattle.sheet.specs.Sheet.{meaning, flagsOf}
 use Rattle.sheet.specs.Refusals.{refusals}
-use Rattle.sheet.specs.Order.{accepted-exactly}
-use Rattle.sheet.specs.Accepted.{OnMainScreen, on-main-screen}
+use Rattle.sheet.specs.Accepted.{OnMainScreen}
 use Rattle.shape.specs.declared.«V».{«V»}
 use Rattle.shape.specs.Plane.{vec}
 use Rattle.shape.specs.Centres.{centres}
@@ -36,7 +35,8 @@ use Rattle.draw.specs.Drawn.{farCentre}
 use Rattle.layout.specs.Layout.{Layout, planOf, lastKind}
 use Rattle.plan.specs.Measured.{layoutBeyond}
 use Rattle.layout.specs.Alike.{layout-whole}
-use Rattle.calls.specs.Calls.{number, values, mainScreen, short, onto, drawnOf, numbersOf, routeRefusals, route, recordsAfter, layoutFor, layoutRefusals, layout, xsAfter, ysAfter, listing, listingWritable, listRefusals, list, listAfter}
+use Rattle.calls.specs.Calls.{number, values, cappedLimits, short, onto, drawnOf, numbersOf, routeRefusals, route, recordsAfter, layoutFor, layoutRefusals, layout, xsAfter, ysAfter, listing, listingWritable, listRefusals, list, listAfter}
+use Rattle.calls.specs.Laws.{accepted-shown}
 use Rattle.calls.specs.Decided.{answered-clear}
 use Rattle.demand3.specs.Demand.{Call, Answered, recordsLeft, recordAt, pathAt, textLineAt}
 use Rattle.demand3.specs.Proof.{callRecords, stands, path-is}
@@ -69,8 +69,8 @@ module _ (r : Call) (a : Answered r) where
   few-arrows : length (frameOf (meaning (r .sheet)) (r .xs) (r .ys) .arrows) ≤ 65536
   unfolding frameOf
   few-arrows =
-      let c : Clear (refusals mainScreen (r .sheet)) = clear-from (refusals mainScreen (r .sheet)) [] _ clear-none (stands r a .0) refl in
-      let g : OnMainScreen (meaning (r .sheet)) = on-main-screen (r .sheet) (accepted-exactly mainScreen (r .sheet) .1 c) in
+      let c : Clear (refusals (cappedLimits (r .limits)) (r .sheet)) = clear-from (refusals (cappedLimits (r .limits)) (r .sheet)) [] _ clear-none (stands r a .0) refl in
+      let g : OnMainScreen (meaning (r .sheet)) = accepted-shown (r .limits) (r .sheet) c in
       omega (arith, g .arrows, length-map (meaning (r .sheet) .arrows) endsOf)
 
   pub numbers-many : a .numbers ≡ 20 * length (callRecords r)
@@ -98,10 +98,10 @@ module _ (c : Lent) (l : LayoutAnswered c) where
   abbrev its : Layout
   its = layoutFor (c .sheet) (c .kind)
 
-  laying : Clear (layoutRefusals (c .sheet) (c .kind) (length (c .xs)) (length (c .ys)))
+  laying : Clear (layoutRefusals (c .sheet) (c .limits) (c .kind) (length (c .xs)) (length (c .ys)))
       × (_≡_ {A = ℕ × Float × Float} (l .states, l .width, l .height) (length (meaning (c .sheet) .states), its .width, its .height))
   unfolding layout
-  laying = answered-clear (layoutRefusals (c .sheet) (c .kind) (length (c .xs)) (length (c .ys))) (length (meaning (c .sheet) .states), its .width, its .height) (l .states, l .width, l .height) (sym (l .answer))
+  laying = answered-clear (layoutRefusals (c .sheet) (c .limits) (c .kind) (length (c .xs)) (length (c .ys))) (length (meaning (c .sheet) .states), its .width, its .height) (l .states, l .width, l .height) (sym (l .answer))
 
   many : l .states ≡ length (meaning (c .sheet) .states)
   many = ap (λ (t : ℕ × Float × Float). t .0) (laying .1)
@@ -115,13 +115,13 @@ module _ (c : Lent) (l : LayoutAnswered c) where
   xs-are : xsLeft c l ≡ its .xs
   unfolding xsAfter
   xs-are =
-      ap (take (l .states)) (clear-decides (λ (n : ℕ). c .xs) (onto (its .xs) (c .xs)) (layoutRefusals (c .sheet) (c .kind) (length (c .xs)) (length (c .ys))) (laying .0))
+      ap (take (l .states)) (clear-decides (λ (n : ℕ). c .xs) (onto (its .xs) (c .xs)) (layoutRefusals (c .sheet) (c .limits) (c .kind) (length (c .xs)) (length (c .ys))) (laying .0))
       ∙ take-at (its .xs) (drop (length (its .xs)) (c .xs)) (l .states) xs-many
 
   ys-are : ysLeft c l ≡ its .ys
   unfolding ysAfter
   ys-are =
-      ap (take (l .states)) (clear-decides (λ (n : ℕ). c .ys) (onto (its .ys) (c .ys)) (layoutRefusals (c .sheet) (c .kind) (length (c .xs)) (length (c .ys))) (laying .0))
+      ap (take (l .states)) (clear-decides (λ (n : ℕ). c .ys) (onto (its .ys) (c .ys)) (layoutRefusals (c .sheet) (c .limits) (c .kind) (length (c .xs)) (length (c .ys))) (laying .0))
       ∙ take-at (its .ys) (drop (length (its .ys)) (c .ys)) (l .states) ys-many
 
   pub centres-many : length (centres (xsLeft c l) (ysLeft c l)) ≡ l .states
@@ -143,14 +143,14 @@ module _ (c : Lent) (a : ListAnswered c) where
   abbrev far : Bool
   far = farCentre (length (meaning (c .sheet) .states)) (plan .xs) (plan .ys)
 
-  heard : Clear (listRefusals (c .sheet) (c .kind) (length (c .out))) × (a .bytes ≡ length (listing (c .sheet) (c .kind)))
+  heard : Clear (listRefusals (c .sheet) (c .limits) (c .kind) (length (c .out))) × (a .bytes ≡ length (listing (c .sheet) (c .kind)))
   unfolding list
-  heard = answered-clear (listRefusals (c .sheet) (c .kind) (length (c .out))) (length (listing (c .sheet) (c .kind))) (a .bytes) (sym (a .answer))
+  heard = answered-clear (listRefusals (c .sheet) (c .limits) (c .kind) (length (c .out))) (length (listing (c .sheet) (c .kind))) (a .bytes) (sym (a .answer))
 
   -- what is left in the slice lent to `list`, and what was written of it
   out-is : outLeft c ≡ onto (listing (c .sheet) (c .kind)) (c .out)
   unfolding listAfter
-  out-is = clear-decides (λ (n : ℕ). c .out) (onto (listing (c .sheet) (c .kind)) (c .out)) (listRefusals (c .sheet) (c .kind) (length (c .out))) (heard .0)
+  out-is = clear-decides (λ (n : ℕ). c .out) (onto (listing (c .sheet) (c .kind)) (c .out)) (listRefusals (c .sheet) (c .limits) (c .kind) (length (c .out))) (heard .0)
 
   pub wrote-is : listWrote c a ≡ listing (c .sheet) (c .kind)
   wrote-is =
@@ -180,16 +180,16 @@ module _ (c : Lent) (a : ListAnswered c) where
         width = plan .width;
         height = plan .height;
         answer =
-            clear-decides number _ (layoutRefusals (c .sheet) (c .kind) (length (c .xs)) (length (c .ys)))
+            clear-decides number _ (layoutRefusals (c .sheet) (c .limits) (c .kind) (length (c .xs)) (length (c .ys)))
             (clear-from _ _ _ (without 9 not-refused (without 7 o clear-none)) (heard .0) refl);
       }
 
-  routes-at : (n m : ℕ) → length (numbersOf gs) ≤ n → length (pathsText gs) ≤ m → route (c .sheet) (plan .xs) (plan .ys) n m ≡ values (length (numbersOf gs), length (pathsText gs))
+  routes-at : (n m : ℕ) → length (numbersOf gs) ≤ n → length (pathsText gs) ≤ m → route (c .sheet) (c .limits) (plan .xs) (plan .ys) n m ≡ values (length (numbersOf gs), length (pathsText gs))
   unfolding route
   routes-at n m h i =
       let o : (short n (numbersOf gs) || short m (pathsText gs)) ≡ false = or-none _ _ (le-ltb n (length (numbersOf gs)) h) (le-ltb m (length (pathsText gs)) i) in
       let pairs : beyond (frameOf (meaning (c .sheet)) (plan .xs) (plan .ys)) ≡ false = or-false-right refused _ (heard .0 .none 9) in
-      clear-decides number _ (routeRefusals (c .sheet) (plan .xs) (plan .ys) n m)
+      clear-decides number _ (routeRefusals (c .sheet) (c .limits) (plan .xs) (plan .ys) n m)
       (clear-from _ _ _ (without 8 not-far (without 9 pairs (without 10 writable (without 7 o clear-none)))) (heard .0) refl)
 
   module _ (l : LayoutAnswered c) where
@@ -197,7 +197,7 @@ module _ (c : Lent) (a : ListAnswered c) where
     routes = record {
       numbers = length (numbersOf gs);
       bytes = length (pathsText gs);
-      answers = λ n m h i. ap₂ (λ (xs ys : List Float). route (c .sheet) xs ys n m) (xs-are c l) (ys-are c l) ∙ routes-at n m h i;
+      answers = λ n m h i. ap₂ (λ (xs ys : List Float). route (c .sheet) (c .limits) xs ys n m) (xs-are c l) (ys-are c l) ∙ routes-at n m h i;
     }
 
     module _ (r : Answered (routeCall c l)) where

@@ -9,6 +9,7 @@ use lib.ListN.{length, getD, take}
 use lib.Ieee.{Float, nan}
 use Rattle.laws.specs.Counting.{howMany}
 use Rattle.sheet.specs.Sheet.{meaning, flagsOf}
+use Rattle.sheet.specs.declared.Limits.{Limits}
 use Rattle.trace.specs.Form.{wholeOf}
 use Rattle.shape.specs.Centres.{centres}
 use Rattle.label_spots.specs.declared.Geometry.{Geometry}
@@ -21,9 +22,10 @@ use Rattle.demand3.specs.Demand.{Call, Answered, recordsLeft, recordAt, pathAt,
 
 -- ---- the three calls over one sheet
 
--- the bytes of a sheet and a layout kind; the slices lent to `layout` for the centres, to `route` for records and path text, and to `list` for its text
+-- the bytes of a sheet, the limits and a layout kind; the slices lent to `layout` for the centres, to `route` for records and path text, and to `list` for its text
 pub record Lent : Type 0 where
   pub sheet : List ℕ
+  pub limits : Limits
   pub kind : ℕ
   pub xs : List Float
   pub ys : List Float
@@ -34,25 +36,25 @@ pub record Lent : Type 0 where
 -- `list` is not refused: it answers with the bytes written
 pub record ListAnswered (c : Lent) : Type 0 where
   pub bytes : ℕ
-  pub answer : list (c .sheet) (c .kind) (length (c .out)) ≡ values bytes
+  pub answer : list (c .sheet) (c .limits) (c .kind) (length (c .out)) ≡ values bytes
 
 -- `layout` is not refused: it answers with the number of states, width and height
 pub record LayoutAnswered (c : Lent) : Type 0 where
   pub states : ℕ
   pub width : Float
   pub height : Float
-  pub answer : layout (c .sheet) (c .kind) (length (c .xs)) (length (c .ys)) ≡ values (states, width, height)
+  pub answer : layout (c .sheet) (c .limits) (c .kind) (length (c .xs)) (length (c .ys)) ≡ values (states, width, height)
 
 -- "its layout's centres": one for each state, at the front of the two slices afterwards
 abbrev pub xsLeft : (c : Lent) → LayoutAnswered c → List Float
-xsLeft c l = take (l .states) (xsAfter (c .sheet) (c .kind) (c .xs) (length (c .ys)))
+xsLeft c l = take (l .states) (xsAfter (c .sheet) (c .limits) (c .kind) (c .xs) (length (c .ys)))
 
 abbrev pub ysLeft : (c : Lent) → LayoutAnswered c → List Float
-ysLeft c l = take (l .states) (ysAfter (c .sheet) (c .kind) (length (c .xs)) (c .ys))
+ysLeft c l = take (l .states) (ysAfter (c .sheet) (c .limits) (c .kind) (length (c .xs)) (c .ys))
 
 -- the call of `route` there
 abbrev pub routeCall : (c : Lent) → LayoutAnswered c → Call
-routeCall c l = record { sheet = c .sheet; xs = xsLeft c l; ys = ysLeft c l; records = c .records; text = c .text }
+routeCall c l = record { sheet = c .sheet; limits = c .limits; xs = xsLeft c l; ys = ysLeft c l; records = c .records; text = c .text }
 
 -- ---- what is shown
 
@@ -72,7 +74,7 @@ shown c l r =
 
 -- the slice lent to `list`, afterwards
 abbrev pub outLeft : Lent → List ℕ
-outLeft c = listAfter (c .sheet) (c .kind) (c .out)
+outLeft c = listAfter (c .sheet) (c .limits) (c .kind) (c .out)
 
 -- what `list` wrote of it
 abbrev pub listWrote : (c : Lent) → ListAnswered c → List ℕ
@@ -106,13 +108,13 @@ pub record Shows (c : Lent) (a : ListAnswered c) (l : LayoutAnswered c) (r : Ans
   -- the last line has the totals
   pub total : lastLine (listWrote c a) ≡ totalText (totalsRead (routeCall c l) r)
 
--- ---- the claim: for all byte lists, kinds and lent slices
+-- ---- the claim: for all byte lists, limits, kinds and lent slices
 
 -- two lengths that are enough: with slices as long or longer `route` answers, and with these two lengths
 pub record Enough (r : Call) : Type 0 where
   pub numbers : ℕ
   pub bytes : ℕ
-  pub answers : (n m : ℕ) → numbers ≤ n → bytes ≤ m → route (r .sheet) (r .xs) (r .ys) n m ≡ values (numbers, bytes)
+  pub answers : (n m : ℕ) → numbers ≤ n → bytes ≤ m → route (r .sheet) (r .limits) (r .xs) (r .ys) n m ≡ values (numbers, bytes)
 
 pub record ListingShows : Type 0 where
   -- where `list` answers so does `layout`, if its slices have room for a centre of each state

@@ -55,7 +55,7 @@ linesOfKept g a = cond (endMissing g a) 0 (length (a .lines))
 abbrev pub linesInAll : Graph → ℕ
 linesInAll g = totalFrom 0 (map (linesOfKept g) (g .arrows))
 
--- ---- the claim: for all byte lists, kinds and lent slices, where `list` answers
+-- ---- the claim: for all byte lists, limits, kinds and lent slices, where `list` answers
 
 pub record Totalled (c : Lent) (a : ListAnswered c) : Type 0 where
   -- "The listing ends with a line `total`, then the numbers of straight arrows, arcs, loops, left-out arrows and label lines."

@@ -92,7 +92,7 @@ module _ (m : Limits) (s : List ℕ) (k f n : ℕ) (e : f ≡ firstLine s k) (q 
   unfolding largeArrow
   large-lines h = rw (← large-by, lt-ltb (m .lines) n h)
 
-  pub large-rest : (b : Bool) → n ≤ m .lines → b ≡ anyOf (longLine m) (linesFrom s f) → b ≡ largeArrow m (arrowOf s k)
+  pub large-rest : (b : Bool) → n ≤ m .lines → b ≡ anyOf longLine (linesFrom s f) → b ≡ largeArrow m (arrowOf s k)
   unfolding largeArrow arrowOf
   large-rest b h r = rw (← large-by, le-ltb (m .lines) n h, ← e) r
 

@@ -11,6 +11,7 @@ ghost use Rattle.sheet.specs.Refusals as R;
 ghost use Rattle.meaning.specs.Read as M;
 use reader::next_of;
 use reader::record_of;
+use sheet::LONGEST_LINE;
 use sheet::Limits;
 use sheet::word_at;
 
@@ -74,10 +75,10 @@ pub fn line_length(s: &[u8], k: usize) -> usize
     n
 }
 
-// Whether a line of the chain from `first` on is longer than the limit.
-fn some_long(s: &[u8], first: usize, m: Limits) -> bool
+// Whether a line of the chain from `first` on has more bytes than a line may.
+fn some_long(s: &[u8], first: usize) -> bool
     requires { ⌜ first < 65536 ⌝ }
-    ensures { λ r. ⌜ r ≡ anyOf (R.longLine m) (S.linesFrom (now (s .entry)) first) ⌝ }
+    ensures { λ r. ⌜ r ≡ anyOf R.longLine (S.linesFrom (now (s .entry)) first) ⌝ }
 {
     let mut i = first;
     let mut left = word_at(s, 2) + 1;
@@ -85,7 +86,7 @@ fn some_long(s: &[u8], first: usize, m: Limits) -> bool
         if left == 0 {
             return false;
         }
-        if m.bytes < line_length(s, i) {
+        if LONGEST_LINE < line_length(s, i) {
             return true;
         }
         i = next_of(s, i);
@@ -94,7 +95,7 @@ fn some_long(s: &[u8], first: usize, m: Limits) -> bool
     false
 }
 
-// Whether arrow record k has more lines, or a longer one, than the limits.
+// Whether arrow record k has more lines than the limit, or one that is too long.
 fn large_arrow(s: &[u8], k: usize, m: Limits) -> bool
     requires { ⌜ k < 65536 ⌝ }
     ensures { λ r. ⌜ r ≡ R.largeArrow m (S.arrowOf (now (s .entry)) k) ⌝ }
@@ -104,7 +105,7 @@ fn large_arrow(s: &[u8], k: usize, m: Limits) -> bool
     if m.lines < chain_length(s, first) {
         return true;
     }
-    some_long(s, first, m)
+    some_long(s, first)
 }
 
 fn some_large(s: &[u8], m: Limits) -> bool
@@ -125,7 +126,7 @@ fn some_large(s: &[u8], m: Limits) -> bool
     false
 }
 
-// Whether the sheet has more of something than the limits.
+// Whether the sheet has more of something than the limits, or a line that is too long.
 pub fn over_limits(s: &[u8], m: Limits) -> bool
     ensures { λ r. ⌜ r ≡ R.overLimits m (S.meaning (now (s .entry))) ⌝ }
 {

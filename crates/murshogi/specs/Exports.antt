@@ -1,7 +1,13 @@
 -- What an exported call returns and what it leaves in the places it is lent for values, from what the call answers.
 use mathlib.Core.List.{List, [], _∷_}
 use Prim.Native.Nat.{ℕ}
+use lib.ListN.{getD}
+use Rattle.sheet.specs.declared.Limits.{Limits}
 use Rattle.calls.specs.Calls.{Outcome, values, number}
+
+-- the limits in an array of three: states, arrows, lines
+abbrev pub limitsIn : List ℕ → Limits
+limitsIn l = record { states = getD l 0 0; arrows = getD l 1 0; lines = getD l 2 0 }
 
 -- the number returned: 0 where there are values, else the refusal's
 abbrev pub returned : {A : Type 0} → Outcome A → ℕ

@@ -16,8 +16,9 @@ use Rattle.draw.specs.Drawn.{drawRefusals}
 use Rattle.drawing_text.specs.Lines.{pathsText}
 use Rattle.routing.specs.Sheets.{frameOf}
 use Rattle.sheet.specs.Sheet.{meaning}
+use Rattle.sheet.specs.declared.Limits.{Limits}
 use Rattle.clutter.specs.Clutter.{clutterOf}
-use Rattle.calls.specs.Calls.{Outcome, values, number, mainScreen, check, labelSize, drawnOf, numbersOf, routeRefusals, route, clutter, numRefusals, writeNum, layoutFor, layoutRefusals, layout, listing, listRefusals, list, freshSheet, writeRefusals, writeSheet}
+use Rattle.calls.specs.Calls.{Outcome, values, number, cappedLimits, check, labelSize, drawnOf, numbersOf, routeRefusals, route, clutter, numRefusals, writeNum, layoutFor, layoutRefusals, layout, listing, listRefusals, list, freshSheet, writeRefusals, writeSheet}
 use Rattle.murshogi.specs.Exports.{returned}
 
 -- every refusal of a list has a number above 0
@@ -41,34 +42,34 @@ module _ {A : Type 0} (v : A) where
       let p = each (ltb 0 (r .number)) (allNumbered rs) h in
       step (r .cause) (r .number) (decide rs number (values v)) (p .0) (zero-values rs (p .1)) e
 
-pub check-zero : (s : List ℕ) → returned (check s) ≡ 0 → check s ≡ values tt
+pub check-zero : (s : List ℕ) (m : Limits) → returned (check s m) ≡ 0 → check s m ≡ values tt
 unfolding check
-check-zero s e = zero-values tt (refusals mainScreen s) refl e
+check-zero s m e = zero-values tt (refusals (cappedLimits m) s) refl e
 
-pub label-zero : (text lengths : List ℕ) → returned (labelSize text lengths) ≡ 0 → labelSize text lengths ≡ values (blockWidth (cut text lengths), blockHeight (length lengths))
+pub label-zero : (text lengths : List ℕ) (m : Limits) → returned (labelSize text lengths m) ≡ 0 → labelSize text lengths m ≡ values (blockWidth (cut text lengths), blockHeight (length lengths))
 unfolding labelSize
-label-zero text lengths e = zero-values (blockWidth (cut text lengths), blockHeight (length lengths)) (labelRefusals mainScreen text lengths) refl e
+label-zero text lengths m e = zero-values (blockWidth (cut text lengths), blockHeight (length lengths)) (labelRefusals (cappedLimits m) text lengths) refl e
 
-pub layout-zero : (s : List ℕ) (kind xRoom yRoom : ℕ) → returned (layout s kind xRoom yRoom) ≡ 0 → layout s kind xRoom yRoom ≡ values (length (meaning s .states), layoutFor s kind .width, layoutFor s kind .height)
+pub layout-zero : (s : List ℕ) (m : Limits) (kind xRoom yRoom : ℕ) → returned (layout s m kind xRoom yRoom) ≡ 0 → layout s m kind xRoom yRoom ≡ values (length (meaning s .states), layoutFor s kind .width, layoutFor s kind .height)
 unfolding layout
-layout-zero s kind xRoom yRoom e = zero-values (length (meaning s .states), layoutFor s kind .width, layoutFor s kind .height) (layoutRefusals s kind xRoom yRoom) refl e
+layout-zero s m kind xRoom yRoom e = zero-values (length (meaning s .states), layoutFor s kind .width, layoutFor s kind .height) (layoutRefusals s m kind xRoom yRoom) refl e
 
-pub route-zero : (s : List ℕ) (xs ys : List Float) (room textRoom : ℕ) → returned (route s xs ys room textRoom) ≡ 0 → route s xs ys room textRoom ≡ values (length (numbersOf (drawnOf s xs ys)), length (pathsText (drawnOf s xs ys)))
+pub route-zero : (s : List ℕ) (m : Limits) (xs ys : List Float) (room textRoom : ℕ) → returned (route s m xs ys room textRoom) ≡ 0 → route s m xs ys room textRoom ≡ values (length (numbersOf (drawnOf s xs ys)), length (pathsText (drawnOf s xs ys)))
 unfolding route
-route-zero s xs ys room textRoom e = zero-values (length (numbersOf (drawnOf s xs ys)), length (pathsText (drawnOf s xs ys))) (routeRefusals s xs ys room textRoom) refl e
+route-zero s m xs ys room textRoom e = zero-values (length (numbersOf (drawnOf s xs ys)), length (pathsText (drawnOf s xs ys))) (routeRefusals s m xs ys room textRoom) refl e
 
-pub clutter-zero : (s : List ℕ) (xs ys : List Float) → returned (clutter s xs ys) ≡ 0 → clutter s xs ys ≡ values (clutterOf (frameOf (meaning s) xs ys .centres) (drawnOf s xs ys))
+pub clutter-zero : (s : List ℕ) (m : Limits) (xs ys : List Float) → returned (clutter s m xs ys) ≡ 0 → clutter s m xs ys ≡ values (clutterOf (frameOf (meaning s) xs ys .centres) (drawnOf s xs ys))
 unfolding clutter
-clutter-zero s xs ys e = zero-values (clutterOf (frameOf (meaning s) xs ys .centres) (drawnOf s xs ys)) (drawRefusals mainScreen s xs ys) refl e
+clutter-zero s m xs ys e = zero-values (clutterOf (frameOf (meaning s) xs ys .centres) (drawnOf s xs ys)) (drawRefusals (cappedLimits m) s xs ys) refl e
 
 pub num-zero : (v : Float) (out : List ℕ) → returned (writeNum v out) ≡ 0 → writeNum v out ≡ values (length (numText v))
 unfolding writeNum
 num-zero v out e = zero-values (length (numText v)) (numRefusals v out) refl e
 
-pub list-zero : (s : List ℕ) (kind room : ℕ) → returned (list s kind room) ≡ 0 → list s kind room ≡ values (length (listing s kind))
+pub list-zero : (s : List ℕ) (m : Limits) (kind room : ℕ) → returned (list s m kind room) ≡ 0 → list s m kind room ≡ values (length (listing s kind))
 unfolding list
-list-zero s kind room e = zero-values (length (listing s kind)) (listRefusals s kind room) refl e
+list-zero s m kind room e = zero-values (length (listing s kind)) (listRefusals s m kind room) refl e
 
-pub write-zero : (s : List ℕ) (room : ℕ) → returned (writeSheet s room) ≡ 0 → writeSheet s room ≡ values (length (freshSheet s))
+pub write-zero : (s : List ℕ) (m : Limits) (room : ℕ) → returned (writeSheet s m room) ≡ 0 → writeSheet s m room ≡ values (length (freshSheet s))
 unfolding writeSheet
-write-zero s room e = zero-values (length (freshSheet s)) (writeRefusals s room) refl e
+write-zero s m room e = zero-values (length (freshSheet s)) (writeRefusals s m room) refl e

@@ -5,12 +5,24 @@ ghost use lib.ListN as L;
 ghost use Rattle.calls.specs.Calls as C;
 ghost use Rattle.murshogi.specs.Exports as S;
 
+// The limits in an array: states, arrows, lines of an arrow.
+fn limits_of(limits: &[usize; 3]) -> sheet::Limits
+    ensures { λ r. ⌜ r ≡ S.limitsIn (now (limits .entry)) ⌝ }
+{
+    sheet::Limits {
+        states: limits[0],
+        arrows: limits[1],
+        lines: limits[2],
+    }
+}
+
 // Checks a sheet.
 #[no_mangle]
-pub extern "C" fn murshogi_check(sheet: &[u8]) -> u8
-    ensures { λ r. ⌜ r ≡ S.returned (C.check (now (sheet .entry))) ⌝ }
+pub extern "C" fn murshogi_check(sheet: &[u8], limits: &[usize; 3]) -> u8
+    ensures { λ r. ⌜ r ≡ S.returned (C.check (now (sheet .entry)) (S.limitsIn (now (limits .entry)))) ⌝ }
 {
-    let c = calls::check(sheet);
+    let m = limits_of(limits);
+    let c = calls::check(sheet, m);
     match c {
         sheet::Checked::Accepted => 0,
         sheet::Checked::Refused(n) => n,
@@ -19,12 +31,18 @@ pub extern "C" fn murshogi_check(sheet: &[u8]) -> u8
 
 // The width and height of a label block: its text, and the length of each line.
 #[no_mangle]
-pub extern "C" fn murshogi_label_size(text: &[u8], lengths: &[usize], size: &mut [f64; 2]) -> u8
+pub extern "C" fn murshogi_label_size(
+    text: &[u8],
+    lengths: &[usize],
+    limits: &[usize; 3],
+    size: &mut [f64; 2],
+) -> u8
     ensures { λ r.
-        let sized = C.labelSize (now (text .entry)) (now (lengths .entry)) in
+        let sized = C.labelSize (now (text .entry)) (now (lengths .entry)) (S.limitsIn (now (limits .entry))) in
         ⌜ (r ≡ S.returned sized) × (now (size .exit) ≡ S.heldAfter S.both sized (now (size .entry))) ⌝ }
 {
-    let c = calls::label_size(text, lengths);
+    let m = limits_of(limits);
+    let c = calls::label_size(text, lengths, m);
     match c {
         label::Sized::Size(w, h) => {
             *size = [w, h];
@@ -38,6 +56,7 @@ pub extern "C" fn murshogi_label_size(text: &[u8], lengths: &[usize], size: &mut
 #[no_mangle]
 pub extern "C" fn murshogi_layout(
     sheet: &[u8],
+    limits: &[usize; 3],
     kind: u8,
     x: &mut [f64],
     y: &mut [f64],
@@ -47,14 +66,17 @@ pub extern "C" fn murshogi_layout(
     ensures { λ r.
         let xRoom = L.length (now (x .entry)) in
         let yRoom = L.length (now (y .entry)) in
-        let laid = C.layout (now (sheet .entry)) kind xRoom yRoom in
+        let s = now (sheet .entry) in
+        let m = S.limitsIn (now (limits .entry)) in
+        let laid = C.layout s m kind xRoom yRoom in
         ⌜ (r ≡ S.returned laid)
-        × (now (x .exit) ≡ C.xsAfter (now (sheet .entry)) kind (now (x .entry)) yRoom)
-        × (now (y .exit) ≡ C.ysAfter (now (sheet .entry)) kind xRoom (now (y .entry)))
+        × (now (x .exit) ≡ C.xsAfter s m kind (now (x .entry)) yRoom)
+        × (now (y .exit) ≡ C.ysAfter s m kind xRoom (now (y .entry)))
         × (now (size .exit) ≡ S.heldAfter S.layoutSize laid (now (size .entry)))
         × (now (states .exit) ≡ S.heldAfter S.layoutStates laid (now (states .entry))) ⌝ }
 {
-    let c = calls::layout(sheet, kind, x, y);
+    let m = limits_of(limits);
+    let c = calls::layout(sheet, m, kind, x, y);
     match c {
         calls::LaidOut::Size(n, w, h) => {
             *size = [w, h];
@@ -69,6 +91,7 @@ pub extern "C" fn murshogi_layout(
 #[no_mangle]
 pub extern "C" fn murshogi_route(
     sheet: &[u8],
+    limits: &[usize; 3],
     x: &[f64],
     y: &[f64],
     records: &mut [f64],
@@ -77,17 +100,19 @@ pub extern "C" fn murshogi_route(
 ) -> u8
     ensures { λ r.
         let s = now (sheet .entry) in
+        let m = S.limitsIn (now (limits .entry)) in
         let xs = now (x .entry) in
         let ys = now (y .entry) in
         let recordRoom = L.length (now (records .entry)) in
         let textRoom = L.length (now (text .entry)) in
-        let routed = C.route s xs ys recordRoom textRoom in
+        let routed = C.route s m xs ys recordRoom textRoom in
         ⌜ (r ≡ S.returned routed)
-        × (now (records .exit) ≡ C.recordsAfter s xs ys (now (records .entry)) textRoom)
-        × (now (text .exit) ≡ C.textAfter s xs ys recordRoom (now (text .entry)))
+        × (now (records .exit) ≡ C.recordsAfter s m xs ys (now (records .entry)) textRoom)
+        × (now (text .exit) ≡ C.textAfter s m xs ys recordRoom (now (text .entry)))
         × (now (lengths .exit) ≡ S.heldAfter S.both routed (now (lengths .entry))) ⌝ }
 {
-    let c = calls::route(sheet, x, y, records, text);
+    let m = limits_of(limits);
+    let c = calls::route(sheet, m, x, y, records, text);
     match c {
         calls::RouteAnswer::Lengths(n, m) => {
             *lengths = [n, m];
@@ -99,12 +124,20 @@ pub extern "C" fn murshogi_route(
 
 // Counts the clutter of a sheet at given centres.
 #[no_mangle]
-pub extern "C" fn murshogi_clutter(sheet: &[u8], x: &[f64], y: &[f64], count: &mut usize) -> u8
+pub extern "C" fn murshogi_clutter(
+    sheet: &[u8],
+    limits: &[usize; 3],
+    x: &[f64],
+    y: &[f64],
+    count: &mut usize,
+) -> u8
     ensures { λ r.
-        let counted = C.clutter (now (sheet .entry)) (now (x .entry)) (now (y .entry)) in
+        let m = S.limitsIn (now (limits .entry)) in
+        let counted = C.clutter (now (sheet .entry)) m (now (x .entry)) (now (y .entry)) in
         ⌜ (r ≡ S.returned counted) × (now (count .exit) ≡ S.heldAfter S.itself counted (now (count .entry))) ⌝ }
 {
-    let c = calls::clutter(sheet, x, y);
+    let m = limits_of(limits);
+    let c = calls::clutter(sheet, m, x, y);
     match c {
         calls::Counted::Count(n) => {
             *count = n;
@@ -135,14 +168,22 @@ pub extern "C" fn murshogi_write_num(v: f64, out: &mut [u8], length: &mut usize)
 
 // Lists a drawing, laid out by kind, into `out`; `length` is the bytes written.
 #[no_mangle]
-pub extern "C" fn murshogi_list(sheet: &[u8], kind: u8, out: &mut [u8], length: &mut usize) -> u8
+pub extern "C" fn murshogi_list(
+    sheet: &[u8],
+    limits: &[usize; 3],
+    kind: u8,
+    out: &mut [u8],
+    length: &mut usize,
+) -> u8
     ensures { λ r.
-        let listed = C.list (now (sheet .entry)) kind (L.length (now (out .entry))) in
+        let m = S.limitsIn (now (limits .entry)) in
+        let listed = C.list (now (sheet .entry)) m kind (L.length (now (out .entry))) in
         ⌜ (r ≡ S.returned listed)
-        × (now (out .exit) ≡ C.listAfter (now (sheet .entry)) kind (now (out .entry)))
+        × (now (out .exit) ≡ C.listAfter (now (sheet .entry)) m kind (now (out .entry)))
         × (now (length .exit) ≡ S.heldAfter S.itself listed (now (length .entry))) ⌝ }
 {
-    let c = calls::list(sheet, kind, out);
+    let m = limits_of(limits);
+    let c = calls::list(sheet, m, kind, out);
     match c {
         number::Written::Length(n) => {
             *length = n;
@@ -154,14 +195,21 @@ pub extern "C" fn murshogi_list(sheet: &[u8], kind: u8, out: &mut [u8], length: 
 
 // Writes a sheet afresh into `out`, as the editor saves it; `length` is the bytes written.
 #[no_mangle]
-pub extern "C" fn murshogi_write_sheet(sheet: &[u8], out: &mut [u8], length: &mut usize) -> u8
+pub extern "C" fn murshogi_write_sheet(
+    sheet: &[u8],
+    limits: &[usize; 3],
+    out: &mut [u8],
+    length: &mut usize,
+) -> u8
     ensures { λ r.
-        let written = C.writeSheet (now (sheet .entry)) (L.length (now (out .entry))) in
+        let m = S.limitsIn (now (limits .entry)) in
+        let written = C.writeSheet (now (sheet .entry)) m (L.length (now (out .entry))) in
         ⌜ (r ≡ S.returned written)
-        × (now (out .exit) ≡ C.writeSheetAfter (now (sheet .entry)) (now (out .entry)))
+        × (now (out .exit) ≡ C.writeSheetAfter (now (sheet .entry)) m (now (out .entry)))
         × (now (length .exit) ≡ S.heldAfter S.itself written (now (length .entry))) ⌝ }
 {
-    let c = calls::write_sheet(sheet, out);
+    let m = limits_of(limits);
+    let c = calls::write_sheet(sheet, m, out);
     match c {
         number::Written::Length(n) => {
             *length = n;

@@ -48,11 +48,11 @@ headIn c k = headPath (headOf (recordIn c k .tip) (recordIn c k .«tip_angle»))
 
 -- ---- the claim
 
--- for all sheets, centres and lent slices: line k of the text that `route` leaves, and record k that it leaves
+-- for all sheets, limits, centres and lent slices: line k of the text that `route` leaves, and record k that it leaves
 abbrev pub Routes : Type 0
 Routes = (c : Call) (a : Answered c) (k : ℕ) → 20 * k + 20 ≤ a .numbers → Path (pathAt c k) (curveIn c k)
 
--- for all sheets, kinds and lent slices: the lines of the text that `list` leaves, and what `layout` and `route` give of the same sheet
+-- for all sheets, limits, kinds and lent slices: the lines of the text that `list` leaves, and what `layout` and `route` give of the same sheet
 module _ (c : Lent) (l : LayoutAnswered c) (r : Answered (routeCall c l)) where
   -- "four lines a record": the first is `edge`, "arrow, path"
   abbrev pub Edges : Type 0

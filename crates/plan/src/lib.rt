@@ -1,11 +1,10 @@
 // A sheet checked and laid out by kind.
 use sheet::Checked;
+use sheet::Limits;
 ghost use mathlib.Core.Path.{_≡_};
 ghost use Prim.Native.Nat.{_≤_};
 ghost use lib.ListN.{length};
 ghost use Rattle.sheet.specs.Sheet as G;
-ghost use Rattle.sheet.specs.Refusals as R;
-ghost use Rattle.sheet.specs.declared.Checked.the-variants.{Accepted};
 ghost use Rattle.layout.specs.Layout as L;
 ghost use Rattle.layout.specs.Choice as C;
 ghost use Rattle.plan.specs.Measured as M;
@@ -140,7 +139,7 @@ fn layout_beyond(
 
 // ---- the call
 
-// Lays out an accepted sheet; what is read of it, and its centres, in the slices lent for that.
+// Lays out a checked sheet; what is read of it, and its centres, in the slices lent for that.
 fn plan_read(
     s: &[u8],
     kind: u8,
@@ -185,7 +184,7 @@ fn plan_read(
     Planned::Size(flags.len(), size.width, size.height)
 }
 
-// Lays out an accepted sheet of n states and m arrows.
+// Lays out a checked sheet of n states and m arrows.
 fn plan_sized(s: &[u8], kind: u8, n: usize, m: usize, xs: &mut [f64], ys: &mut [f64]) -> Planned
     requires { ⌜
         (kind ≤ L.lastKind)
@@ -225,10 +224,11 @@ fn plan_sized(s: &[u8], kind: u8, n: usize, m: usize, xs: &mut [f64], ys: &mut [
     )
 }
 
-// Lays out an accepted sheet.
+// Lays out a checked sheet for which there is room.
 fn plan_accepted(s: &[u8], kind: u8, xs: &mut [f64], ys: &mut [f64]) -> Planned
     requires { ⌜
-        (R.checkOf R.mainScreen (now s) ≡ Accepted)
+        (length (G.statesOf (now s)) ≤ 64)
+        × (length (G.arrowsOf (now s)) ≤ 256)
         × (kind ≤ L.lastKind)
         × (64 ≤ length (now xs))
         × (64 ≤ length (now ys))
@@ -245,20 +245,20 @@ fn plan_accepted(s: &[u8], kind: u8, xs: &mut [f64], ys: &mut [f64]) -> Planned
     plan_sized(s, kind, n, m, xs, ys)
 }
 
-// Checks a sheet and lays it out by kind, 0 Auto, 1 Layered, 2 Circular: the centres from the front of `xs` and
-// `ys` on, or a refusal.
-pub fn plan(s: &[u8], kind: u8, xs: &mut [f64], ys: &mut [f64]) -> Planned
-    requires { ⌜ (64 ≤ length (now xs)) × (64 ≤ length (now ys)) ⌝ }
+// Checks a sheet under the limits and lays it out by kind, 0 Auto, 1 Layered, 2 Circular: the centres from the front of
+// `xs` and `ys` on, or a refusal. There is room for 64 states and 256 arrows.
+pub fn plan(s: &[u8], m: Limits, kind: u8, xs: &mut [f64], ys: &mut [f64]) -> Planned
+    requires { ⌜ (m .states ≤ 64) × (m .arrows ≤ 256) × (64 ≤ length (now xs)) × (64 ≤ length (now ys)) ⌝ }
     ensures { λ r. ⌜
-        (r ≡ S.planned R.mainScreen kind (now (s .entry)))
-        × (now (xs .exit) ≡ S.xsPlanned R.mainScreen kind (now (s .entry)) (now (xs .entry)))
-        × (now (ys .exit) ≡ S.ysPlanned R.mainScreen kind (now (s .entry)) (now (ys .entry)))
+        (r ≡ S.planned m kind (now (s .entry)))
+        × (now (xs .exit) ≡ S.xsPlanned m kind (now (s .entry)) (now (xs .entry)))
+        × (now (ys .exit) ≡ S.ysPlanned m kind (now (s .entry)) (now (ys .entry)))
         ⌝ }
 {
     if layout::LAST_KIND < kind {
         return Planned::Refused(11);
     }
-    let c = sheet_check::check_within(s, sheet::main_screen());
+    let c = sheet_check::check_within(s, m);
     match c {
         Checked::Refused(n) => Planned::Refused(n),
         Checked::Accepted => plan_accepted(s, kind, xs, ys),

@@ -12,7 +12,7 @@ use Rattle.laws.specs.Bools.{or-false-left, or-false-right, or-none}
 use borrow.Author.Tests.{ltb-false, le-ltb, eqb-true, not-false}
 use Rattle.text.specs.Utf8.{wellFormed}
 use Rattle.sheet.specs.Sheet.{count, Graph, meaning}
-use Rattle.sheet.specs.Refusals.{wrongLength, longLine, largeArrow, overLimits, illLine, illArrow, illFormed, refusals, mainScreen, checkOf}
+use Rattle.sheet.specs.Refusals.{wrongLength, longLine, largeArrow, overLimits, illLine, illArrow, illFormed, refusals, mainScreen, AtMost, checkOf}
 use Rattle.sheet.specs.Order.{accepted-exactly}
 use Rattle.sheet.specs.declared.Checked.the-variants.{Accepted}
 use Rattle.sheet.specs.declared.Limits.{Limits}
@@ -37,20 +37,21 @@ few s e =
 abbrev pub lineAt : Graph → ℕ → ℕ → List ℕ
 lineAt g k j = getD (arrowAt g k .lines) j []
 
--- A graph within limits whose lines are well-formed.
+-- A graph within limits whose lines have at most 96 bytes and are well-formed.
 pub record Within (m : Limits) (g : Graph) : Type 0 where
   pub states : length (g .states) ≤ m .states
   pub arrows : length (g .arrows) ≤ m .arrows
   pub lines : (k : ℕ) → k < length (g .arrows) → length (arrowAt g k .lines) ≤ m .lines
-  pub bytes : (k j : ℕ) → k < length (g .arrows) → j < length (arrowAt g k .lines) → length (lineAt g k j) ≤ m .bytes
+  pub bytes : (k j : ℕ) → k < length (g .arrows) → j < length (arrowAt g k .lines) → length (lineAt g k j) ≤ 96
   pub formed : (k j : ℕ) → k < length (g .arrows) → j < length (arrowAt g k .lines) → wellFormed (lineAt g k j) ≡ true
 
-module _ (m : Limits) (g : Graph) (o : overLimits m g ≡ false) (i : illFormed g ≡ false) where
-  few-states : ltb (m .states) (length (g .states)) ≡ false
+-- what a graph has that 5 does not refuse
+module _ (m : Limits) (g : Graph) (o : overLimits m g ≡ false) where
+  pub few-states : ltb (m .states) (length (g .states)) ≡ false
   unfolding overLimits
   few-states = or-false-left (ltb (m .states) (length (g .states))) _ o
 
-  few-arrows : ltb (m .arrows) (length (g .arrows)) ≡ false
+  pub few-arrows : ltb (m .arrows) (length (g .arrows)) ≡ false
   unfolding overLimits
   few-arrows = or-false-left (ltb (m .arrows) (length (g .arrows))) _ (or-false-right (ltb (m .states) (length (g .states))) _ o)
 
@@ -58,29 +59,30 @@ module _ (m : Limits) (g : Graph) (o : overLimits m g ≡ false) (i : illFormed 
   unfolding overLimits
   none-large = or-false-right (ltb (m .arrows) (length (g .arrows))) _ (or-false-right (ltb (m .states) (length (g .states))) _ o)
 
+  module _ (k : ℕ) (h : k < length (g .arrows)) where
+    pub few-lines : ltb (m .lines) (length (arrowAt g k .lines)) ≡ false
+    unfolding largeArrow
+    few-lines = or-false-left (ltb (m .lines) (length (arrowAt g k .lines))) (anyOf longLine (arrowAt g k .lines)) (none-at (largeArrow m) (g .arrows) k noArrow none-large h)
+
+    pub none-long : anyOf longLine (arrowAt g k .lines) ≡ false
+    unfolding largeArrow
+    none-long = or-false-right (ltb (m .lines) (length (arrowAt g k .lines))) (anyOf longLine (arrowAt g k .lines)) (none-at (largeArrow m) (g .arrows) k noArrow none-large h)
+
+module _ (m : Limits) (g : Graph) (o : overLimits m g ≡ false) (i : illFormed g ≡ false) where
   none-ill : anyOf illArrow (g .arrows) ≡ false
   unfolding illFormed
   none-ill = i
 
-  module _ (k : ℕ) (h : k < length (g .arrows)) where
-    few-lines : ltb (m .lines) (length (arrowAt g k .lines)) ≡ false
-    unfolding largeArrow
-    few-lines = or-false-left (ltb (m .lines) (length (arrowAt g k .lines))) (anyOf (longLine m) (arrowAt g k .lines)) (none-at (largeArrow m) (g .arrows) k noArrow none-large h)
-
-    none-long : anyOf (longLine m) (arrowAt g k .lines) ≡ false
-    unfolding largeArrow
-    none-long = or-false-right (ltb (m .lines) (length (arrowAt g k .lines))) (anyOf (longLine m) (arrowAt g k .lines)) (none-at (largeArrow m) (g .arrows) k noArrow none-large h)
-
-    none-bad : anyOf illLine (arrowAt g k .lines) ≡ false
-    unfolding illArrow
-    none-bad = none-at illArrow (g .arrows) k noArrow none-ill h
+  none-bad : (k : ℕ) → k < length (g .arrows) → anyOf illLine (arrowAt g k .lines) ≡ false
+  unfolding illArrow
+  none-bad k h = none-at illArrow (g .arrows) k noArrow none-ill h
 
   graph-within : Within m g
   graph-within = record {
-    states = ltb-false (m .states) (length (g .states)) few-states;
-    arrows = ltb-false (m .arrows) (length (g .arrows)) few-arrows;
-    lines = λ k h. ltb-false (m .lines) (length (arrowAt g k .lines)) (few-lines k h);
-    bytes = λ k j h l. ltb-false (m .bytes) (length (lineAt g k j)) (none-at (longLine m) (arrowAt g k .lines) j [] (none-long k h) l);
+    states = ltb-false (m .states) (length (g .states)) (few-states m g o);
+    arrows = ltb-false (m .arrows) (length (g .arrows)) (few-arrows m g o);
+    lines = λ k h. ltb-false (m .lines) (length (arrowAt g k .lines)) (few-lines m g o k h);
+    bytes = λ k j h l. ltb-false 96 (length (lineAt g k j)) (none-at longLine (arrowAt g k .lines) j [] (none-long m g o k h) l);
     formed = λ k j h l. not-false (wellFormed (lineAt g k j)) (none-at illLine (arrowAt g k .lines) j [] (none-bad k h) l);
   }
 
@@ -92,8 +94,8 @@ module _ (m : Limits) (g : Graph) (w : Within m g) where
       or-none (ltb (m .states) (length (g .states))) (ltb (m .arrows) (length (g .arrows)) || anyOf (largeArrow m) (g .arrows)) (le-ltb (m .states) (length (g .states)) (w .states))
       (or-none (ltb (m .arrows) (length (g .arrows))) (anyOf (largeArrow m) (g .arrows)) (le-ltb (m .arrows) (length (g .arrows)) (w .arrows))
       (none-all (largeArrow m) (g .arrows) noArrow
-      (λ k h. or-none (ltb (m .lines) (length (arrowAt g k .lines))) (anyOf (longLine m) (arrowAt g k .lines)) (le-ltb (m .lines) (length (arrowAt g k .lines)) (w .lines k h))
-      (none-all (longLine m) (arrowAt g k .lines) [] (λ j l. le-ltb (m .bytes) (length (lineAt g k j)) (w .bytes k j h l))))))
+      (λ k h. or-none (ltb (m .lines) (length (arrowAt g k .lines))) (anyOf longLine (arrowAt g k .lines)) (le-ltb (m .lines) (length (arrowAt g k .lines)) (w .lines k h))
+      (none-all longLine (arrowAt g k .lines) [] (λ j l. le-ltb 96 (length (lineAt g k j)) (w .bytes k j h l))))))
 
   pub not-ill : illFormed g ≡ false
   unfolding illFormed illArrow
@@ -111,7 +113,13 @@ pub record OnMainScreen (g : Graph) : Type 0 where
   pub bytes : (k j : ℕ) → k < length (g .arrows) → j < length (arrowAt g k .lines) → length (lineAt g k j) ≤ 96
   pub formed : (k j : ℕ) → k < length (g .arrows) → j < length (arrowAt g k .lines) → wellFormed (lineAt g k j) ≡ true
 
-pub on-main-screen : (s : List ℕ) → checkOf mainScreen s ≡ Accepted → OnMainScreen (meaning s)
-on-main-screen s q =
-    let w = within-limits mainScreen s q in
-    record { states = w .states; arrows = w .arrows; lines = w .lines; bytes = w .bytes; formed = w .formed }
+pub on-main-screen : (m : Limits) (s : List ℕ) → AtMost m mainScreen → checkOf m s ≡ Accepted → OnMainScreen (meaning s)
+on-main-screen m s a q =
+    let w = within-limits m s q in
+    record {
+      states = omega (arith, w .states, a .states);
+      arrows = omega (arith, w .arrows, a .arrows);
+      lines = λ k h. omega (arith, w .lines k h, a .lines);
+      bytes = w .bytes;
+      formed = w .formed;
+    }

@@ -26,6 +26,12 @@ manyStates k zero = []
 manyStates k (suc zero) = stateBytes 0 0
 manyStates k (suc (suc n)) = stateBytes 0 (suc k) ++ manyStates (suc k) (suc n)
 
+-- n arrows in a row, likewise
+abbrev pub manyArrows : ℕ → ℕ → List ℕ
+manyArrows k zero = []
+manyArrows k (suc zero) = arrowBytes 0 0 0 0
+manyArrows k (suc (suc n)) = arrowBytes (suc k) 0 0 0 ++ manyArrows (suc k) (suc n)
+
 -- n empty lines in a row, likewise
 abbrev pub manyLines : ℕ → ℕ → List ℕ
 manyLines k zero = []

@@ -5,6 +5,7 @@ pub mod Chains
 pub mod Order
 pub mod Starts
 pub mod Accepted
+pub mod Over
 pub mod Once
 pub mod Whole
 pub mod Renumber

@@ -1,7 +1,7 @@
 -- What refuses a sheet, in the words of document 01's table and in its order: 1, 2, 4, 3, 5, 6.
 use mathlib.Core.Bool.{Bool, true, false, cond, not, _||_}
 use mathlib.Core.List.{List, [], _∷_, map}
-use Prim.Native.Nat.{ℕ, _+_, _*_}
+use Prim.Native.Nat.{ℕ, _+_, _*_, _≤_}
 use lib.Dec.{ltb, eqb}
 use lib.ListN.{length}
 use Rattle.laws.specs.Any.{anyOf}
@@ -81,15 +81,26 @@ wrongChains s =
 
 -- ---- 5: 'more states, arrows, lines or line bytes than above'
 
--- 'Fixed capacities: 64 states, 256 arrows, 8 lines an arrow, 96 bytes a line'
+-- 'Fixed capacities: 64 states, 256 arrows, 8 lines an arrow'; document 02, T-05: 'The main screen keeps its 64, 256 and 8.'
 abbrev pub mainScreen : Limits
-mainScreen = record { states = 64; arrows = 256; lines = 8; bytes = 96 }
+mainScreen = record { states = 64; arrows = 256; lines = 8 }
 
-abbrev pub longLine : Limits → List ℕ → Bool
-longLine m l = ltb (m .bytes) (length l)
+-- 'The small panel on the back opens sheets of at most 24 states, 64 arrows and 4 lines an arrow.'
+abbrev pub servicePanel : Limits
+servicePanel = record { states = 24; arrows = 64; lines = 4 }
+
+-- each limit of l is at most that of m
+pub record AtMost (l m : Limits) : Type 0 where
+  pub states : l .states ≤ m .states
+  pub arrows : l .arrows ≤ m .arrows
+  pub lines : l .lines ≤ m .lines
+
+-- '96 bytes a line', under any limits: more than that
+abbrev pub longLine : List ℕ → Bool
+longLine l = ltb 96 (length l)
 
 unfoldable pub largeArrow : Limits → Arrow → Bool
-largeArrow m a = ltb (m .lines) (length (a .lines)) || anyOf (longLine m) (a .lines)
+largeArrow m a = ltb (m .lines) (length (a .lines)) || anyOf longLine (a .lines)
 
 unfoldable pub overLimits : Limits → Graph → Bool
 overLimits m g =

@@ -6,20 +6,22 @@ ghost use Rattle.sheet.specs.Sheet as S;
 ghost use Rattle.sheet.specs.Meaning as M;
 ghost use Rattle.sheet.specs.Refusals as R;
 
-// The most that a screen shows.
+// The most that a screen opens: states, arrows, and lines of an arrow.
 pub struct Limits {
     pub states: usize,
     pub arrows: usize,
     pub lines: usize,
-    pub bytes: usize,
 }
+
+// The most bytes of a line, on every screen.
+pub const LONGEST_LINE: usize = 96;
 
 pub enum Checked {
     Accepted,
     Refused(u8),
 }
 
-// Document 01's capacities.
+// The main screen's limits, document 01's capacities.
 pub fn main_screen() -> Limits
     ensures { λ r. ⌜ r ≡ R.mainScreen ⌝ }
 {
@@ -27,7 +29,17 @@ pub fn main_screen() -> Limits
         states: 64,
         arrows: 256,
         lines: 8,
-        bytes: 96,
+    }
+}
+
+// The small panel's limits.
+pub fn service_panel() -> Limits
+    ensures { λ r. ⌜ r ≡ R.servicePanel ⌝ }
+{
+    Limits {
+        states: 24,
+        arrows: 64,
+        lines: 4,
     }
 }
 

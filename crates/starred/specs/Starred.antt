@@ -27,6 +27,7 @@ use Rattle.text.specs.Ascii.{ascii}
 use Rattle.number.specs.Number.{numText, decimal, roundedSize, minusText, fraction}
 use Rattle.sheet.specs.Sheet as Sheet
 use Rattle.sheet.specs.Refusals as Refusals
+use Rattle.sheet.specs.declared.Limits.{Limits}
 use Rattle.sheet.specs.Records.{header, stateBytes}
 use Rattle.sheet.specs.Examples.{emptySheet}
 use Rattle.shape.specs.declared.«V».{«V»}
@@ -67,13 +68,13 @@ pub data StarredDrawing : Type 0 where
 abbrev pub twoStates : ℕ → List «V»
 twoStates n = vec (whole 0) (whole 0) ∷ vec (whole n) (whole 0) ∷ []
 
--- what the call answers, and what stands in each lent slice that is long enough: "Longer outputs keep their tail."
+-- what the call answers, under all limits that allow the states, and what stands in each lent slice that is long enough: "Longer outputs keep their tail."
 abbrev pub drawingHolds : StarredDrawing → Type 0
 drawingHolds (laidOut s kind xs ys width height) =
-    (x y : List Float) → length xs ≤ length x → length ys ≤ length y
-    → (layout s kind (length x) (length y) ≡ values (length xs, width, height))
-    × (xsAfter s kind x (length y) ≡ onto xs x)
-    × (ysAfter s kind (length x) y ≡ onto ys y)
+    (m : Limits) → length xs ≤ m .states → (x y : List Float) → length xs ≤ length x → length ys ≤ length y
+    → (layout s m kind (length x) (length y) ≡ values (length xs, width, height))
+    × (xsAfter s m kind x (length y) ≡ onto xs x)
+    × (ysAfter s m kind (length x) y ≡ onto ys y)
 drawingHolds (written v text) =
     (out : List ℕ) → length text ≤ length out
     → (writeNum v out ≡ values (length text)) × (writeNumAfter v out ≡ onto text out)
@@ -143,17 +144,17 @@ _also_ : {A B : Type 0} → A → B → A × B
 a also b = (a, b)
 
 pub starred : allHold drawings
-unfolding Routing.numberedFrom Routing.kept Routing.joined Routing.routes Routing.firstScene Routing.rim Routing.order Routing.drawing Routing.records Clutter.crossings Clutter.near24 Clutter.collides Clutter.collisions Clutter.clutterOf Meaning.startFrom Ring.largest Ring.aroundRing Ring.ringed Columns.successors Columns.elem Columns.discover Columns.explore Columns.columnsAfter Columns.reached Columns.unreached Columns.concat Columns.columns Sweeps.centreColumn Sweeps.otherEnd Sweeps.neighbours Sweeps.slotTotal Sweeps.barycentre Sweeps.orderedColumn Sweeps.arrange Sweeps.sweepDown Sweeps.sweepUp Sweeps.fourSweeps Sweeps.swept Layered.columnGap Layered.row Layered.columnOf Layered.layeredXs Layered.layeredYs Fit.statePoints Fit.statesPoints Fit.drawnPoints Fit.covered Fit.drawingBounds Fit.shifted Layout.layers Layout.ring Layout.clutterAt Layout.isDense Layout.isTangled Layout.chosen Layout.fitted Layout.layoutOf filterBy table Counting.howMany sorted zipBy extended boundsOf flatMap atan2 F.quarter F.arctangentOf F.arcSeries F.root F.rootOf F.round rootBits nearestRoot wholeRoot tryDigits scale down over numText decimal roundedSize minusText fraction D.digits D.digitsBy overlaps touches spanning unitOr test side meets segmentHitsRect chord othersFrom intervals Free.insideSome Free.visit Free.pass Free.passes Free.firstFree bend pairBow Clear.verified Clear.firstThat Clear.outdone Clear.nearest Clear.clearance up stepsFrom Ieee.add Ieee.sub Ieee.mul Ieee.div Ieee.neg Ieee.lt Ieee.le Ieee.eq Ieee.ne ofInt round size span climb units odd sum ofBits ofFields toBits toUnsigned trailingZeros isNan anyFor anyUp decide Any.anyOf Refusals.repeats Refusals.isSet Refusals.wrongRecord Refusals.wrongBytes Refusals.indices Refusals.wrongChains Refusals.largeArrow Refusals.overLimits Refusals.illArrow Refusals.illFormed Sheet.chainBy Sheet.metLine Sheet.metArrow Sheet.met Sheet.lineOf Sheet.linesFrom Sheet.arrowOf Sheet.statesOf Sheet.arrowsOf Layout.takesRing Beyond.isBeyond Beyond.beyond Measured.anyBeyond Measured.measured Measured.layoutBeyond
+unfolding Refusals.checkOf Routing.numberedFrom Routing.kept Routing.joined Routing.routes Routing.firstScene Routing.rim Routing.order Routing.drawing Routing.records Clutter.crossings Clutter.near24 Clutter.collides Clutter.collisions Clutter.clutterOf Meaning.startFrom Ring.largest Ring.aroundRing Ring.ringed Columns.successors Columns.elem Columns.discover Columns.explore Columns.columnsAfter Columns.reached Columns.unreached Columns.concat Columns.columns Sweeps.centreColumn Sweeps.otherEnd Sweeps.neighbours Sweeps.slotTotal Sweeps.barycentre Sweeps.orderedColumn Sweeps.arrange Sweeps.sweepDown Sweeps.sweepUp Sweeps.fourSweeps Sweeps.swept Layered.columnGap Layered.row Layered.columnOf Layered.layeredXs Layered.layeredYs Fit.statePoints Fit.statesPoints Fit.drawnPoints Fit.covered Fit.drawingBounds Fit.shifted Layout.layers Layout.ring Layout.clutterAt Layout.isDense Layout.isTangled Layout.chosen Layout.fitted Layout.layoutOf filterBy table Counting.howMany sorted zipBy extended boundsOf flatMap atan2 F.quarter F.arctangentOf F.arcSeries F.root F.rootOf F.round rootBits nearestRoot wholeRoot tryDigits scale down over numText decimal roundedSize minusText fraction D.digits D.digitsBy overlaps touches spanning unitOr test side meets segmentHitsRect chord othersFrom intervals Free.insideSome Free.visit Free.pass Free.passes Free.firstFree bend pairBow Clear.verified Clear.firstThat Clear.outdone Clear.nearest Clear.clearance up stepsFrom Ieee.add Ieee.sub Ieee.mul Ieee.div Ieee.neg Ieee.lt Ieee.le Ieee.eq Ieee.ne ofInt round size span climb units odd sum ofBits ofFields toBits toUnsigned trailingZeros isNan anyFor anyUp decide Any.anyOf Refusals.repeats Refusals.isSet Refusals.wrongRecord Refusals.wrongBytes Refusals.indices Refusals.wrongChains Refusals.largeArrow Refusals.overLimits Refusals.illArrow Refusals.illFormed Sheet.chainBy Sheet.metLine Sheet.metArrow Sheet.met Sheet.lineOf Sheet.linesFrom Sheet.arrowOf Sheet.statesOf Sheet.arrowsOf Layout.takesRing Beyond.isBeyond Beyond.beyond Measured.anyBeyond Measured.measured Measured.layoutBeyond
 starred =
-    lays emptySheet 0 _ (λ A refuse answer. refl) refl refl
-    also lays emptySheet 1 _ (λ A refuse answer. refl) refl refl
-    also lays emptySheet 2 _ (λ A refuse answer. refl) refl refl
-    also lays (aloneSheet 0) 0 _ (λ A refuse answer. refl) refl refl
-    also lays (aloneSheet 0) 1 _ (λ A refuse answer. refl) refl refl
-    also lays (aloneSheet 0) 2 _ (λ A refuse answer. refl) refl refl
-    also lays (aloneSheet 1) 0 _ (λ A refuse answer. refl) refl refl
-    also lays (aloneSheet 1) 1 _ (λ A refuse answer. refl) refl refl
-    also lays (aloneSheet 1) 2 _ (λ A refuse answer. refl) refl refl
+    lays emptySheet 0 _ refl refl refl refl refl refl
+    also lays emptySheet 1 _ refl refl refl refl refl refl
+    also lays emptySheet 2 _ refl refl refl refl refl refl
+    also lays (aloneSheet 0) 0 _ refl refl refl refl refl refl
+    also lays (aloneSheet 0) 1 _ refl refl refl refl refl refl
+    also lays (aloneSheet 0) 2 _ refl refl refl refl refl refl
+    also lays (aloneSheet 1) 0 _ refl refl refl refl refl refl
+    also lays (aloneSheet 1) 1 _ refl refl refl refl refl refl
+    also lays (aloneSheet 1) 2 _ refl refl refl refl refl refl
     also number-written _ _ refl refl
     also number-written _ _ refl refl
     also number-written _ _ refl refl

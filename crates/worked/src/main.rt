@@ -1,10 +1,11 @@
-// The worked drawings of document 01 that are not starred, and the listing of a sheet without states, each with what
-// the program gives.
+// The worked drawings of document 01 that are not starred, the listing of a sheet without states, and sheets at the
+// service panel's limits, each with what the program gives.
 use calls::Counted;
 use calls::LaidOut;
 use libc::STDOUT_FILENO;
 use number::Written;
 use sheet::Checked;
+use sheet::Limits;
 
 fn say(text: &[u8]) {
     io::write_all(STDOUT_FILENO, text);
@@ -17,8 +18,8 @@ fn refused(n: u8) {
 }
 
 // What `check` says of a sheet.
-fn checked(sheet: &[u8]) {
-    let c = calls::check(sheet);
+fn checked(sheet: &[u8], limits: Limits) {
+    let c = calls::check(sheet, limits);
     match c {
         Checked::Accepted => say(b"accepted\n"),
         Checked::Refused(n) => refused(n),
@@ -46,7 +47,7 @@ fn shown(out: &[u8], n: usize) {
 fn centred(sheet: &[u8], x: f64) {
     let xs = [x];
     let ys = [0.0];
-    let c = calls::clutter(sheet, &xs, &ys);
+    let c = calls::clutter(sheet, sheet::main_screen(), &xs, &ys);
     match c {
         Counted::Count(_) => say(b"accepted\n"),
         Counted::Refused(n) => refused(n),
@@ -57,7 +58,7 @@ fn centred(sheet: &[u8], x: f64) {
 fn apart(sheet: &[u8]) {
     let mut xs = [0.0f64; 2];
     let mut ys = [0.0f64; 2];
-    let l = calls::layout(sheet, 0, &mut xs, &mut ys);
+    let l = calls::layout(sheet, sheet::main_screen(), 0, &mut xs, &mut ys);
     match l {
         LaidOut::Size(_, _, _) => written(xs[1] - xs[0]),
         LaidOut::Refused(n) => refused(n),
@@ -67,7 +68,7 @@ fn apart(sheet: &[u8]) {
 // What `list` writes of a sheet, laid out as Auto.
 fn listed(sheet: &[u8]) {
     let mut out = [0u8; 1024];
-    let w = calls::list(sheet, 0, &mut out);
+    let w = calls::list(sheet, sheet::main_screen(), 0, &mut out);
     match w {
         Written::Length(n) => shown(&out, n),
         Written::Refused(n) => refused(n),
@@ -76,11 +77,48 @@ fn listed(sheet: &[u8]) {
 
 fn sheets() {
     say(b"count 0, 16 bytes: ");
-    checked(b"\x01\0\0\0\0\0\0\0\0\0\0\0\0\0\0\0");
+    checked(b"\x01\0\0\0\0\0\0\0\0\0\0\0\0\0\0\0", sheet::main_screen());
     say(b"count 0, 17 bytes: ");
-    checked(b"\x01\0\0\0\0\0\0\0\0\0\0\0\0\0\0\0\0");
+    checked(
+        b"\x01\0\0\0\0\0\0\0\0\0\0\0\0\0\0\0\0",
+        sheet::main_screen(),
+    );
     say(b"a record naming itself: ");
-    checked(b"\x01\0\x01\0\x01\0\0\0\0\0\0\0\0\0\0\0\x01\0\x01\0\0\0\0\0\0\0\0\0\0\0\0\0");
+    checked(
+        b"\x01\0\x01\0\x01\0\0\0\0\0\0\0\0\0\0\0\x01\0\x01\0\0\0\0\0\0\0\0\0\0\0\0\0",
+        sheet::main_screen(),
+    );
+}
+
+// An arrow of 5 lines.
+fn five_lines(limits: Limits) {
+    checked(
+        b"\x01\0\x06\0\0\0\x01\0\0\0\0\0\0\0\0\0\
+          \x02\0\0\0\0\0\0\0\x02\0\0\0\0\0\0\0\
+          \x03\0\x03\0\0\0\0\0\0\0\0\0\0\0\0\0\
+          \x03\0\x04\0\0\0\0\0\0\0\0\0\0\0\0\0\
+          \x03\0\x05\0\0\0\0\0\0\0\0\0\0\0\0\0\
+          \x03\0\x06\0\0\0\0\0\0\0\0\0\0\0\0\0\
+          \x03\0\0\0\0\0\0\0\0\0\0\0\0\0\0\0",
+        limits,
+    );
+}
+
+fn screens() {
+    say(b"an arrow of 4 lines on the service panel: ");
+    checked(
+        b"\x01\0\x05\0\0\0\x01\0\0\0\0\0\0\0\0\0\
+          \x02\0\0\0\0\0\0\0\x02\0\0\0\0\0\0\0\
+          \x03\0\x03\0\0\0\0\0\0\0\0\0\0\0\0\0\
+          \x03\0\x04\0\0\0\0\0\0\0\0\0\0\0\0\0\
+          \x03\0\x05\0\0\0\0\0\0\0\0\0\0\0\0\0\
+          \x03\0\0\0\0\0\0\0\0\0\0\0\0\0\0\0",
+        sheet::service_panel(),
+    );
+    say(b"an arrow of 5 lines on the service panel: ");
+    five_lines(sheet::service_panel());
+    say(b"an arrow of 5 lines on the main screen: ");
+    five_lines(sheet::main_screen());
 }
 
 fn numbers() {
@@ -145,6 +183,7 @@ fn listing() {
 
 fn main() {
     sheets();
+    screens();
     numbers();
     centres();
     layouts();

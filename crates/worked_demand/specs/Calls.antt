@@ -1,10 +1,11 @@
--- Two calls of `route` whose sheets differ in one line of one arrow: a two-way pair, a straight arrow and a loop, each with a label.
+-- Two calls of `route`, one under the main screen's limits and one under the service panel's, whose sheets differ in one line of one arrow: a two-way pair, a straight arrow and a loop, each with a label.
 use mathlib.Core.List.{List, [], _∷_, _++_}
 use Prim.Native.Nat.{ℕ}
 use lib.ListN.{replicate}
 use lib.Ieee.{Float}
 use Rattle.float.specs.Constants.{f0, whole}
 use Rattle.text.specs.Ascii.{ascii}
+use Rattle.sheet.specs.Refusals.{mainScreen, servicePanel}
 use Rattle.sheet.specs.Records.{header, stateBytes, arrowBytes, lineBytes, textBytes}
 use Rattle.demand3.specs.Demand.{Call}
 
@@ -34,8 +35,8 @@ abbrev pub workedYs : List Float
 workedYs = f0 ∷ f0 ∷ whole 100 ∷ []
 
 abbrev pub first : Call
-first = record { sheet = sheetWith oneLetter; xs = workedXs; ys = workedYs; records = replicate 80 f0; text = replicate 141 0 }
+first = record { sheet = sheetWith oneLetter; limits = mainScreen; xs = workedXs; ys = workedYs; records = replicate 80 f0; text = replicate 141 0 }
 
 -- with a fourth x, which is no state's, and longer outputs
 abbrev pub second : Call
-second = record { sheet = sheetWith twelveLetters; xs = workedXs ++ (whole 7 ∷ []); ys = workedYs; records = replicate 90 f0; text = replicate 150 0 }
+second = record { sheet = sheetWith twelveLetters; limits = servicePanel; xs = workedXs ++ (whole 7 ∷ []); ys = workedYs; records = replicate 90 f0; text = replicate 150 0 }

@@ -19,7 +19,7 @@ use Rattle.label_spots.specs.declared.Geometry.{Geometry}
 use Rattle.routing.specs.Routing.{edgeOf, placesTaken, noItem}
 use Rattle.routing.specs.Sheets.{noState}
 use Rattle.drawing_text.specs.Lines.{pathsText, pathsWritable}
-use Rattle.calls.specs.Calls.{number, values, mainScreen, short, drawnOf, numbersOf, routeRefusals, route}
+use Rattle.calls.specs.Calls.{number, values, cappedLimits, short, drawnOf, numbersOf, routeRefusals, route}
 use Rattle.demand3.specs.Demand.{Call, Answered, recordAt, curveAt, graph, frame, sizes, turns, turnArrow, takenAt, drawnAt, recordNumberOf, turnNumber}
 use Rattle.demand3.specs.Demand.{Held, Same, Agree, Alike, Between}
 use Rattle.demand3.specs.Proof.{demand3}
@@ -86,9 +86,9 @@ module _ {c : Call} {l ps anchors : List ℕ} (d : ComputedCall c l ps anchors) 
         bytes = 141;
         answer =
             clear-decides number (values (length (numbersOf gs), length (pathsText gs)))
-            (routeRefusals (c .sheet) (c .xs) (c .ys) (length (c .records)) (length (c .text)))
-            (clear-from _ _ (refusals mainScreen (c .sheet)) (without 8 (d .near) (without 9 (d .single) (without 10 ok (without 7 o clear-none))))
-            (accepted-exactly mainScreen (c .sheet) .0 (d .accepted)) refl)
+            (routeRefusals (c .sheet) (c .limits) (c .xs) (c .ys) (length (c .records)) (length (c .text)))
+            (clear-from _ _ (refusals (cappedLimits (c .limits)) (c .sheet)) (without 8 (d .near) (without 9 (d .single) (without 10 ok (without 7 o clear-none))))
+            (accepted-exactly (cappedLimits (c .limits)) (c .sheet) .0 (d .accepted)) refl)
             ∙ ap₂ (λ (n m : ℕ). values (n, m)) numbers-many bytes-many;
       }
 

@@ -9,7 +9,7 @@ use borrow.Author.Tests.{ltb-false}
 use Rattle.laws.specs.Any.{anyOf}
 use Rattle.laws.specs.Put.{put}
 use Rattle.sheet.specs.Sheet.{firstLine, lineOf, linesFrom, arrowOf}
-use Rattle.sheet.specs.Refusals.{longLine, mainScreen}
+use Rattle.sheet.specs.Refusals.{longLine}
 use Rattle.reader.specs.declared.Record.{Record}
 use Rattle.reader.specs.Reading.{recordOf}
 use Rattle.sheet.specs.Records.{arrowBytes}
@@ -19,7 +19,7 @@ use Rattle.write_line.specs.Writes.{head-put}
 use Rattle.write_sheet.specs.Sheets.{longArrow}
 use Rattle.write_sheet.specs.Chained.{index-whole}
 
-pub line-short : (l : List ℕ) → longLine mainScreen l ≡ false → length l ≤ 96
+pub line-short : (l : List ℕ) → longLine l ≡ false → length l ≤ 96
 line-short l b = ltb-false 96 (length l) b
 
 first-line : (s : List ℕ) (i k : ℕ) → firstIndex k (linesFrom s i) ≡ indexIf (not (eqb i 0)) k
@@ -28,7 +28,7 @@ first-line s i k = index-whole s (lineOf s) i k
 
 -- ---- arrow record i, and d, which was read there
 module _ (s : List ℕ) (i : ℕ) (d : Record) (e : d ≡ recordOf s i) where
-  pub lines-short : longArrow (arrowOf s i) ≡ false → anyOf (longLine mainScreen) (linesFrom s (d .word8)) ≡ false
+  pub lines-short : longArrow (arrowOf s i) ≡ false → anyOf longLine (linesFrom s (d .word8)) ≡ false
   unfolding arrowOf
   lines-short b = rw e b
 

@@ -6,7 +6,7 @@ use Prim.Native.Nat.{ℕ, _≤_}
 use lib.Dec.{eqb}
 use Rattle.laws.specs.Any.{anyOf}
 use Rattle.sheet.specs.Sheet.{Arrow, arrowsOf, meaning}
-use Rattle.sheet.specs.Refusals.{longLine, mainScreen}
+use Rattle.sheet.specs.Refusals.{longLine}
 use Rattle.encode.specs.Encode.{recordsFor}
 
 -- whether a chain of at most `left` more records has one at index i
@@ -15,7 +15,7 @@ goesOn i left = cond (eqb i 0) false (not (eqb left 0))
 
 -- an arrow with a line of more than 96 bytes
 abbrev pub longArrow : Arrow → Bool
-longArrow a = anyOf (longLine mainScreen) (a .lines)
+longArrow a = anyOf longLine (a .lines)
 
 -- no line has more bytes than there is room for, and the sheet is written in no more records than a sheet has
 pub record Savable (s : List ℕ) : Type 0 where

@@ -10,7 +10,8 @@ use Rattle.laws.specs.Any.{anyOf, any-narrower}
 use Rattle.laws.specs.Bools.{or-second, or-false-right}
 use Rattle.laws.specs.Put.{put, put-put}
 use Rattle.sheet.specs.Sheet.{count, firstState, firstArrow, stateChain, Graph, stateOf, statesOf, arrowOf, arrowsOf, meaning}
-use Rattle.sheet.specs.Refusals.{wrongLength, wrongVersion, wrongBytes, wrongChains, largeArrow, overLimits, mainScreen}
+use Rattle.sheet.specs.Refusals.{wrongLength, wrongVersion, wrongBytes, wrongChains, largeArrow, overLimits}
+use Rattle.sheet.specs.declared.Limits.{Limits}
 use Rattle.sheet.specs.Accepted.{few}
 use Rattle.sheet.specs.Records.{header}
 use Rattle.encode.specs.Encode.{firstIndex, spaceOf, allRecords, stateSize, stateRecords, arrowSize, arrowRecords, arrowsFrom, recordsFor, encode}
@@ -23,17 +24,17 @@ use Rattle.write_sheet.specs.Sheets.{longArrow, Savable}
 use Rattle.write_sheet.specs.Chained.{index-whole}
 
 -- ---- a sheet that 1 to 5 do not refuse
-none-long : (g : Graph) → overLimits mainScreen g ≡ false → anyOf longArrow (g .arrows) ≡ false
+none-long : (m : Limits) (g : Graph) → overLimits m g ≡ false → anyOf longArrow (g .arrows) ≡ false
 unfolding overLimits largeArrow
-none-long g o =
-    any-narrower longArrow (largeArrow mainScreen) (g .arrows) (λ a h. or-second (ltb 8 (length (a .lines))) (longArrow a) h)
-    (or-false-right (ltb 256 (length (g .arrows))) _ (or-false-right (ltb 64 (length (g .states))) _ o))
+none-long m g o =
+    any-narrower longArrow (largeArrow m) (g .arrows) (λ a h. or-second (ltb (m .lines) (length (a .lines))) (longArrow a) h)
+    (or-false-right (ltb (m .arrows) (length (g .arrows))) _ (or-false-right (ltb (m .states) (length (g .states))) _ o))
 
-pub savable : (s : List ℕ) → wrongLength s ≡ false → wrongVersion s ≡ false → wrongBytes s ≡ false → wrongChains s ≡ false → overLimits mainScreen (meaning s) ≡ false → Savable s
-savable s sized first plain chained within =
+pub savable : (m : Limits) (s : List ℕ) → wrongLength s ≡ false → wrongVersion s ≡ false → wrongBytes s ≡ false → wrongChains s ≡ false → overLimits m (meaning s) ≡ false → Savable s
+savable m s sized first plain chained within =
     let a : recordsFor (meaning s) ≤ count s = records-fewer s first plain chained in
     let b : count s < 4096 = few s sized in
-    record { lines = none-long (meaning s) within; few = omega arith }
+    record { lines = none-long m (meaning s) within; few = omega arith }
 
 -- ---- any sheet
 module _ (s : List ℕ) where

@@ -34,7 +34,7 @@ fn goes_on(i: usize, left: usize) -> bool
 
 // How many records the lines of the chain from `first` on take: at most 9 for each of 65,536.
 fn lines_size(s: &[u8], first: usize) -> usize
-    requires { ⌜ (first < 65536) × (anyOf (R.longLine R.mainScreen) (S.linesFrom (now s) first) ≡ false) ⌝ }
+    requires { ⌜ (first < 65536) × (anyOf R.longLine (S.linesFrom (now s) first) ≡ false) ⌝ }
     ensures { λ r. ⌜ (r ≡ E.spaceOf E.lineSize (S.linesFrom (now (s .entry)) first)) × (r ≤ 589824) ⌝ }
 {
     let mut i = first;
@@ -120,7 +120,7 @@ fn write_lines(s: &[u8], first: usize, out: &mut [u8], k: usize) -> usize
     requires { let lines = S.linesFrom (now s) first in
         let behind = k + E.spaceOf E.lineSize lines in
         ⌜ (first < 65536)
-        × (anyOf (R.longLine R.mainScreen) lines ≡ false)
+        × (anyOf R.longLine lines ≡ false)
         × (behind < 65536)
         × (16 * behind ≤ length (now out)) ⌝ }
     ensures { λ r.

@@ -13,7 +13,7 @@ use crate::port::{
 use crate::random::Random;
 use crate::rivals::library::calls as library;
 use crate::rivals::whole::calls as whole;
-use crate::sheet::Sheet;
+use crate::sheet::{MAIN_SCREEN, Sheet};
 
 unsafe extern "C" {
     fn clock_gettime(clock: i32, time: *mut [i64; 2]) -> i32;
@@ -116,14 +116,16 @@ pub fn sheet_of(name: &str) {
 macro_rules! theirs {
     ($calls:ident, $case:ident, $call:ident) => {
         match $call {
-            Call::Check => $calls::check(&$case.sheet).err(),
-            Call::LabelSize => $calls::label_size(&$case.label, &$case.lines).err(),
-            Call::Clutter => $calls::clutter(&$case.sheet, &$case.x, &$case.y).err(),
+            Call::Check => $calls::check(&$case.sheet, $calls::MAIN_SCREEN).err(),
+            Call::LabelSize => $calls::label_size(&$case.label, &$case.lines, $calls::MAIN_SCREEN).err(),
+            Call::Clutter => $calls::clutter(&$case.sheet, $calls::MAIN_SCREEN, &$case.x, &$case.y).err(),
             Call::WriteNum => $calls::write_num($case.x[1], 65_536).err(),
-            Call::Route => $calls::route(&$case.sheet, &$case.x, &$case.y, (5120, 65_536)).err(),
-            Call::Layout => $calls::layout(&$case.sheet, 0, 64, 64).err(),
-            Call::List => $calls::list(&$case.sheet, 0, 65_536).err(),
-            Call::WriteSheet => $calls::write_sheet(&$case.sheet, 65_536).err(),
+            Call::Route => {
+                $calls::route(&$case.sheet, $calls::MAIN_SCREEN, &$case.x, &$case.y, (5120, 65_536)).err()
+            }
+            Call::Layout => $calls::layout(&$case.sheet, $calls::MAIN_SCREEN, 0, (64, 64)).err(),
+            Call::List => $calls::list(&$case.sheet, $calls::MAIN_SCREEN, 0, 65_536).err(),
+            Call::WriteSheet => $calls::write_sheet(&$case.sheet, $calls::MAIN_SCREEN, 65_536).err(),
         }
         .unwrap_or(0)
     };
@@ -133,7 +135,7 @@ impl Case {
     /// With the centres of the sheet's layout by Auto.
     pub fn new(name: &'static str, made: Made) -> Case {
         let (sheet, lines) = (made.bytes, made.lines);
-        let l = hardware::layout(&sheet, 0, 64, 64).unwrap();
+        let l = hardware::layout(&sheet, MAIN_SCREEN, 0, (64, 64)).unwrap();
         let (records, text) = (vec![0.0; 5120], vec![0; 65_536]);
         let (label, lines) = (b"m/z 195 > 15".repeat(lines), vec![12; lines]);
         Case { name, sheet, label, lines, x: l.x, y: l.y, records, text }
@@ -145,28 +147,31 @@ impl Case {
         let (s, n) = (self.sheet.as_ptr(), self.sheet.len());
         let (text, room) = (self.text.as_mut_ptr(), self.text.len());
         let (x, y) = (&self.x, &self.y);
+        let limits = MAIN_SCREEN.list();
+        let limits = limits.as_ptr();
         let (mut nx, mut ny, mut size, mut lengths) = ([0.0; 64], [0.0; 64], [0.0; 2], [0; 2]);
         // the answer is used here, so that no call takes the place of this function's own frame
         black_box(unsafe {
             match call {
-                Call::Check => murshogi_check(s, n),
+                Call::Check => murshogi_check(s, n, limits),
                 Call::LabelSize => murshogi_label_size(
-                    self.label.as_ptr(), self.label.len(), self.lines.as_ptr(), self.lines.len(), size.as_mut_ptr(),
+                    self.label.as_ptr(), self.label.len(), self.lines.as_ptr(), self.lines.len(), limits,
+                    size.as_mut_ptr(),
                 ),
                 Call::Clutter => murshogi_clutter(
-                    s, n, x.as_ptr(), x.len(), y.as_ptr(), y.len(), lengths.as_mut_ptr(),
+                    s, n, limits, x.as_ptr(), x.len(), y.as_ptr(), y.len(), lengths.as_mut_ptr(),
                 ),
                 Call::WriteNum => murshogi_write_num(x[1], text, room, lengths.as_mut_ptr()),
                 Call::Route => murshogi_route(
-                    s, n, x.as_ptr(), x.len(), y.as_ptr(), y.len(), self.records.as_mut_ptr(),
+                    s, n, limits, x.as_ptr(), x.len(), y.as_ptr(), y.len(), self.records.as_mut_ptr(),
                     self.records.len(), text, room, lengths.as_mut_ptr(),
                 ),
                 Call::Layout => murshogi_layout(
-                    s, n, 0, nx.as_mut_ptr(), 64, ny.as_mut_ptr(), 64, size.as_mut_ptr(),
+                    s, n, limits, 0, nx.as_mut_ptr(), 64, ny.as_mut_ptr(), 64, size.as_mut_ptr(),
                     lengths.as_mut_ptr(),
                 ),
-                Call::List => murshogi_list(s, n, 0, text, room, lengths.as_mut_ptr()),
-                Call::WriteSheet => murshogi_write_sheet(s, n, text, room, lengths.as_mut_ptr()),
+                Call::List => murshogi_list(s, n, limits, 0, text, room, lengths.as_mut_ptr()),
+                Call::WriteSheet => murshogi_write_sheet(s, n, limits, text, room, lengths.as_mut_ptr()),
             }
         })
     }

@@ -8,7 +8,7 @@ use crate::calls;
 use crate::generate::{in_order, shuffled};
 use crate::port::{murshogi_check, murshogi_write_sheet};
 use crate::random::Random;
-use crate::sheet::{Arrow, Sheet};
+use crate::sheet::{Arrow, MAIN_SCREEN, Sheet};
 
 /// A sheet, and its name: bytes a line and bytes a piece. Records in the editor's order, or in any.
 struct Full {
@@ -47,7 +47,7 @@ fn sheets() -> Vec<Full> {
     ] {
         let sheet = made(bytes, piece);
         for (order, sheet) in [("as saved", in_order(&sheet)), ("shuffled", shuffled(rng, &sheet))] {
-            assert!(sheet.len() == 65_536 && calls::check(&sheet).is_ok());
+            assert!(sheet.len() == 65_536 && calls::check(&sheet, MAIN_SCREEN).is_ok());
             list.push(Full { name, order, sheet, out: vec![0; 65_536] });
         }
     }
@@ -59,10 +59,12 @@ impl Full {
     #[inline(never)]
     fn port(&mut self, call: usize) -> u8 {
         let (s, n, mut length) = (self.sheet.as_ptr(), self.sheet.len(), 0);
+        let limits = MAIN_SCREEN.list();
+        let limits = limits.as_ptr();
         unsafe {
             match call {
-                0 => murshogi_check(s, n),
-                _ => murshogi_write_sheet(s, n, self.out.as_mut_ptr(), self.out.len(), &mut length),
+                0 => murshogi_check(s, n, limits),
+                _ => murshogi_write_sheet(s, n, limits, self.out.as_mut_ptr(), self.out.len(), &mut length),
             }
         }
     }
@@ -115,7 +117,7 @@ pub fn print() {
     println!("|---|---|---|---|---|---|---|---|---|");
     for (mut sheet, counts) in list.into_iter().zip(counts.chunks(2)) {
         let times = sheet.medians();
-        let records = calls::write_sheet(&sheet.sheet, 65_536).unwrap().len() / 16 - 1;
+        let records = calls::write_sheet(&sheet.sheet, MAIN_SCREEN, 65_536).unwrap().len() / 16 - 1;
         let cells = |list: [f64; 2]| {
             format!("{} | {} | {:.2}", figure(list[0]), figure(list[1]), list[1] / list[0])
         };

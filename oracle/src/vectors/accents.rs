@@ -9,7 +9,7 @@ use crate::generate::{
     Size, accented, from_first, full_pieces, line, ordered, shuffled, sort_of_accents, starts, without_accents,
 };
 use crate::random::Random;
-use crate::sheet::{Arrow, Line, Sheet};
+use crate::sheet::{Arrow, Line, MAIN_SCREEN, Sheet};
 
 /// The width of an ASCII character.
 const NARROW: f64 = 0.6 * 12.0;
@@ -36,7 +36,7 @@ pub fn cases(c: &mut Calls) {
 fn sized(c: &mut Calls, lines: &[&[u8]], answer: Result<(f64, f64), u8>) {
     let text = lines.concat();
     let lengths: Vec<usize> = lines.iter().map(|l| l.len()).collect();
-    assert_eq!(calls::label_size(&text, &lengths), answer, "{lines:x?}");
+    assert_eq!(calls::label_size(&text, &lengths, MAIN_SCREEN), answer, "{lines:x?}");
     c.label(&text, &lengths);
 }
 
@@ -129,10 +129,11 @@ fn pair(c: &mut Calls, rng: &mut Random, i: usize) {
 /// What the oracle answers to all calls that draw; it refuses none of them.
 fn answers(d: &Drawn) -> impl PartialEq + Debug + use<> {
     let room = usize::MAX;
-    let routing = calls::route(&d.sheet, &d.xs, &d.ys, (room, room)).map(|r| (r.records, r.text)).unwrap();
-    let layouts = [0, 1, 2].map(|by| calls::layout(&d.sheet, by, room, room).unwrap());
-    let listings = [0, 1, 2].map(|by| calls::list(&d.sheet, by, room).unwrap());
-    (routing, layouts, calls::clutter(&d.sheet, &d.xs, &d.ys).unwrap(), listings)
+    let (sheet, limits) = (&d.sheet, MAIN_SCREEN);
+    let routing = calls::route(sheet, limits, &d.xs, &d.ys, (room, room)).map(|r| (r.records, r.text)).unwrap();
+    let layouts = [0, 1, 2].map(|by| calls::layout(sheet, limits, by, (room, room)).unwrap());
+    let listings = [0, 1, 2].map(|by| calls::list(sheet, limits, by, room).unwrap());
+    (routing, layouts, calls::clutter(sheet, limits, &d.xs, &d.ys).unwrap(), listings)
 }
 
 /// The cases of sheets that differ in accents alone, the first of which has none: the oracle answers them alike.
@@ -145,7 +146,7 @@ fn alike(c: &mut Calls, rng: &mut Random, list: &[Sheet]) {
         list.iter().map(|s| Drawn { sheet: shuffled(rng, s), xs: xs.clone(), ys: ys.clone() }).collect();
     for (i, d) in all.iter().enumerate() {
         assert_eq!(sort_of_accents(&list[i]).0, i > 0);
-        assert!(calls::check(&d.sheet).is_ok());
+        assert!(calls::check(&d.sheet, MAIN_SCREEN).is_ok());
         assert_eq!(answers(d), answers(&all[0]));
         c.route(d, plenty);
         c.layout(d, by, plenty);

@@ -1,6 +1,7 @@
 //! Cases of the eight calls. The answer and the layout's kind, a byte each; the length of the sheet,
 //! or of a label's text, four bytes; the sheet; what the call is given besides; and what it writes.
-//! A number of things is two bytes, the room for a sheet four.
+//! A number of things is two bytes, the room for a sheet four. Under limits all that stands behind them and the call's
+//! kind.
 
 use std::collections::BTreeMap;
 
@@ -11,7 +12,7 @@ use crate::generate::{
     SORTS, Size, centres, drawing, full_pieces, has_accent, sheet, shuffled, sort_of_accents, sort_of_starts, starts,
 };
 use crate::random::Random;
-use crate::sheet::{Arrow, Sheet, label_block, read};
+use crate::sheet::{Arrow, Limits, MAIN_SCREEN, Sheet, read};
 
 /// No case is longer than the program's room for one.
 const LONGEST: usize = 140_000;
@@ -56,8 +57,8 @@ impl Call {
 }
 
 /// A sheet written into so much room.
-fn saving(sheet: &[u8], room: usize) -> Call {
-    let answer = calls::write_sheet(sheet, room);
+fn saving(sheet: &[u8], limits: Limits, room: usize) -> Call {
+    let answer = calls::write_sheet(sheet, limits, room);
     Call {
         kind: kind::WRITE_SHEET,
         answer: answer.as_ref().err().copied().unwrap_or(0),
@@ -83,6 +84,10 @@ pub struct Calls<'a> {
     spoil: usize,
     rng: Random,
     answers: BTreeMap<(u8, u8), usize>,
+    /// The limits that the cases are put under; none: those of the main screen, which no case has to name.
+    limits: Option<Limits>,
+    /// The cases under limits, by kind and answer.
+    limited: BTreeMap<(u8, u8), usize>,
     /// The sorts of starts of the listings that are not refused.
     starts: [usize; SORTS.len()],
     /// Of each kind the cases that are not refused: with accents, without, and with one that stands in two pieces.
@@ -103,6 +108,15 @@ pub fn plenty(rng: &mut Random, n: usize) -> usize {
     n + 1 + rng.below(50)
 }
 
+/// A case, put under limits where there are some.
+fn under(limits: Option<Limits>, kind: u8, case: Payload) -> (u8, Payload) {
+    let Some(limits) = limits else {
+        return (kind, case);
+    };
+    let p = limits.list().iter().fold(Payload::new(), |p, &most| p.bytes(&(most as u64).to_le_bytes()));
+    (kind::UNDER_LIMITS, p.byte(kind).bytes(&case.0))
+}
+
 /// The numbers of xs and of ys; the xs, the ys.
 fn at_centres(d: &Drawn) -> Payload {
     Payload::new().word(d.xs.len()).word(d.ys.len()).floats(&d.xs).floats(&d.ys)
@@ -115,6 +129,8 @@ impl<'a> Calls<'a> {
             spoil,
             rng: Random::new(909),
             answers: BTreeMap::new(),
+            limits: None,
+            limited: BTreeMap::new(),
             starts: [0; SORTS.len()],
             accents: BTreeMap::new(),
         }
@@ -122,20 +138,46 @@ impl<'a> Calls<'a> {
 
     /// Adds the case where it is short enough, and where it is small now and then one that is spoiled.
     fn add(&mut self, call: &Call) {
-        let p = call.case(call.answer, &call.written);
+        let (kind, p) = under(self.limits, call.kind, call.case(call.answer, &call.written));
         if p.0.len() > LONGEST - 1 {
             return;
         }
-        if call.answer == 0 && call.kind != kind::NUMBER {
+        if call.answer == 0 && call.kind != kind::NUMBER && self.limits.is_none() {
             self.note(call);
         }
-        let count = self.answers.entry((call.kind, call.answer)).or_default();
+        // Under limits, half as many are spoiled, and shorter ones.
+        let (counts, each, short) = match self.limits {
+            None => (&mut self.answers, self.spoil, 6_000),
+            Some(_) => (&mut self.limited, 2 * self.spoil, 1_000),
+        };
+        let count = counts.entry((call.kind, call.answer)).or_default();
         *count += 1;
-        let spoil = self.spoil > 0 && *count % self.spoil == 1 && p.0.len() < 6_000;
-        self.out.case(call.kind, p);
+        let spoil = each > 0 && *count % each == 1 && p.0.len() < short;
+        self.out.case(kind, p);
         if spoil {
-            self.out.spoiled(call.kind, call.spoiled(&mut self.rng));
+            let (kind, p) = under(self.limits, call.kind, call.spoiled(&mut self.rng));
+            self.out.spoiled(kind, p);
         }
+    }
+
+    /// Puts the cases that `f` makes under limits.
+    pub fn under(&mut self, limits: Limits, f: impl FnOnce(&mut Self)) {
+        self.limits = Some(limits);
+        f(self);
+        self.limits = None;
+    }
+
+    /// The limits of the calls.
+    fn most(&self) -> Limits {
+        self.limits.unwrap_or(MAIN_SCREEN)
+    }
+
+    /// A spoiled check: the sheet is not answered so under these limits.
+    pub fn spoiled_check(&mut self, sheet: &[u8], limits: Limits, answer: u8) {
+        assert_ne!(calls::check(sheet, limits).err().unwrap_or(0), answer, "it is as it was");
+        let call = Call { kind: kind::CHECK, sheet: sheet.to_vec(), ..Call::default() };
+        let (kind, p) = under(Some(limits), call.kind, call.case(answer, &[]));
+        self.out.spoiled(kind, p);
     }
 
     /// Counts the accents, and of a listing the starts, of a case that is not refused.
@@ -143,7 +185,7 @@ impl<'a> Calls<'a> {
         let (some, parted) = if call.kind == kind::LABEL_SIZE {
             (has_accent(&call.sheet), false)
         } else {
-            let sheet = read(&call.sheet).unwrap();
+            let sheet = read(&call.sheet, MAIN_SCREEN).unwrap();
             if call.kind == kind::LIST {
                 self.starts[sort_of_starts(&sheet.graph())] += 1;
             }
@@ -154,9 +196,14 @@ impl<'a> Calls<'a> {
         counts[2] += usize::from(parted);
     }
 
-    /// The cases so far, spoiled ones left out.
+    /// The cases so far, spoiled ones and those under limits left out.
     pub fn cases(&self) -> usize {
         self.answers.values().sum()
+    }
+
+    /// How many cases under limits of a kind have an answer.
+    pub fn limited(&self, kind: u8, answer: u8) -> usize {
+        self.limited.get(&(kind, answer)).copied().unwrap_or(0)
     }
 
     /// The counts; every refusal is there, and 1 to 6 by each call that takes a sheet, and accents in every kind.
@@ -178,15 +225,30 @@ impl<'a> Calls<'a> {
             assert!(some > 0 && none > 0 && (parted > 0 || kind == kind::LABEL_SIZE), "accents of kind {kind}");
         }
         println!("calls, by kind and answer: {:?}", self.answers);
+        for kind in (kind::ROUTE..=kind::LABEL_SIZE).chain([kind::WRITE_SHEET]) {
+            let answers: &[u8] = match kind {
+                kind::ROUTE => &[0, 1, 2, 3, 4, 5, 6, 7, 8, 9],
+                kind::LAYOUT | kind::LIST => &[0, 1, 2, 3, 4, 5, 6, 7, 11],
+                kind::CLUTTER => &[0, 1, 2, 3, 4, 5, 6, 8, 9],
+                kind::CHECK => &[0, 1, 2, 3, 4, 5, 6],
+                kind::LABEL_SIZE => &[0, 5, 6],
+                _ => &[0, 1, 2, 3, 4, 5, 6, 7],
+            };
+            for &answer in answers {
+                assert!(self.limited(kind, answer) > 0, "no case of kind {kind} under limits is answered {answer}");
+            }
+        }
+        println!("under limits, by kind and answer: {:?}", self.limited);
     }
 
     /// Given: the centres; the rooms that are lent for records and text. Written: the number of numbers
     /// of the records, these numbers, the text.
     pub fn route(&mut self, d: &Drawn, lent: fn(&mut Random, usize) -> usize) {
-        let (n, m) = calls::route(&d.sheet, &d.xs, &d.ys, (usize::MAX, usize::MAX))
+        let most = self.most();
+        let (n, m) = calls::route(&d.sheet, most, &d.xs, &d.ys, (usize::MAX, usize::MAX))
             .map_or((20, 20), |r| (r.records.len(), r.text.len()));
         let (n, m) = (lent(&mut self.rng, n), lent(&mut self.rng, m));
-        let (answer, records, text) = match calls::route(&d.sheet, &d.xs, &d.ys, (n, m)) {
+        let (answer, records, text) = match calls::route(&d.sheet, most, &d.xs, &d.ys, (n, m)) {
             Ok(r) => (0, r.records, r.text),
             Err(e) => (e, vec![], vec![]),
         };
@@ -210,9 +272,10 @@ impl<'a> Calls<'a> {
     /// Given: the rooms that are lent for x and for y. Written: the number of states, width, height, the
     /// xs, the ys.
     pub fn layout(&mut self, d: &Drawn, by: u8, lent: fn(&mut Random, usize) -> usize) {
-        let n = calls::layout(&d.sheet, by, usize::MAX, usize::MAX).map_or(3, |l| l.x.len());
+        let most = self.most();
+        let n = calls::layout(&d.sheet, most, by, (usize::MAX, usize::MAX)).map_or(3, |l| l.x.len());
         let (n, m) = (lent(&mut self.rng, n), lent(&mut self.rng, n));
-        let (answer, size, xs, ys) = match calls::layout(&d.sheet, by, n, m) {
+        let (answer, size, xs, ys) = match calls::layout(&d.sheet, most, by, (n, m)) {
             Ok(l) => (0, [l.width, l.height], l.x, l.y),
             Err(e) => (e, [0.0; 2], vec![], vec![]),
         };
@@ -231,7 +294,7 @@ impl<'a> Calls<'a> {
 
     /// Given: the centres. Written: the count, four bytes.
     pub fn clutter(&mut self, d: &Drawn) {
-        let answer = calls::clutter(&d.sheet, &d.xs, &d.ys);
+        let answer = calls::clutter(&d.sheet, self.most(), &d.xs, &d.ys);
         let call = Call {
             kind: kind::CLUTTER,
             answer: answer.err().unwrap_or(0),
@@ -245,9 +308,9 @@ impl<'a> Calls<'a> {
 
     /// Given: the room that is lent. Written: the text.
     pub fn list(&mut self, d: &Drawn, by: u8, lent: fn(&mut Random, usize) -> usize) {
-        let n = calls::list(&d.sheet, by, usize::MAX).map_or(20, |t| t.len());
+        let n = calls::list(&d.sheet, self.most(), by, usize::MAX).map_or(20, |t| t.len());
         let n = lent(&mut self.rng, n);
-        let answer = calls::list(&d.sheet, by, n);
+        let answer = calls::list(&d.sheet, self.most(), by, n);
         let call = Call {
             kind: kind::LIST,
             answer: answer.as_ref().err().copied().unwrap_or(0),
@@ -265,7 +328,7 @@ impl<'a> Calls<'a> {
     pub fn check(&mut self, sheet: &[u8]) -> u8 {
         let call = Call {
             kind: kind::CHECK,
-            answer: calls::check(sheet).err().unwrap_or(0),
+            answer: calls::check(sheet, self.most()).err().unwrap_or(0),
             sheet: sheet.to_vec(),
             behind: vec![170; 1 + self.rng.below(40)],
             ..Call::default()
@@ -277,7 +340,7 @@ impl<'a> Calls<'a> {
     /// The text stands in the sheet's place. Given: the number of lines and, behind what is written, their
     /// lengths, eight bytes each, and bytes that are no length. Written: width and height.
     pub fn label(&mut self, text: &[u8], lengths: &[usize]) {
-        let answer = label_block(text, lengths);
+        let answer = calls::label_size(text, lengths, self.most());
         let (w, h) = answer.unwrap_or((0.0, 0.0));
         let behind = lengths.iter().flat_map(|n| (*n as u64).to_le_bytes()).chain([170; 16]);
         let call = Call {
@@ -309,7 +372,7 @@ impl<'a> Calls<'a> {
     /// Given: the room that is lent, four bytes, at most [`MOST_ROOM`]. Written: the sheet as it is saved. The answer.
     pub fn write_sheet(&mut self, sheet: &[u8], room: usize) -> Result<Vec<u8>, u8> {
         assert!(room <= MOST_ROOM);
-        let call = saving(sheet, room);
+        let call = saving(sheet, self.most(), room);
         let answer = call.answer;
         self.add(&call);
         if answer == 0 { Ok(call.written) } else { Err(answer) }
@@ -317,7 +380,7 @@ impl<'a> Calls<'a> {
 
     /// The same case, spoiled: with this answer and this that is written.
     pub fn spoiled_sheet(&mut self, sheet: &[u8], room: usize, answer: u8, written: &[u8]) {
-        let call = saving(sheet, room);
+        let call = saving(sheet, MAIN_SCREEN, room);
         assert!((answer, written) != (call.answer, &call.written), "it is as it was");
         self.out.spoiled(kind::WRITE_SHEET, call.case(answer, written));
     }
@@ -327,7 +390,7 @@ impl<'a> Calls<'a> {
         self.answers.get(&(kind, answer)).copied().unwrap_or(0)
     }
 
-    fn call(&mut self, kind: u8, d: &Drawn) {
+    pub fn call(&mut self, kind: u8, d: &Drawn) {
         match kind {
             kind::ROUTE => self.route(d, room),
             kind::LAYOUT => {
@@ -346,6 +409,11 @@ impl<'a> Calls<'a> {
                 let (text, lengths) = label_lines(&mut self.rng);
                 self.label(&text, &lengths);
             }
+            kind::WRITE_SHEET => {
+                let n = calls::write_sheet(&d.sheet, self.most(), usize::MAX).map_or(d.sheet.len(), |t| t.len());
+                let n = room(&mut self.rng, n);
+                let _ = self.write_sheet(&d.sheet, n);
+            }
             _ => {
                 let v = number(&mut self.rng);
                 let n = calls::write_num(v, usize::MAX).map_or(3, |t| t.len());
@@ -356,7 +424,7 @@ impl<'a> Calls<'a> {
     }
 }
 
-fn small(rng: &mut Random) -> Sheet {
+pub fn small(rng: &mut Random) -> Sheet {
     let size = Size {
         states: rng.below(7),
         arrows: rng.below(9),
@@ -433,14 +501,14 @@ fn largest(rng: &mut Random) -> Drawn {
 fn too_long(rng: &mut Random) -> Drawn {
     let full = sheets::largest(rng);
     let mut sheet = shuffled(rng, &full);
-    assert!(sheet.len() == 65_536 && calls::check(&sheet).is_ok());
+    assert!(sheet.len() == 65_536 && calls::check(&sheet, MAIN_SCREEN).is_ok());
     sheet.push(0);
-    assert_eq!(calls::check(&sheet), Err(1));
+    assert_eq!(calls::check(&sheet, MAIN_SCREEN), Err(1));
     Drawn { sheet, xs: vec![], ys: vec![] }
 }
 
 /// A drawing for a call at a given turn: some crowded, some far, now and then one of any size.
-fn turn(rng: &mut Random, i: usize) -> Drawn {
+pub fn turn(rng: &mut Random, i: usize) -> Drawn {
     match i % 30 {
         3 => crowded(rng),
         14 => far(rng),
@@ -486,7 +554,7 @@ pub fn cases(c: &mut Calls) {
             while !c.answers.contains_key(&(kind, refusal)) {
                 let drawing = small(rng);
                 let d = drawn(rng, &drawing);
-                if calls::check(&d.sheet) == Err(refusal) {
+                if calls::check(&d.sheet, MAIN_SCREEN) == Err(refusal) {
                     c.call(kind, &d);
                 }
             }

@@ -8,7 +8,7 @@ use crate::calls;
 use crate::generate::{full_pieces, shuffled, starts};
 use crate::random::Random;
 use crate::route::probe::Point;
-use crate::sheet::{Arrow, Line, Sheet};
+use crate::sheet::{Arrow, Line, MAIN_SCREEN, Sheet};
 
 /// A jump is larger than what moving something by one unit in the last place brings about.
 const JUMP: f64 = 1e-4;
@@ -66,9 +66,9 @@ impl Scene {
 fn answer(border: &Border, v: f64) -> Vec<f64> {
     let d = (border.scene)(v).drawn(&mut Random::new(1));
     if border.counted {
-        calls::clutter(&d.sheet, &d.xs, &d.ys).map_or(vec![], |n| vec![n as f64])
+        calls::clutter(&d.sheet, MAIN_SCREEN, &d.xs, &d.ys).map_or(vec![], |n| vec![n as f64])
     } else {
-        calls::route(&d.sheet, &d.xs, &d.ys, (usize::MAX, usize::MAX)).map_or(vec![], |r| r.records)
+        calls::route(&d.sheet, MAIN_SCREEN, &d.xs, &d.ys, (usize::MAX, usize::MAX)).map_or(vec![], |r| r.records)
     }
 }
 

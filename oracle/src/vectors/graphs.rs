@@ -3,7 +3,7 @@
 use super::{Calls, Drawn, plenty};
 use crate::generate::{SORTS, Size, centres, sheet, shuffled, sort_of_starts};
 use crate::random::Random;
-use crate::sheet::read;
+use crate::sheet::{MAIN_SCREEN, read};
 
 /// All in one place, on one line, or none given.
 fn hostile(rng: &mut Random, n: usize) -> (Vec<f64>, Vec<f64>) {
@@ -60,7 +60,7 @@ pub fn cases(c: &mut Calls) {
             }
         };
         let d = drawn(rng, size);
-        starts[sort_of_starts(&read(&d.sheet).unwrap().graph())] += 1;
+        starts[sort_of_starts(&read(&d.sheet, MAIN_SCREEN).unwrap().graph())] += 1;
         c.route(&d, plenty);
         c.layout(&d, [0, 1, 0, 2][i % 4], plenty);
         if i % 2 == 0 {

@@ -5,7 +5,7 @@ use crate::generate::{
     Size, accented_line, full_pieces, gets_accents, ordered, pieces, sheet, shuffled, starts, text, with_accents,
 };
 use crate::random::Random;
-use crate::sheet::{self, Arrow, Line, Sheet, put};
+use crate::sheet::{self, Arrow, Line, MAIN_SCREEN, Sheet, put};
 
 /// Byte strings that are not well-formed UTF-8, or become so by what follows.
 pub const ILL: [&[u8]; 39] = [
@@ -144,7 +144,7 @@ fn lengths(c: &mut Calls, rng: &mut Random) {
     for n in [17, 31, 32, 33, 48] {
         let mut bytes = vec![0; n];
         bytes[0] = 1;
-        let answer = if n == 32 { 1 } else { sheet::read(&bytes).err().unwrap_or(0) };
+        let answer = if n == 32 { 1 } else { sheet::read(&bytes, MAIN_SCREEN).err().unwrap_or(0) };
         expect(c, &bytes, answer);
     }
     for _ in 0..60 {

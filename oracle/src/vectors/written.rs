@@ -8,7 +8,7 @@ use crate::generate::{
     stored,
 };
 use crate::random::Random;
-use crate::sheet::{Arrow, LINE_BYTES, Line, Sheet, put, read};
+use crate::sheet::{Arrow, LINE_BYTES, Line, MAIN_SCREEN, Sheet, put, read};
 
 pub fn cases(c: &mut Calls) {
     let rng = &mut Random::new(505);
@@ -172,7 +172,7 @@ fn refused(c: &mut Calls, rng: &mut Random) {
                 1 | 2 => damage(rng, &mut bytes),
                 _ => {}
             }
-            if read(&bytes).err() == Some(refusal) {
+            if read(&bytes, MAIN_SCREEN).err() == Some(refusal) {
                 let n = bytes.len();
                 let lent = rng.pick(&[0, n / 2, n, n + 20]);
                 assert_eq!(c.write_sheet(&bytes, lent), Err(refusal));

@@ -1,73 +1,57 @@
 -- `call_cases::agrees` meets its contract. Assumes nothing.
-use mathlib.Core.Path.{_≡_, ap, ap₂, _∙_}
-use Prim.Native.Nat.{ℕ, _+_, _-_}
-use native.Mathlib.Omega.{arith}
+use mathlib.Core.Path.{_∙_}
 use denote.Ref.{now}
-use lib.ListN.{take, drop}
 use borrow.Author.Tests.{le-leb, lt-leb}
 use Rattle.cases.specs.Laws.{part-tail}
-use Rattle.call_cases.specs.Cases.{called, callAgrees}
+use Rattle.call_cases.specs.Cases.{calledUnder, callAgrees}
+use Rattle.call_cases.specs.Laws.{of-three}
 use borrow.Author.Needs.{needs}
 use Rattle.call_cases.proofs.agrees.Statement.{statement}
 use Rattle.call_cases.proofs.agrees.Tie as tie
 
-length-at-requires : tie.Need-length-at-requires
-length-at-requires c κs = tt
-
-add-end : tie.Need-add-end
-add-end c = search needs
+case-front-requires : tie.Need-case-front-requires
+case-front-requires c κs = search needs
 
 returns : tie.Need-returns
 unfolding callAgrees
-returns c = rw (← (c .before .length-at .ensures .0), lt-leb _ _ (c .if1 .taken))
+returns c = rw (← (c .before .case-front .ensures), lt-leb _ _ (c .if1 .taken))
 
-byte-requires : tie.Need-byte-requires
-byte-requires c κs = tt
+case-limits-requires : tie.Need-case-limits-requires
+case-limits-requires c κs = search needs
 
-byte-requires-2 : tie.Need-byte-requires-2
-byte-requires-2 c κs = tt
+case-kind-requires : tie.Need-case-kind-requires
+case-kind-requires c κs = search needs
 
-sub-called : tie.Need-sub-called
-sub-called c = search needs
+sub-called-under : tie.Need-sub-called-under
+sub-called-under c = search needs
 
-part-called-start : tie.Need-part-called-start
-part-called-start c = search needs
+part-called-under-start : tie.Need-part-called-under-start
+part-called-under-start c = search needs
 
-part-called-end : tie.Need-part-called-end
-part-called-end c = search needs
+part-called-under-end : tie.Need-part-called-under-end
+part-called-under-end c = search needs
 
-sub-called-2 : tie.Need-sub-called-2
-sub-called-2 c = search needs
-
-part-called-start-2 : tie.Need-part-called-start-2
-part-called-start-2 c = search needs
-
-part-called-end-2 : tie.Need-part-called-end-2
-part-called-end-2 c = search needs
-
-called-requires : tie.Need-called-requires
-called-requires c κs = tt
+called-under-requires : tie.Need-called-under-requires
+called-under-requires c κs = search needs
 
 returns-2 : tie.Need-returns-2
 unfolding callAgrees
 returns-2 c =
-    let e : 6 + c .before .before .before .before .before .before .length-at .result - 6 ≡ c .before .before .before .before .before .before .length-at .result = omega arith in
-    rw (← (c .before .before .before .before .before .before .length-at .ensures .0), le-leb _ _ (c .before .before .before .before .before .if1 .left), ← (c .before .before .before .before .byte .ensures), ← (c .before .before .before .byte2 .ensures)) (c .called .ensures ∙ ap₂ (called (c .before .before .before .before .before .before .before .before .args .kind) (c .before .before .before .before .byte .result) (c .before .before .before .byte2 .result)) (ap (λ (k : ℕ). take k (drop 6 (now (c .before .before .before .before .before .before .before .before .args .p)))) e) (part-tail (6 + c .before .before .before .before .before .before .length-at .result) (now (c .before .before .before .before .before .before .before .before .args .p))))
+    let a = c .before .before .before .before .before .before .before .args in
+    let at = c .before .before .before .before .before .case-front in
+    rw (← (at .ensures), le-leb _ _ (c .before .before .before .before .if1 .left))
+    (c .called-under .ensures ∙ of-three calledUnder _ _ _ _ _ _ (c .before .before .before .case-limits .ensures) (c .before .before .case-kind .ensures) (part-tail (at .result) (now (a .p))))
 
 pub agrees-spec : {M : Type 1} → statement M
 agrees-spec =
     tie.close
     (tie.spec
-    length-at-requires
-    add-end
+    case-front-requires
     returns
-    byte-requires
-    byte-requires-2
-    sub-called
-    part-called-start
-    part-called-end
-    sub-called-2
-    part-called-start-2
-    part-called-end-2
-    called-requires
+    case-limits-requires
+    case-kind-requires
+    sub-called-under
+    part-called-under-start
+    part-called-under-end
+    called-under-requires
     returns-2)

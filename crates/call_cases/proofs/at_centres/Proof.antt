@@ -86,7 +86,7 @@ drawn-agrees-requires c κs = tt
 
 returns-4 : tie.Need-returns-4
 unfolding atCentres
-returns-4 c = rw (← (c .before .before .before .before .before .before .before .before .before .before .before .before .before .before .index .ensures .0), ← (c .before .before .before .before .before .before .before .before .before .before .before .before .before .index2 .ensures .0), le-leb _ _ (c .before .before .before .before .before .before .before .before .before .before .before .before .if1 .left), le-leb _ _ (c .before .before .before .before .before .before .before .before .before .before .before .if2 .left), le-leb _ _ (c .before .before .before .before .before .before .before .before .before .before .if3 .left)) (c .drawn-agrees .ensures ∙ of-three (drawnAgrees (c .before .before .before .before .before .before .before .before .before .before .before .before .before .before .before .before .before .args .kind) (c .before .before .before .before .before .before .before .before .before .before .before .before .before .before .before .before .before .args .answer) (now (c .before .before .before .before .before .before .before .before .before .before .before .before .before .before .before .before .before .args .sheet))) _ _ _ _ _ _ (first-floats (now (c .before .before .before .before .before .before .before .before .before .before .before .before .before .before .before .before .before .args .rest)) 4 (c .before .before .before .before .before .before .before .before .before .before .before .before .before .before .index .result) 80 _ (c .before .before .before .before .before .before .before .before .fill-floats .ensures) (c .before .before .before .before .before .before .before .before .before .before .before .before .if1 .left)) (first-floats (now (c .before .before .before .before .before .before .before .before .before .before .before .before .before .before .before .before .before .args .rest)) (4 + 8 * c .before .before .before .before .before .before .before .before .before .before .before .before .before .before .index .result) (c .before .before .before .before .before .before .before .before .before .before .before .before .before .index2 .result) 80 _ (c .before .before .before .before .before .fill-floats2 .ensures) (c .before .before .before .before .before .before .before .before .before .before .before .if2 .left)) (part-tail (4 + 8 * c .before .before .before .before .before .before .before .before .before .before .before .before .before .before .index .result + 8 * c .before .before .before .before .before .before .before .before .before .before .before .before .before .index2 .result) (now (c .before .before .before .before .before .before .before .before .before .before .before .before .before .before .before .before .before .args .rest))))
+returns-4 c = rw (← (c .before .before .before .before .before .before .before .before .before .before .before .before .before .before .index .ensures .0), ← (c .before .before .before .before .before .before .before .before .before .before .before .before .before .index2 .ensures .0), le-leb _ _ (c .before .before .before .before .before .before .before .before .before .before .before .before .if1 .left), le-leb _ _ (c .before .before .before .before .before .before .before .before .before .before .before .if2 .left), le-leb _ _ (c .before .before .before .before .before .before .before .before .before .before .if3 .left)) (c .drawn-agrees .ensures ∙ of-three (drawnAgrees (c .before .before .before .before .before .before .before .before .before .before .before .before .before .before .before .before .before .args .kind) (c .before .before .before .before .before .before .before .before .before .before .before .before .before .before .before .before .before .args .answer) (now (c .before .before .before .before .before .before .before .before .before .before .before .before .before .before .before .before .before .args .sheet)) (c .before .before .before .before .before .before .before .before .before .before .before .before .before .before .before .before .before .args .m)) _ _ _ _ _ _ (first-floats (now (c .before .before .before .before .before .before .before .before .before .before .before .before .before .before .before .before .before .args .rest)) 4 (c .before .before .before .before .before .before .before .before .before .before .before .before .before .before .index .result) 80 _ (c .before .before .before .before .before .before .before .before .fill-floats .ensures) (c .before .before .before .before .before .before .before .before .before .before .before .before .if1 .left)) (first-floats (now (c .before .before .before .before .before .before .before .before .before .before .before .before .before .before .before .before .before .args .rest)) (4 + 8 * c .before .before .before .before .before .before .before .before .before .before .before .before .before .before .index .result) (c .before .before .before .before .before .before .before .before .before .before .before .before .before .index2 .result) 80 _ (c .before .before .before .before .before .fill-floats2 .ensures) (c .before .before .before .before .before .before .before .before .before .before .before .if2 .left)) (part-tail (4 + 8 * c .before .before .before .before .before .before .before .before .before .before .before .before .before .before .index .result + 8 * c .before .before .before .before .before .before .before .before .before .before .before .before .before .index2 .result) (now (c .before .before .before .before .before .before .before .before .before .before .before .before .before .before .before .before .before .args .rest))))
 
 pub at-centres-spec : {M : Type 1} → statement M
 at-centres-spec =

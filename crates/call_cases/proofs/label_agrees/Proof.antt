@@ -1,5 +1,7 @@
 -- `call_cases::label_agrees` meets its contract. Assumes nothing.
 use mathlib.Core.Path.{sym, ap, _∙_}
+use mathlib.Core.List.{List}
+use Prim.Native.Nat.{ℕ}
 use native.Mathlib.Omega.{arith}
 use denote.Ref.{now}
 use lib.ListN.{take}
@@ -41,7 +43,7 @@ sized-is-requires c κs = tt
 
 returns-2 : tie.Need-returns-2
 unfolding labelAgrees
-returns-2 c = rw (← (c .before .before .before .before .before .before .before .index .ensures .0), le-leb _ _ (c .before .before .before .before .before .before .if1 .left)) (c .sized-is .ensures ∙ ap (λ (o : Outcome (Float × Float)). outcomeRight (c .before .before .before .before .before .before .before .before .before .before .args .answer) (sizeIs (now (c .before .before .before .before .before .before .before .before .before .before .args .rest))) o) (c .before .label-size .ensures ∙ ap (labelSize (now (c .before .before .before .before .before .before .before .before .before .before .args .text))) (ap (take (c .before .before .before .before .before .before .before .index .result)) (c .before .before .before .before .fill-sizes .ensures) ∙ each-first 8 (bitsAt (now (c .before .before .before .before .before .before .before .before .before .before .args .rest))) 18 (c .before .before .before .before .before .before .before .index .result) 16 (c .before .before .before .before .before .before .if1 .left))))
+returns-2 c = rw (← (c .before .before .before .before .before .before .before .index .ensures .0), le-leb _ _ (c .before .before .before .before .before .before .if1 .left)) (c .sized-is .ensures ∙ ap (λ (o : Outcome (Float × Float)). outcomeRight (c .before .before .before .before .before .before .before .before .before .before .args .answer) (sizeIs (now (c .before .before .before .before .before .before .before .before .before .before .args .rest))) o) (c .before .label-size .ensures ∙ ap (λ (l : List ℕ). labelSize (now (c .before .before .before .before .before .before .before .before .before .before .args .text)) l (c .before .before .before .before .before .before .before .before .before .before .args .m)) (ap (take (c .before .before .before .before .before .before .before .index .result)) (c .before .before .before .before .fill-sizes .ensures) ∙ each-first 8 (bitsAt (now (c .before .before .before .before .before .before .before .before .before .before .args .rest))) 18 (c .before .before .before .before .before .before .before .index .result) 16 (c .before .before .before .before .before .before .if1 .left))))
 
 pub label-agrees-spec : {M : Type 1} → statement M
 label-agrees-spec =

@@ -51,9 +51,9 @@ returns c =
     let f : 16 + c .before .before .before .before .before .before .before .before .before .before .args .ny - 16 ≡ c .before .before .before .before .before .before .before .before .before .before .args .ny = omega arith in
     let x = lent-many (c .before .before .before .before .before .before .before .before .before .before .args .nx) _ (now (c .before .before .before .before .before .before .before .before .before .before .args .xs)) e (c .before .before .before .before .before .before .before .before .before .before .pre .0) in
     let y = lent-many (c .before .before .before .before .before .before .before .before .before .before .args .ny) _ (now (c .before .before .before .before .before .before .before .before .before .before .args .ys)) f (c .before .before .before .before .before .before .before .before .before .before .pre .1) in (
-      c .before .before .before .before .layout .ensures .0 ∙ ap₂ (layout (now (c .before .before .before .before .before .before .before .before .before .before .args .sheet)) (c .before .before .before .before .before .before .before .before .before .before .args .by)) x y,
-      middle-back (c .before .before .before .before .before .before .before .before .before .before .args .nx) _ (now (c .before .before .before .before .before .before .before .before .before .before .args .xs)) _ (λ (l : List Float). xsAfter (now (c .before .before .before .before .before .before .before .before .before .before .args .sheet)) (c .before .before .before .before .before .before .before .before .before .before .args .by) l (c .before .before .before .before .before .before .before .before .before .before .args .ny)) e (c .before .before .before .before .layout .ensures .1 ∙ ap₂ (λ (k m : ℕ). xsAfter (now (c .before .before .before .before .before .before .before .before .before .before .args .sheet)) (c .before .before .before .before .before .before .before .before .before .before .args .by) (take k (drop 16 (now (c .before .before .before .before .before .before .before .before .before .before .args .xs)))) m) e y),
-      middle-back (c .before .before .before .before .before .before .before .before .before .before .args .ny) _ (now (c .before .before .before .before .before .before .before .before .before .before .args .ys)) _ (ysAfter (now (c .before .before .before .before .before .before .before .before .before .before .args .sheet)) (c .before .before .before .before .before .before .before .before .before .before .args .by) (c .before .before .before .before .before .before .before .before .before .before .args .nx)) f (c .before .before .before .before .layout .ensures .2 ∙ ap₂ (λ (m k : ℕ). ysAfter (now (c .before .before .before .before .before .before .before .before .before .before .args .sheet)) (c .before .before .before .before .before .before .before .before .before .before .args .by) m (take k (drop 16 (now (c .before .before .before .before .before .before .before .before .before .before .args .ys))))) x f),
+      c .before .before .before .before .layout .ensures .0 ∙ ap₂ (layout (now (c .before .before .before .before .before .before .before .before .before .before .args .sheet)) (c .before .before .before .before .before .before .before .before .before .before .args .m) (c .before .before .before .before .before .before .before .before .before .before .args .by)) x y,
+      middle-back (c .before .before .before .before .before .before .before .before .before .before .args .nx) _ (now (c .before .before .before .before .before .before .before .before .before .before .args .xs)) _ (λ (l : List Float). xsAfter (now (c .before .before .before .before .before .before .before .before .before .before .args .sheet)) (c .before .before .before .before .before .before .before .before .before .before .args .m) (c .before .before .before .before .before .before .before .before .before .before .args .by) l (c .before .before .before .before .before .before .before .before .before .before .args .ny)) e (c .before .before .before .before .layout .ensures .1 ∙ ap₂ (λ (k m : ℕ). xsAfter (now (c .before .before .before .before .before .before .before .before .before .before .args .sheet)) (c .before .before .before .before .before .before .before .before .before .before .args .m) (c .before .before .before .before .before .before .before .before .before .before .args .by) (take k (drop 16 (now (c .before .before .before .before .before .before .before .before .before .before .args .xs)))) m) e y),
+      middle-back (c .before .before .before .before .before .before .before .before .before .before .args .ny) _ (now (c .before .before .before .before .before .before .before .before .before .before .args .ys)) _ (ysAfter (now (c .before .before .before .before .before .before .before .before .before .before .args .sheet)) (c .before .before .before .before .before .before .before .before .before .before .args .m) (c .before .before .before .before .before .before .before .before .before .before .args .by) (c .before .before .before .before .before .before .before .before .before .before .args .nx)) f (c .before .before .before .before .layout .ensures .2 ∙ ap₂ (λ (m k : ℕ). ysAfter (now (c .before .before .before .before .before .before .before .before .before .before .args .sheet)) (c .before .before .before .before .before .before .before .before .before .before .args .m) (c .before .before .before .before .before .before .before .before .before .before .args .by) m (take k (drop 16 (now (c .before .before .before .before .before .before .before .before .before .before .args .ys))))) x f),
     )
 
 pub layout-in-spec : {M : Type 1} → statement M

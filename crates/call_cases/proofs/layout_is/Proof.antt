@@ -28,10 +28,10 @@ laid-out-is-requires : tie.Need-laid-out-is-requires
 laid-out-is-requires c κs = tt
 
 same-length : tie.Need-same-length
-same-length c = c .before .before .before .before .before .before .layout-in .kept .1 .1 .1 .1 .0
+same-length c = c .before .before .before .before .before .before .layout-in .kept .1 .1 .1 .1 .1 .0
 
 same-length-2 : tie.Need-same-length-2
-same-length-2 c = c .before .before .before .before .before .before .layout-in .kept .1 .1 .1 .1 .1 .0
+same-length-2 c = c .before .before .before .before .before .before .layout-in .kept .1 .1 .1 .1 .1 .1 .0
 
 returns : tie.Need-returns
 unfolding layoutIs
@@ -41,10 +41,10 @@ numbers-in-requires : tie.Need-numbers-in-requires
 numbers-in-requires c κs = tt
 
 same-length-3 : tie.Need-same-length-3
-same-length-3 c = c .before .before .before .before .before .before .before .before .before .layout-in .kept .1 .1 .1 .1 .0
+same-length-3 c = c .before .before .before .before .before .before .before .before .before .layout-in .kept .1 .1 .1 .1 .1 .0
 
 same-length-4 : tie.Need-same-length-4
-same-length-4 c = c .before .before .before .before .before .before .before .before .before .layout-in .kept .1 .1 .1 .1 .1 .0
+same-length-4 c = c .before .before .before .before .before .before .before .before .before .layout-in .kept .1 .1 .1 .1 .1 .1 .0
 
 returns-2 : tie.Need-returns-2
 unfolding layoutIs
@@ -60,10 +60,10 @@ numbers-in-requires-2 : tie.Need-numbers-in-requires-2
 numbers-in-requires-2 c κs = tt
 
 same-length-5 : tie.Need-same-length-5
-same-length-5 c = c .before .before .before .before .before .before .before .before .before .before .before .layout-in .kept .1 .1 .1 .1 .0
+same-length-5 c = c .before .before .before .before .before .before .before .before .before .before .before .layout-in .kept .1 .1 .1 .1 .1 .0
 
 same-length-6 : tie.Need-same-length-6
-same-length-6 c = c .before .before .before .before .before .before .before .before .before .before .before .layout-in .kept .1 .1 .1 .1 .1 .0
+same-length-6 c = c .before .before .before .before .before .before .before .before .before .before .before .layout-in .kept .1 .1 .1 .1 .1 .1 .0
 
 returns-3 : tie.Need-returns-3
 unfolding layoutIs

@@ -35,7 +35,7 @@ list-is-requires c κs = search needs
 
 returns-2 : tie.Need-returns-2
 unfolding listAgrees
-returns-2 c = rw (le-leb _ _ (c .before .before .before .before .if1 .left), ← (c .before .before .before .before .before .index .ensures .0)) (c .before .list-is .ensures ∙ ap (λ (t : List ℕ). listIs (c .before .before .before .before .before .before .before .before .args .answer) (c .before .before .before .before .before .before .before .before .args .by) (now (c .before .before .before .before .before .before .before .before .args .sheet)) (c .before .before .before .before .before .index .result) t (replicate 65600 170)) (part-tail 2 (now (c .before .before .before .before .before .before .before .before .args .rest))))
+returns-2 c = rw (le-leb _ _ (c .before .before .before .before .if1 .left), ← (c .before .before .before .before .before .index .ensures .0)) (c .before .list-is .ensures ∙ ap (λ (t : List ℕ). listIs (c .before .before .before .before .before .before .before .before .args .answer) (c .before .before .before .before .before .before .before .before .args .by) (now (c .before .before .before .before .before .before .before .before .args .sheet)) (c .before .before .before .before .before .before .before .before .args .m) (c .before .before .before .before .before .index .result) t (replicate 65600 170)) (part-tail 2 (now (c .before .before .before .before .before .before .before .before .args .rest))))
 
 pub list-agrees-spec : {M : Type 1} → statement M
 list-agrees-spec =

@@ -31,7 +31,7 @@ same-length c = search needs
 returns : tie.Need-returns
 returns c =
     let e : 16 + c .before .before .before .before .before .before .args .room - 16 ≡ c .before .before .before .before .before .before .args .room = omega arith in
-    (c .before .before .list .ensures .0 ∙ ap (list (now (c .before .before .before .before .before .before .args .sheet)) (c .before .before .before .before .before .before .args .by)) (lent-many (c .before .before .before .before .before .before .args .room) _ (now (c .before .before .before .before .before .before .args .out)) e (omega arith)), middle-back (c .before .before .before .before .before .before .args .room) _ (now (c .before .before .before .before .before .before .args .out)) _ (listAfter (now (c .before .before .before .before .before .before .args .sheet)) (c .before .before .before .before .before .before .args .by)) e (c .before .before .list .ensures .1 ∙ ap (λ (k : ℕ). listAfter (now (c .before .before .before .before .before .before .args .sheet)) (c .before .before .before .before .before .before .args .by) (take k (drop 16 (now (c .before .before .before .before .before .before .args .out))))) e))
+    (c .before .before .list .ensures .0 ∙ ap (list (now (c .before .before .before .before .before .before .args .sheet)) (c .before .before .before .before .before .before .args .m) (c .before .before .before .before .before .before .args .by)) (lent-many (c .before .before .before .before .before .before .args .room) _ (now (c .before .before .before .before .before .before .args .out)) e (omega arith)), middle-back (c .before .before .before .before .before .before .args .room) _ (now (c .before .before .before .before .before .before .args .out)) _ (listAfter (now (c .before .before .before .before .before .before .args .sheet)) (c .before .before .before .before .before .before .args .m) (c .before .before .before .before .before .before .args .by)) e (c .before .before .list .ensures .1 ∙ ap (λ (k : ℕ). listAfter (now (c .before .before .before .before .before .before .args .sheet)) (c .before .before .before .before .before .before .args .m) (c .before .before .before .before .before .before .args .by) (take k (drop 16 (now (c .before .before .before .before .before .before .args .out))))) e))
 
 pub list-in-spec : {M : Type 1} → statement M
 list-in-spec =

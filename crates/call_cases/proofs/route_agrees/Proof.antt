@@ -58,7 +58,7 @@ route-is-requires c κs = search needs
 
 returns-4 : tie.Need-returns-4
 unfolding routeAgrees
-returns-4 c = rw (← (c .before .before .before .before .before .before .before .before .before .before .index2 .ensures .0), le-leb _ _ (c .before .before .before .before .before .before .before .before .before .if1 .left), ← (c .before .before .before .before .before .before .before .before .index3 .ensures .0), le-leb _ _ (c .before .before .before .before .before .before .before .if2 .left), ← (c .before .before .before .before .before .before .before .before .before .before .before .index .ensures .0), le-leb _ _ (c .before .before .before .before .before .before .if3 .left)) (c .before .before .route-is .ensures ∙ ap (λ (t : List ℕ). routeIs (c .before .before .before .before .before .before .before .before .before .before .before .before .before .before .before .before .args .answer) (now (c .before .before .before .before .before .before .before .before .before .before .before .before .before .before .before .before .args .sheet)) (now (c .before .before .before .before .before .before .before .before .before .before .before .before .before .before .before .before .args .xs)) (now (c .before .before .before .before .before .before .before .before .before .before .before .before .before .before .before .before .args .ys)) (now (c .before .before .before .before .before .before .before .before .before .before .before .before .before .before .before .before .args .rest)) t (replicate 5248 unset) (replicate 25732 170)) (part-tail (6 + 8 * c .before .before .before .before .before .before .before .before .before .before .before .index .result) (now (c .before .before .before .before .before .before .before .before .before .before .before .before .before .before .before .before .args .rest))))
+returns-4 c = rw (← (c .before .before .before .before .before .before .before .before .before .before .index2 .ensures .0), le-leb _ _ (c .before .before .before .before .before .before .before .before .before .if1 .left), ← (c .before .before .before .before .before .before .before .before .index3 .ensures .0), le-leb _ _ (c .before .before .before .before .before .before .before .if2 .left), ← (c .before .before .before .before .before .before .before .before .before .before .before .index .ensures .0), le-leb _ _ (c .before .before .before .before .before .before .if3 .left)) (c .before .before .route-is .ensures ∙ ap (λ (t : List ℕ). routeIs (c .before .before .before .before .before .before .before .before .before .before .before .before .before .before .before .before .args .answer) (now (c .before .before .before .before .before .before .before .before .before .before .before .before .before .before .before .before .args .sheet)) (c .before .before .before .before .before .before .before .before .before .before .before .before .before .before .before .before .args .m) (now (c .before .before .before .before .before .before .before .before .before .before .before .before .before .before .before .before .args .xs)) (now (c .before .before .before .before .before .before .before .before .before .before .before .before .before .before .before .before .args .ys)) (now (c .before .before .before .before .before .before .before .before .before .before .before .before .before .before .before .before .args .rest)) t (replicate 5248 unset) (replicate 25732 170)) (part-tail (6 + 8 * c .before .before .before .before .before .before .before .before .before .before .before .index .result) (now (c .before .before .before .before .before .before .before .before .before .before .before .before .before .before .before .before .args .rest))))
 
 pub route-agrees-spec : {M : Type 1} → statement M
 route-agrees-spec =

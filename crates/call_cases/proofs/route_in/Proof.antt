@@ -51,9 +51,9 @@ returns c =
     let f : 16 + c .before .before .before .before .before .before .before .before .before .before .before .before .args .bytes - 16 ≡ c .before .before .before .before .before .before .before .before .before .before .before .before .args .bytes = omega arith in
     let x = lent-many (c .before .before .before .before .before .before .before .before .before .before .before .before .args .room) _ (now (c .before .before .before .before .before .before .before .before .before .before .before .before .args .records)) e (c .before .before .before .before .before .before .before .before .before .before .before .before .pre .0) in
     let y = lent-many (c .before .before .before .before .before .before .before .before .before .before .before .before .args .bytes) _ (now (c .before .before .before .before .before .before .before .before .before .before .before .before .args .out)) f (c .before .before .before .before .before .before .before .before .before .before .before .before .pre .1) in (
-      c .before .before .before .before .route .ensures .0 ∙ ap₂ (route (now (c .before .before .before .before .before .before .before .before .before .before .before .before .args .sheet)) (now (c .before .before .before .before .before .before .before .before .before .before .before .before .args .xs)) (now (c .before .before .before .before .before .before .before .before .before .before .before .before .args .ys))) x y,
-      middle-back (c .before .before .before .before .before .before .before .before .before .before .before .before .args .room) _ (now (c .before .before .before .before .before .before .before .before .before .before .before .before .args .records)) _ (λ (l : List Float). recordsAfter (now (c .before .before .before .before .before .before .before .before .before .before .before .before .args .sheet)) (now (c .before .before .before .before .before .before .before .before .before .before .before .before .args .xs)) (now (c .before .before .before .before .before .before .before .before .before .before .before .before .args .ys)) l (c .before .before .before .before .before .before .before .before .before .before .before .before .args .bytes)) e (c .before .before .before .before .route .ensures .1 ∙ ap₂ (λ (k m : ℕ). recordsAfter (now (c .before .before .before .before .before .before .before .before .before .before .before .before .args .sheet)) (now (c .before .before .before .before .before .before .before .before .before .before .before .before .args .xs)) (now (c .before .before .before .before .before .before .before .before .before .before .before .before .args .ys)) (take k (drop 16 (now (c .before .before .before .before .before .before .before .before .before .before .before .before .args .records)))) m) e y),
-      middle-back (c .before .before .before .before .before .before .before .before .before .before .before .before .args .bytes) _ (now (c .before .before .before .before .before .before .before .before .before .before .before .before .args .out)) _ (textAfter (now (c .before .before .before .before .before .before .before .before .before .before .before .before .args .sheet)) (now (c .before .before .before .before .before .before .before .before .before .before .before .before .args .xs)) (now (c .before .before .before .before .before .before .before .before .before .before .before .before .args .ys)) (c .before .before .before .before .before .before .before .before .before .before .before .before .args .room)) f (c .before .before .before .before .route .ensures .2 ∙ ap₂ (λ (m k : ℕ). textAfter (now (c .before .before .before .before .before .before .before .before .before .before .before .before .args .sheet)) (now (c .before .before .before .before .before .before .before .before .before .before .before .before .args .xs)) (now (c .before .before .before .before .before .before .before .before .before .before .before .before .args .ys)) m (take k (drop 16 (now (c .before .before .before .before .before .before .before .before .before .before .before .before .args .out))))) x f),
+      c .before .before .before .before .route .ensures .0 ∙ ap₂ (route (now (c .before .before .before .before .before .before .before .before .before .before .before .before .args .sheet)) (c .before .before .before .before .before .before .before .before .before .before .before .before .args .m) (now (c .before .before .before .before .before .before .before .before .before .before .before .before .args .xs)) (now (c .before .before .before .before .before .before .before .before .before .before .before .before .args .ys))) x y,
+      middle-back (c .before .before .before .before .before .before .before .before .before .before .before .before .args .room) _ (now (c .before .before .before .before .before .before .before .before .before .before .before .before .args .records)) _ (λ (l : List Float). recordsAfter (now (c .before .before .before .before .before .before .before .before .before .before .before .before .args .sheet)) (c .before .before .before .before .before .before .before .before .before .before .before .before .args .m) (now (c .before .before .before .before .before .before .before .before .before .before .before .before .args .xs)) (now (c .before .before .before .before .before .before .before .before .before .before .before .before .args .ys)) l (c .before .before .before .before .before .before .before .before .before .before .before .before .args .bytes)) e (c .before .before .before .before .route .ensures .1 ∙ ap₂ (λ (k m : ℕ). recordsAfter (now (c .before .before .before .before .before .before .before .before .before .before .before .before .args .sheet)) (c .before .before .before .before .before .before .before .before .before .before .before .before .args .m) (now (c .before .before .before .before .before .before .before .before .before .before .before .before .args .xs)) (now (c .before .before .before .before .before .before .before .before .before .before .before .before .args .ys)) (take k (drop 16 (now (c .before .before .before .before .before .before .before .before .before .before .before .before .args .records)))) m) e y),
+      middle-back (c .before .before .before .before .before .before .before .before .before .before .before .before .args .bytes) _ (now (c .before .before .before .before .before .before .before .before .before .before .before .before .args .out)) _ (textAfter (now (c .before .before .before .before .before .before .before .before .before .before .before .before .args .sheet)) (c .before .before .before .before .before .before .before .before .before .before .before .before .args .m) (now (c .before .before .before .before .before .before .before .before .before .before .before .before .args .xs)) (now (c .before .before .before .before .before .before .before .before .before .before .before .before .args .ys)) (c .before .before .before .before .before .before .before .before .before .before .before .before .args .room)) f (c .before .before .before .before .route .ensures .2 ∙ ap₂ (λ (m k : ℕ). textAfter (now (c .before .before .before .before .before .before .before .before .before .before .before .before .args .sheet)) (c .before .before .before .before .before .before .before .before .before .before .before .before .args .m) (now (c .before .before .before .before .before .before .before .before .before .before .before .before .args .xs)) (now (c .before .before .before .before .before .before .before .before .before .before .before .before .args .ys)) m (take k (drop 16 (now (c .before .before .before .before .before .before .before .before .before .before .before .before .args .out))))) x f),
     )
 
 pub route-in-spec : {M : Type 1} → statement M

@@ -28,10 +28,10 @@ routed-is-requires : tie.Need-routed-is-requires
 routed-is-requires c κs = tt
 
 same-length : tie.Need-same-length
-same-length c = c .before .before .before .before .before .before .route-in .kept .1 .1 .1 .1 .1 .0
+same-length c = c .before .before .before .before .before .before .route-in .kept .1 .1 .1 .1 .1 .1 .0
 
 same-length-2 : tie.Need-same-length-2
-same-length-2 c = c .before .before .before .before .before .before .route-in .kept .1 .1 .1 .1 .1 .1 .0
+same-length-2 c = c .before .before .before .before .before .before .route-in .kept .1 .1 .1 .1 .1 .1 .1 .0
 
 returns : tie.Need-returns
 unfolding routeIs
@@ -41,10 +41,10 @@ numbers-in-requires : tie.Need-numbers-in-requires
 numbers-in-requires c κs = tt
 
 same-length-3 : tie.Need-same-length-3
-same-length-3 c = c .before .before .before .before .before .before .before .before .before .route-in .kept .1 .1 .1 .1 .1 .0
+same-length-3 c = c .before .before .before .before .before .before .before .before .before .route-in .kept .1 .1 .1 .1 .1 .1 .0
 
 same-length-4 : tie.Need-same-length-4
-same-length-4 c = c .before .before .before .before .before .before .before .before .before .route-in .kept .1 .1 .1 .1 .1 .1 .0
+same-length-4 c = c .before .before .before .before .before .before .before .before .before .route-in .kept .1 .1 .1 .1 .1 .1 .1 .0
 
 returns-2 : tie.Need-returns-2
 unfolding routeIs
@@ -54,10 +54,10 @@ text-stands-requires : tie.Need-text-stands-requires
 text-stands-requires c κs = tt
 
 same-length-5 : tie.Need-same-length-5
-same-length-5 c = c .before .before .before .before .before .before .before .before .before .before .before .route-in .kept .1 .1 .1 .1 .1 .0
+same-length-5 c = c .before .before .before .before .before .before .before .before .before .before .before .route-in .kept .1 .1 .1 .1 .1 .1 .0
 
 same-length-6 : tie.Need-same-length-6
-same-length-6 c = c .before .before .before .before .before .before .before .before .before .before .before .route-in .kept .1 .1 .1 .1 .1 .1 .0
+same-length-6 c = c .before .before .before .before .before .before .before .before .before .before .before .route-in .kept .1 .1 .1 .1 .1 .1 .1 .0
 
 returns-3 : tie.Need-returns-3
 unfolding routeIs

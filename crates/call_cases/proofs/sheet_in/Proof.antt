@@ -31,7 +31,7 @@ same-length c = search needs
 returns : tie.Need-returns
 returns c =
     let e : 16 + c .before .before .before .before .before .before .args .room - 16 ≡ c .before .before .before .before .before .before .args .room = omega arith in
-    (c .before .before .write-sheet .ensures .0 ∙ ap (writeSheet (now (c .before .before .before .before .before .before .args .sheet))) (lent-many (c .before .before .before .before .before .before .args .room) _ (now (c .before .before .before .before .before .before .args .out)) e (omega arith)), middle-back (c .before .before .before .before .before .before .args .room) _ (now (c .before .before .before .before .before .before .args .out)) _ (writeSheetAfter (now (c .before .before .before .before .before .before .args .sheet))) e (c .before .before .write-sheet .ensures .1 ∙ ap (λ (k : ℕ). writeSheetAfter (now (c .before .before .before .before .before .before .args .sheet)) (take k (drop 16 (now (c .before .before .before .before .before .before .args .out))))) e))
+    (c .before .before .write-sheet .ensures .0 ∙ ap (writeSheet (now (c .before .before .before .before .before .before .args .sheet)) (c .before .before .before .before .before .before .args .m)) (lent-many (c .before .before .before .before .before .before .args .room) _ (now (c .before .before .before .before .before .before .args .out)) e (omega arith)), middle-back (c .before .before .before .before .before .before .args .room) _ (now (c .before .before .before .before .before .before .args .out)) _ (writeSheetAfter (now (c .before .before .before .before .before .before .args .sheet)) (c .before .before .before .before .before .before .args .m)) e (c .before .before .write-sheet .ensures .1 ∙ ap (λ (k : ℕ). writeSheetAfter (now (c .before .before .before .before .before .before .args .sheet)) (c .before .before .before .before .before .before .args .m) (take k (drop 16 (now (c .before .before .before .before .before .before .args .out))))) e))
 
 pub sheet-in-spec : {M : Type 1} → statement M
 sheet-in-spec =

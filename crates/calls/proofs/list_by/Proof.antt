@@ -32,7 +32,8 @@ slice-aggregate-totals-of c = search needs
 totals-of-requires : tie.Need-totals-of-requires
 totals-of-requires c κs =
     let a = c .before .before .before .before .before .before .before .before .before .before .before .before .before .before .before .before .args in
-    held (now (a .sheet)) (now (a .xs)) (now (a .ys)) (c .before .before .drawn2 .given .0 .0) _ _ (omega arith) (sym (c .before .before .drawn2 .given .1) ∙ c .before .before .before .before .before .draw .ensures .0) (c .before .before .before .before .before .draw .ensures .1) .room
+    let q = c .before .before .before .before .before .before .before .before .before .before .before .before .before .before .before .before .pre in
+    held (now (a .sheet)) (a .m) (now (a .xs)) (now (a .ys)) (q .3) (q .4) (c .before .before .drawn2 .given .0 .0) _ _ (omega arith) (sym (c .before .before .drawn2 .given .1) ∙ c .before .before .before .before .before .draw .ensures .0) (c .before .before .before .before .before .draw .ensures .1) .room
 
 slice-aggregate-write-listing : tie.Need-slice-aggregate-write-listing
 slice-aggregate-write-listing c = search needs
@@ -40,7 +41,8 @@ slice-aggregate-write-listing c = search needs
 write-listing-requires : tie.Need-write-listing-requires
 write-listing-requires c κs =
     let a = c .before .before .before .before .before .before .before .before .before .before .before .before .before .before .before .before .before .before .before .before .args in
-    (omega arith, omega arith, held (now (a .sheet)) (now (a .xs)) (now (a .ys)) (c .before .before .before .before .before .before .drawn2 .given .0 .0) _ _ (omega arith) (sym (c .before .before .before .before .before .before .drawn2 .given .1) ∙ c .before .before .before .before .before .before .before .before .before .draw .ensures .0) (c .before .before .before .before .before .before .before .before .before .draw .ensures .1) .room)
+    let q = c .before .before .before .before .before .before .before .before .before .before .before .before .before .before .before .before .before .before .before .before .pre in
+    (omega (arith, q .0), omega (arith, q .1, c .before .before .before .before .before .before .before .before .before .before .before .before .before .flags-into .kept .1 .0), held (now (a .sheet)) (a .m) (now (a .xs)) (now (a .ys)) (q .3) (q .4) (c .before .before .before .before .before .before .drawn2 .given .0 .0) _ _ (omega arith) (sym (c .before .before .before .before .before .before .drawn2 .given .1) ∙ c .before .before .before .before .before .before .before .before .before .draw .ensures .0) (c .before .before .before .before .before .before .before .before .before .draw .ensures .1) .room)
 
 same-length : tie.Need-same-length
 same-length c = search needs
@@ -48,7 +50,8 @@ same-length c = search needs
 returns : tie.Need-returns
 returns c =
     let a = c .before .before .before .before .before .before .before .before .before .before .before .before .before .before .before .args in
-    at-refused (now (a .sheet)) (a .width) (a .height) (now (a .xs)) (now (a .ys)) (now (a .out)) (c .before .drawn .given .0 .0) (sym (c .before .drawn .given .1) ∙ c .before .before .before .before .draw .ensures .0)
+    let q = c .before .before .before .before .before .before .before .before .before .before .before .before .before .before .before .pre in
+    at-refused (now (a .sheet)) (a .m) (a .width) (a .height) (now (a .xs)) (now (a .ys)) (now (a .out)) (c .before .drawn .given .0 .0) (sym (c .before .drawn .given .1) ∙ c .before .before .before .before .draw .ensures .0)
 
 same-length-2 : tie.Need-same-length-2
 same-length-2 c = search needs
@@ -59,10 +62,11 @@ same-length-3 c = search needs
 returns-2 : tie.Need-returns-2
 returns-2 c =
     let a = c .before .before .before .before .before .before .before .before .before .before .before .before .before .before .before .before .before .before .before .before .before .before .before .args in
+    let q = c .before .before .before .before .before .before .before .before .before .before .before .before .before .before .before .before .before .before .before .before .before .before .before .pre in
     let s = now (a .sheet) in
-    at-drawn s (a .width) (a .height) (now (a .xs)) (now (a .ys)) (now (a .out)) (c .before .before .before .before .before .before .before .before .before .drawn2 .given .0 .0) _
-    (held s (now (a .xs)) (now (a .ys)) (c .before .before .before .before .before .before .before .before .before .drawn2 .given .0 .0) _ _ (omega arith) (sym (c .before .before .before .before .before .before .before .before .before .drawn2 .given .1) ∙ c .before .before .before .before .before .before .before .before .before .before .before .before .draw .ensures .0) (c .before .before .before .before .before .before .before .before .before .before .before .before .draw .ensures .1)) _
-    (c .before .before .before .before .before .before .before .before .before .before .before .before .before .before .before .before .flags-into .ensures ∙ put-whole (now (a .flags)) (flagsOf (meaning s)) (omega (arith, length-map (statesOf s) (λ a. a .flags), c .before .before .before .before .before .before .before .before .before .before .before .before .before .before .before .before .before .before .before .before .before .before .before .pre .1, c .before .before .before .before .before .before .before .before .before .before .before .before .before .before .before .before .before .before .before .before .before .before .before .pre .2))) _ (c .before .before .before .before .before .before .totals-of .ensures) _ _ (c .before .before .write-listing .ensures)
+    at-drawn s (a .m) (a .width) (a .height) (now (a .xs)) (now (a .ys)) (now (a .out)) (c .before .before .before .before .before .before .before .before .before .drawn2 .given .0 .0) _
+    (held s (a .m) (now (a .xs)) (now (a .ys)) (q .3) (q .4) (c .before .before .before .before .before .before .before .before .before .drawn2 .given .0 .0) _ _ (omega arith) (sym (c .before .before .before .before .before .before .before .before .before .drawn2 .given .1) ∙ c .before .before .before .before .before .before .before .before .before .before .before .before .draw .ensures .0) (c .before .before .before .before .before .before .before .before .before .before .before .before .draw .ensures .1)) _
+    (c .before .before .before .before .before .before .before .before .before .before .before .before .before .before .before .before .flags-into .ensures ∙ put-whole (now (a .flags)) (flagsOf (meaning s)) (omega (arith, length-map (statesOf s) (λ a. a .flags), q .1, q .2))) _ (c .before .before .before .before .before .before .totals-of .ensures) _ _ (c .before .before .write-listing .ensures)
 
 pub list-by-spec : {M : Type 1} → statement M
 list-by-spec =

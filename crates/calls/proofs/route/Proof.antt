@@ -8,6 +8,9 @@ use borrow.Author.Needs.{needs}
 use Rattle.calls.proofs.route.Statement.{statement}
 use Rattle.calls.proofs.route.Tie as tie
 
+capped-limits-requires : tie.Need-capped-limits-requires
+capped-limits-requires c κs = search needs
+
 slice-aggregate-draw : tie.Need-slice-aggregate-draw
 slice-aggregate-draw c = search needs
 
@@ -24,10 +27,17 @@ slice-aggregate-write-route : tie.Need-slice-aggregate-write-route
 slice-aggregate-write-route c = search needs
 
 write-route-requires : tie.Need-write-route-requires
-write-route-requires c κs = ready (held (now (c .before .before .before .before .before .before .before .before .before .before .before .before .before .before .args .sheet)) (now (c .before .before .before .before .before .before .before .before .before .before .before .before .before .before .args .xs)) (now (c .before .before .before .before .before .before .before .before .before .before .before .before .before .before .args .ys)) (c .before .before .before .before .drawn2 .given .0 .0) _ _ (omega arith) (sym (c .before .before .before .before .drawn2 .given .1) ∙ c .before .before .before .before .before .before .before .draw .ensures .0) (c .before .before .before .before .before .before .before .draw .ensures .1)) _ (omega arith)
+write-route-requires c κs =
+    let a = c .before .before .before .before .before .before .before .before .before .before .before .before .before .before .before .args in
+    let b = c .before .before .before .before .before .before .before .before .before .capped-limits in
+    let d = c .before .before .before .before .before .before .before .draw in
+    ready (held (now (a .sheet)) (b .result) (now (a .xs)) (now (a .ys)) (b .ensures .1) (b .ensures .2) (c .before .before .before .before .drawn2 .given .0 .0) _ _ (omega arith) (sym (c .before .before .before .before .drawn2 .given .1) ∙ d .ensures .0) (d .ensures .1)) _ (omega arith)
 
 returns : tie.Need-returns
-returns c = call-refused (now (c .before .before .before .before .before .before .before .before .before .before .before .args .sheet)) (now (c .before .before .before .before .before .before .before .before .before .before .before .args .xs)) (now (c .before .before .before .before .before .before .before .before .before .before .before .args .ys)) (now (c .before .before .before .before .before .before .before .before .before .before .before .args .records)) (now (c .before .before .before .before .before .before .before .before .before .before .before .args .text)) (c .before .drawn .given .0 .0) (sym (c .before .drawn .given .1) ∙ c .before .before .before .before .draw .ensures .0)
+returns c =
+    let a = c .before .before .before .before .before .before .before .before .before .before .before .before .args in
+    let b = c .before .before .before .before .before .before .capped-limits in
+    call-refused (now (a .sheet)) (a .limits) (now (a .xs)) (now (a .ys)) (b .ensures .0) (now (a .records)) (now (a .text)) (c .before .drawn .given .0 .0) (sym (c .before .drawn .given .1) ∙ c .before .before .before .before .draw .ensures .0)
 
 same-length : tie.Need-same-length
 same-length c = search needs
@@ -36,12 +46,17 @@ same-length-2 : tie.Need-same-length-2
 same-length-2 c = search needs
 
 returns-2 : tie.Need-returns-2
-returns-2 c = call-drawn (now (c .before .before .before .before .before .before .before .before .before .before .before .before .before .before .before .before .before .before .before .args .sheet)) (now (c .before .before .before .before .before .before .before .before .before .before .before .before .before .before .before .before .before .before .before .args .xs)) (now (c .before .before .before .before .before .before .before .before .before .before .before .before .before .before .before .before .before .before .before .args .ys)) (now (c .before .before .before .before .before .before .before .before .before .before .before .before .before .before .before .before .before .before .before .args .records)) (now (c .before .before .before .before .before .before .before .before .before .before .before .before .before .before .before .before .before .before .before .args .text)) (c .before .before .before .before .before .before .before .before .before .drawn2 .given .0 .0) _ (held (now (c .before .before .before .before .before .before .before .before .before .before .before .before .before .before .before .before .before .before .before .args .sheet)) (now (c .before .before .before .before .before .before .before .before .before .before .before .before .before .before .before .before .before .before .before .args .xs)) (now (c .before .before .before .before .before .before .before .before .before .before .before .before .before .before .before .before .before .before .before .args .ys)) (c .before .before .before .before .before .before .before .before .before .drawn2 .given .0 .0) _ _ (omega arith) (sym (c .before .before .before .before .before .before .before .before .before .drawn2 .given .1) ∙ c .before .before .before .before .before .before .before .before .before .before .before .before .draw .ensures .0) (c .before .before .before .before .before .before .before .before .before .before .before .before .draw .ensures .1)) _ _ _ (c .before .before .before .before .write-route .ensures)
+returns-2 c =
+    let a = c .before .before .before .before .before .before .before .before .before .before .before .before .before .before .before .before .before .before .before .before .args in
+    let b = c .before .before .before .before .before .before .before .before .before .before .before .before .before .before .capped-limits in
+    let d = c .before .before .before .before .before .before .before .before .before .before .before .before .draw in
+    call-drawn (now (a .sheet)) (a .limits) (now (a .xs)) (now (a .ys)) (b .ensures .0) (now (a .records)) (now (a .text)) (c .before .before .before .before .before .before .before .before .before .drawn2 .given .0 .0) _ (held (now (a .sheet)) (b .result) (now (a .xs)) (now (a .ys)) (b .ensures .1) (b .ensures .2) (c .before .before .before .before .before .before .before .before .before .drawn2 .given .0 .0) _ _ (omega arith) (sym (c .before .before .before .before .before .before .before .before .before .drawn2 .given .1) ∙ d .ensures .0) (d .ensures .1)) _ _ _ (c .before .before .before .before .write-route .ensures)
 
 pub route-spec : {M : Type 1} → statement M
 route-spec =
     tie.close
     (tie.spec
+    capped-limits-requires
     slice-aggregate-draw
     draw-requires
     enum-known-drawn

@@ -1,7 +1,6 @@
 -- `calls::write_accepted` meets its contract.
-use mathlib.Core.Path.{sym}
 use denote.Ref.{now}
-use Rattle.calls.proofs.Writes.{accepted-savable, write-short, write-done}
+use Rattle.calls.proofs.Writes.{write-short, write-done}
 use borrow.Author.Needs.{needs}
 use Rattle.calls.proofs.write_accepted.Statement.{statement}
 use Rattle.calls.proofs.write_accepted.Tie as tie
@@ -10,7 +9,7 @@ states-size-requires : tie.Need-states-size-requires
 states-size-requires c κs = search needs
 
 arrows-size-requires : tie.Need-arrows-size-requires
-arrows-size-requires c κs = accepted-savable (now (c .before .before .before .args .sheet)) (c .before .before .before .pre) .lines
+arrows-size-requires c κs = c .before .before .before .pre .lines
 
 add-bytes : tie.Need-add-bytes
 add-bytes c = search needs
@@ -24,12 +23,12 @@ mul-bytes c = search needs
 returns : tie.Need-returns
 returns c =
     let p = c .before .before .before .before .before in
-    write-short (now (p .args .sheet)) (now (p .args .out)) (sym (p .pre)) (c .before .before .states-size .ensures .0) (c .before .arrows-size .ensures .0) (c .if1 .taken)
+    write-short (now (p .args .sheet)) (now (p .args .out)) (c .before .before .states-size .ensures .0) (c .before .arrows-size .ensures .0) (c .if1 .taken)
 
 write-afresh-requires : tie.Need-write-afresh-requires
 write-afresh-requires c κs =
     let p = c .before .before .before .before .before .before in
-    (accepted-savable (now (p .args .sheet)) (p .pre), c .before .before .before .states-size .ensures .0, c .before .before .arrows-size .ensures .0, c .before .if1 .left)
+    (p .pre, c .before .before .before .states-size .ensures .0, c .before .before .arrows-size .ensures .0, c .before .if1 .left)
 
 same-length : tie.Need-same-length
 same-length c = search needs
@@ -37,7 +36,7 @@ same-length c = search needs
 returns-2 : tie.Need-returns-2
 returns-2 c =
     let p = c .before .before .before .before .before .before .before .before .before in
-    write-done (now (p .args .sheet)) (now (p .args .out)) (sym (p .pre)) (c .before .before .before .before .before .before .states-size .ensures .0) (c .before .before .before .before .before .arrows-size .ensures .0) _
+    write-done (now (p .args .sheet)) (now (p .args .out)) (c .before .before .before .before .before .before .states-size .ensures .0) (c .before .before .before .before .before .arrows-size .ensures .0) _
     (c .before .before .before .before .if1 .left) (c .before .before .write-afresh .ensures)
 
 pub write-accepted-spec : {M : Type 1} → statement M

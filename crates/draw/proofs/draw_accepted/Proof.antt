@@ -9,7 +9,6 @@ use lib.Ieee.{Float}
 use denote.Ref.{now}
 use Rattle.laws.specs.Put.{put}
 use Rattle.sheet.specs.Sheet.{Graph, meaning}
-use Rattle.sheet.specs.Accepted.{on-main-screen}
 use Rattle.records.specs.Records.{fields}
 use Rattle.routing.specs.Sheets.{recordsOf}
 use Rattle.draw.specs.Drawn.{farCentre, bowRefusals}
@@ -39,8 +38,8 @@ returns c =
 
 draw-near-requires : tie.Need-draw-near-requires
 draw-near-requires c κs =
-    let w = on-main-screen (now (c .before .before .before .before .before .before .before .before .args .s)) (c .before .before .before .before .before .before .before .before .pre .0) in
-    (c .before .before .before .state-count .ensures, omega (arith, w .states, c .before .before .before .state-count .ensures), w .arrows, c .before .before .before .before .before .before .before .before .pre .1)
+    let p = c .before .before .before .before .before .before .before .before .pre in
+    (c .before .before .before .state-count .ensures, omega (arith, p .0, c .before .before .before .state-count .ensures), p .1, p .2)
 
 same-length : tie.Need-same-length
 same-length c = c .before .before .draw-near .kept .1 .1 .1 .1 .0

@@ -21,7 +21,7 @@ returns-2 c =
 
 lines-size-requires : tie.Need-lines-size-requires
 lines-size-requires c κs =
-    omega (arith, fit-total (c .before .before .before .before .before .before .args .m .bytes) (length (now (c .before .before .before .before .before .before .args .text))) (now (c .before .before .before .before .before .before .args .lengths)) (sym (c .before .lengths-fit .ensures) ∙ not-false _ (c .if2 .left)))
+    omega (arith, fit-total 96 (length (now (c .before .before .before .before .before .before .args .text))) (now (c .before .before .before .before .before .before .args .lengths)) (sym (c .before .lengths-fit .ensures) ∙ not-false _ (c .if2 .left)))
 
 returns-3 : tie.Need-returns-3
 returns-3 c =

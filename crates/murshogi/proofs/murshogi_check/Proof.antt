@@ -6,6 +6,9 @@ use borrow.Author.Needs.{needs}
 use Rattle.murshogi.proofs.murshogi_check.Statement.{statement}
 use Rattle.murshogi.proofs.murshogi_check.Tie as tie
 
+limits-of-requires : tie.Need-limits-of-requires
+limits-of-requires c κs = search needs
+
 check-requires : tie.Need-check-requires
 check-requires c κs = search needs
 
@@ -16,10 +19,14 @@ enum-known-c : tie.Need-enum-known-c
 enum-known-c c = search needs
 
 returns : tie.Need-returns
-returns c = ap returned (ap checkedAs (sym (c .enum-told .given .1)) ∙ c .before .before .check .ensures)
+returns c =
+    let l = rw (c .before .before .before .limits-of .ensures) at (c .before .before .check .ensures) in
+    ap returned (ap checkedAs (sym (c .enum-told .given .1)) ∙ l)
 
 returns-2 : tie.Need-returns-2
-returns-2 c = ap returned (ap checkedAs (sym (c .before .c .given .1)) ∙ c .before .before .before .check .ensures)
+returns-2 c =
+    let l = rw (c .before .before .before .before .limits-of .ensures) at (c .before .before .before .check .ensures) in
+    ap returned (ap checkedAs (sym (c .before .c .given .1)) ∙ l)
 
 pub murshogi-check-spec : {M : Type 1} → statement M
-murshogi-check-spec = tie.close (tie.spec check-requires enum-told enum-known-c returns returns-2)
+murshogi-check-spec = tie.close (tie.spec limits-of-requires check-requires enum-told enum-known-c returns returns-2)

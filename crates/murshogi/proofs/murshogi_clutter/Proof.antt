@@ -8,6 +8,9 @@ use borrow.Author.Needs.{needs}
 use Rattle.murshogi.proofs.murshogi_clutter.Statement.{statement}
 use Rattle.murshogi.proofs.murshogi_clutter.Tie as tie
 
+limits-of-requires : tie.Need-limits-of-requires
+limits-of-requires c κs = search needs
+
 clutter-requires : tie.Need-clutter-requires
 clutter-requires c κs = search needs
 
@@ -18,11 +21,15 @@ enum-known-c-2 : tie.Need-enum-known-c-2
 enum-known-c-2 c = search needs
 
 returns : tie.Need-returns
-returns c = told itself (now (c .before .before .before .before .before .before .before .args .count)) (ap countedAs (sym (c .before .c .given .1)) ∙ c .before .before .before .clutter .ensures)
+returns c =
+    let l = rw (c .before .before .before .before .limits-of .ensures) at (c .before .before .before .clutter .ensures) in
+    told itself (now (c .before .before .before .before .before .before .before .before .args .count)) (ap countedAs (sym (c .before .c .given .1)) ∙ l)
 
 returns-2 : tie.Need-returns-2
-returns-2 c = told itself (now (c .before .before .before .before .before .before .before .args .count)) (ap countedAs (sym (c .before .c2 .given .1)) ∙ c .before .before .before .clutter .ensures)
+returns-2 c =
+    let l = rw (c .before .before .before .before .limits-of .ensures) at (c .before .before .before .clutter .ensures) in
+    told itself (now (c .before .before .before .before .before .before .before .before .args .count)) (ap countedAs (sym (c .before .c2 .given .1)) ∙ l)
 
 pub murshogi-clutter-spec : {M : Type 1} → statement M
 murshogi-clutter-spec =
-    tie.close (tie.spec clutter-requires enum-known-c enum-known-c-2 returns returns-2)
+    tie.close (tie.spec limits-of-requires clutter-requires enum-known-c enum-known-c-2 returns returns-2)

@@ -8,6 +8,9 @@ use borrow.Author.Needs.{needs}
 use Rattle.murshogi.proofs.murshogi_layout.Statement.{statement}
 use Rattle.murshogi.proofs.murshogi_layout.Tie as tie
 
+limits-of-requires : tie.Need-limits-of-requires
+limits-of-requires c κs = search needs
+
 layout-requires : tie.Need-layout-requires
 layout-requires c κs = search needs
 
@@ -25,9 +28,10 @@ same-length-2 c = search needs
 
 returns : tie.Need-returns
 returns c =
-    let e = ap laidOutAs (sym (c .before .before .c .given .1)) ∙ c .before .before .before .before .before .before .before .before .layout .ensures .0 in
-    let t = told layoutSize (now (c .before .before .before .before .before .before .before .before .before .before .before .before .before .before .args .size)) e in
-    (t .0, c .before .before .before .before .before .before .before .before .layout .ensures .1, c .before .before .before .before .before .before .before .before .layout .ensures .2, t .1, told layoutStates (now (c .before .before .before .before .before .before .before .before .before .before .before .before .before .before .args .states)) e .1)
+    let l = rw (c .before .before .before .before .before .before .before .before .before .before .before .limits-of .ensures) at (c .before .before .before .before .before .before .before .before .layout .ensures) in
+    let e = ap laidOutAs (sym (c .before .before .c .given .1)) ∙ l .0 in
+    let t = told layoutSize (now (c .before .before .before .before .before .before .before .before .before .before .before .before .before .before .before .args .size)) e in
+    (t .0, l .1, l .2, t .1, told layoutStates (now (c .before .before .before .before .before .before .before .before .before .before .before .before .before .before .before .args .states)) e .1)
 
 same-length-3 : tie.Need-same-length-3
 same-length-3 c = search needs
@@ -37,14 +41,16 @@ same-length-4 c = search needs
 
 returns-2 : tie.Need-returns-2
 returns-2 c =
-    let e = ap laidOutAs (sym (c .before .c2 .given .1)) ∙ c .before .before .before .before .before .before .before .layout .ensures .0 in
-    let t = told layoutSize (now (c .before .before .before .before .before .before .before .before .before .before .before .before .before .args .size)) e in
-    (t .0, c .before .before .before .before .before .before .before .layout .ensures .1, c .before .before .before .before .before .before .before .layout .ensures .2, t .1, told layoutStates (now (c .before .before .before .before .before .before .before .before .before .before .before .before .before .args .states)) e .1)
+    let l = rw (c .before .before .before .before .before .before .before .before .before .before .limits-of .ensures) at (c .before .before .before .before .before .before .before .layout .ensures) in
+    let e = ap laidOutAs (sym (c .before .c2 .given .1)) ∙ l .0 in
+    let t = told layoutSize (now (c .before .before .before .before .before .before .before .before .before .before .before .before .before .before .args .size)) e in
+    (t .0, l .1, l .2, t .1, told layoutStates (now (c .before .before .before .before .before .before .before .before .before .before .before .before .before .before .args .states)) e .1)
 
 pub murshogi-layout-spec : {M : Type 1} → statement M
 murshogi-layout-spec =
     tie.close
     (tie.spec
+    limits-of-requires
     layout-requires
     enum-known-c
     enum-known-c-2

@@ -8,6 +8,9 @@ use borrow.Author.Needs.{needs}
 use Rattle.murshogi.proofs.murshogi_list.Statement.{statement}
 use Rattle.murshogi.proofs.murshogi_list.Tie as tie
 
+limits-of-requires : tie.Need-limits-of-requires
+limits-of-requires c κs = search needs
+
 list-requires : tie.Need-list-requires
 list-requires c κs = search needs
 
@@ -22,21 +25,24 @@ same-length c = search needs
 
 returns : tie.Need-returns
 returns c =
-    let t = told itself (now (c .before .before .before .before .before .before .before .before .before .args .length)) (ap writtenAs (sym (c .before .c .given .1)) ∙ c .before .before .before .before .before .list .ensures .0) in
-    (t .0, c .before .before .before .before .before .list .ensures .1, t .1)
+    let l = rw (c .before .before .before .before .before .before .before .limits-of .ensures) at (c .before .before .before .before .before .list .ensures) in
+    let t = told itself (now (c .before .before .before .before .before .before .before .before .before .before .args .length)) (ap writtenAs (sym (c .before .c .given .1)) ∙ l .0) in
+    (t .0, l .1, t .1)
 
 same-length-2 : tie.Need-same-length-2
 same-length-2 c = search needs
 
 returns-2 : tie.Need-returns-2
 returns-2 c =
-    let t = told itself (now (c .before .before .before .before .before .before .before .before .before .args .length)) (ap writtenAs (sym (c .before .c2 .given .1)) ∙ c .before .before .before .before .before .list .ensures .0) in
-    (t .0, c .before .before .before .before .before .list .ensures .1, t .1)
+    let l = rw (c .before .before .before .before .before .before .before .limits-of .ensures) at (c .before .before .before .before .before .list .ensures) in
+    let t = told itself (now (c .before .before .before .before .before .before .before .before .before .before .args .length)) (ap writtenAs (sym (c .before .c2 .given .1)) ∙ l .0) in
+    (t .0, l .1, t .1)
 
 pub murshogi-list-spec : {M : Type 1} → statement M
 murshogi-list-spec =
     tie.close
     (tie.spec
+    limits-of-requires
     list-requires
     enum-known-c
     enum-known-c-2

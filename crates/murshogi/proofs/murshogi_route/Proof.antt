@@ -8,6 +8,9 @@ use borrow.Author.Needs.{needs}
 use Rattle.murshogi.proofs.murshogi_route.Statement.{statement}
 use Rattle.murshogi.proofs.murshogi_route.Tie as tie
 
+limits-of-requires : tie.Need-limits-of-requires
+limits-of-requires c κs = search needs
+
 route-requires : tie.Need-route-requires
 route-requires c κs = search needs
 
@@ -25,8 +28,9 @@ same-length-2 c = search needs
 
 returns : tie.Need-returns
 returns c =
-    let t = told both (now (c .before .before .before .before .before .before .before .before .before .before .before .before .before .before .before .before .args .lengths)) (ap routedAs (sym (c .before .before .c .given .1)) ∙ c .before .before .before .before .before .before .before .before .route .ensures .0) in
-    (t .0, c .before .before .before .before .before .before .before .before .route .ensures .1, c .before .before .before .before .before .before .before .before .route .ensures .2, t .1)
+    let l = rw (c .before .before .before .before .before .before .before .before .before .before .before .limits-of .ensures) at (c .before .before .before .before .before .before .before .before .route .ensures) in
+    let t = told both (now (c .before .before .before .before .before .before .before .before .before .before .before .before .before .before .before .before .before .args .lengths)) (ap routedAs (sym (c .before .before .c .given .1)) ∙ l .0) in
+    (t .0, l .1, l .2, t .1)
 
 same-length-3 : tie.Need-same-length-3
 same-length-3 c = search needs
@@ -36,13 +40,15 @@ same-length-4 c = search needs
 
 returns-2 : tie.Need-returns-2
 returns-2 c =
-    let t = told both (now (c .before .before .before .before .before .before .before .before .before .before .before .before .before .before .before .args .lengths)) (ap routedAs (sym (c .before .c2 .given .1)) ∙ c .before .before .before .before .before .before .before .route .ensures .0) in
-    (t .0, c .before .before .before .before .before .before .before .route .ensures .1, c .before .before .before .before .before .before .before .route .ensures .2, t .1)
+    let l = rw (c .before .before .before .before .before .before .before .before .before .before .limits-of .ensures) at (c .before .before .before .before .before .before .before .route .ensures) in
+    let t = told both (now (c .before .before .before .before .before .before .before .before .before .before .before .before .before .before .before .before .args .lengths)) (ap routedAs (sym (c .before .c2 .given .1)) ∙ l .0) in
+    (t .0, l .1, l .2, t .1)
 
 pub murshogi-route-spec : {M : Type 1} → statement M
 murshogi-route-spec =
     tie.close
     (tie.spec
+    limits-of-requires
     route-requires
     enum-known-c
     enum-known-c-2

@@ -1,7 +1,5 @@
 -- `plan::plan_accepted` meets its contract.
 use native.Mathlib.Omega.{arith}
-use denote.Ref.{now}
-use Rattle.sheet.specs.Accepted.{on-main-screen}
 use borrow.Author.Needs.{needs}
 use Rattle.plan.proofs.plan_accepted.Statement.{statement}
 use Rattle.plan.proofs.plan_accepted.Tie as tie
@@ -15,8 +13,7 @@ arrow-count-requires c κs = search needs
 plan-sized-requires : tie.Need-plan-sized-requires
 plan-sized-requires c κs =
     let q = c .before .before .before .before .before .before .before .pre in
-    let w = on-main-screen (now (c .before .before .before .before .before .before .before .args .s)) (q .0) in
-    (q .1, c .before .before .before .state-count .ensures, omega (arith, w .states, c .before .before .before .state-count .ensures), c .before .before .arrow-count .ensures, omega (arith, w .arrows, c .before .before .arrow-count .ensures), q .2, q .3)
+    (q .2, c .before .before .before .state-count .ensures, omega (arith, q .0, c .before .before .before .state-count .ensures), c .before .before .arrow-count .ensures, omega (arith, q .1, c .before .before .arrow-count .ensures), q .3, q .4)
 
 same-length : tie.Need-same-length
 same-length c = c .before .before .before .before .plan-sized .kept .1 .1 .1 .1 .0

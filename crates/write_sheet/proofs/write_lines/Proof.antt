@@ -6,7 +6,7 @@ use native.Mathlib.Omega.{arith}
 use lib.ListN.{length}
 use denote.Ref.{now}
 use Rattle.sheet.specs.Sheet.{lineOf, linesFrom}
-use Rattle.sheet.specs.Refusals.{longLine, mainScreen}
+use Rattle.sheet.specs.Refusals.{longLine}
 use Rattle.encode.specs.Encode.{spaceOf, lineSize}
 use Rattle.encode.specs.Kinds.{line-form}
 use Rattle.write_line.specs.Writing.{indexIf}
@@ -18,7 +18,7 @@ use Rattle.write_sheet.proofs.write_lines.Tie as tie
 
 abbrev Inv-loop : tie.InvT-loop
 Inv-loop s first out₀ k i₀ left₀ at₀ out i left at =
-    Follows line-form (longLine mainScreen) s (lineOf s) out₀ k (linesFrom s first) out i left at × (i < 65536)
+    Follows line-form longLine s (lineOf s) out₀ k (linesFrom s first) out i left at × (i < 65536)
 
 abbrev μ-loop : tie.MeasureT-loop
 μ-loop s first out₀ k i₀ left₀ at₀ out i left at = left
@@ -34,13 +34,13 @@ unfolding linesFrom
 loop-holds c =
     let a = c .before .before .before .args in
     let s = now (a .s) in
-    (follows-start line-form (longLine mainScreen) s (lineOf s) (now (a .out)) (a .k) (a .first) refl (c .word-at .ensures .0) (c .before .before .before .pre .1), omega arith)
+    (follows-start line-form longLine s (lineOf s) (now (a .out)) (a .k) (a .first) refl (c .word-at .ensures .0) (c .before .before .before .pre .1), omega arith)
 
 same-length : tie.Need-same-length Inv-loop μ-loop
-same-length c = follows-same line-form (longLine mainScreen) _ _ (c .before .before .loop .inv .0)
+same-length c = follows-same line-form longLine _ _ (c .before .before .loop .inv .0)
 
 returns : tie.Need-returns Inv-loop μ-loop
-returns c = follows-cut line-form (longLine mainScreen) _ _ (c .before .before .loop .inv .0) (c .if1 .taken)
+returns c = follows-cut line-form longLine _ _ (c .before .before .loop .inv .0) (c .if1 .taken)
 
 next-of-requires : tie.Need-next-of-requires Inv-loop μ-loop
 next-of-requires c κs = search needs
@@ -56,9 +56,9 @@ write-line-requires c κs =
     let a = c .before .before .before .before .before .before .before .before .before .args in
     let s = now (a .s) in
     let l = c .before .before .before .before .before .loop in
-    let g = follows-good line-form (longLine mainScreen) s (lineOf s) (l .inv .0) (c .before .before .before .if1 .left) (c .before .before .before .before .loop-test .taken) in
-    let r : l .at + lineSize (lineOf s (l .i)) ≤ a .k + spaceOf lineSize (linesFrom s (a .first)) = follows-room line-form (longLine mainScreen) s (lineOf s) (l .inv .0) (c .before .before .before .if1 .left) (c .before .before .before .before .loop-test .taken) in
-    let q : length (l .out) ≡ length (now (a .out)) = follows-same line-form (longLine mainScreen) s (lineOf s) (l .inv .0) in
+    let g = follows-good line-form longLine s (lineOf s) (l .inv .0) (c .before .before .before .if1 .left) (c .before .before .before .before .loop-test .taken) in
+    let r : l .at + lineSize (lineOf s (l .i)) ≤ a .k + spaceOf lineSize (linesFrom s (a .first)) = follows-room line-form longLine s (lineOf s) (l .inv .0) (c .before .before .before .if1 .left) (c .before .before .before .before .loop-test .taken) in
+    let q : length (l .out) ≡ length (now (a .out)) = follows-same line-form longLine s (lineOf s) (l .inv .0) in
     (omega arith, line-short (lineOf s (l .i)) g, omega arith, omega arith)
 
 sub-left : tie.Need-sub-left Inv-loop μ-loop
@@ -72,15 +72,15 @@ loop-again c =
     let s = now (c .before .before .before .before .before .before .before .before .before .before .before .before .args .s) in
     let w = c .before .before .write-line in
     let p = ap (λ (b : Bool). indexIf b (w .result)) (c .before .before .before .goes-on .ensures) in (
-      follows-step line-form (longLine mainScreen) s (lineOf s) (c .before .before .before .before .before .before .before .before .loop .inv .0) (c .before .before .before .before .before .before .if1 .left) (c .before .before .before .before .before .before .before .loop-test .taken) (c .before .before .before .before .before .next-of .ensures .0) (w .ensures .1) p (w .ensures .0),
+      follows-step line-form longLine s (lineOf s) (c .before .before .before .before .before .before .before .before .loop .inv .0) (c .before .before .before .before .before .before .if1 .left) (c .before .before .before .before .before .before .before .loop-test .taken) (c .before .before .before .before .before .next-of .ensures .0) (w .ensures .1) p (w .ensures .0),
       omega arith,
     )
 
 same-length-2 : tie.Need-same-length-2 Inv-loop μ-loop
-same-length-2 c = follows-same line-form (longLine mainScreen) _ _ (c .before .loop .inv .0)
+same-length-2 c = follows-same line-form longLine _ _ (c .before .loop .inv .0)
 
 returns-2 : tie.Need-returns-2 Inv-loop μ-loop
-returns-2 c = follows-end line-form (longLine mainScreen) _ _ (c .before .loop .inv .0) (c .loop-test .left)
+returns-2 c = follows-end line-form longLine _ _ (c .before .loop .inv .0) (c .loop-test .left)
 
 pub write-lines-spec : {M : Type 1} → statement M
 write-lines-spec =

@@ -1,0 +1,4 @@
+pub mod Under
+pub mod Apart
+pub mod Proof
+pub mod Worked
