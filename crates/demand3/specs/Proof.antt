@@ -239,6 +239,6 @@ module _ (c d : Call) (a : Answered c) (b : Answered d) (s : Same c d) where
   curves : Curves c d
   curves = record { curve = curve; tip = tip }
 
--- for all sheets, all centres and all lent slices
+-- for all sheets, all limits, all centres and all lent slices, two sheets each under limits of their own
 pub demand3 : Demand3
 demand3 = record { cheapest = cheapest; prefix = prefix; curves = curves }

@@ -59,7 +59,7 @@ fn far_centre(xs: &[f64], ys: &[f64], n: usize) -> bool
 
 // ---- the call
 
-// Routes a sheet that is checked, what is read of it in the slices lent for that.
+// Routes a sheet, what is read of it in the slices lent for that.
 fn draw_read(
     s: &[u8],
     flags: &mut [u8],
@@ -95,7 +95,7 @@ fn draw_read(
     Drawing::Records(n)
 }
 
-// Routes a checked sheet of n states whose centres are not far.
+// Routes a sheet of n states whose centres are not far.
 fn draw_near(s: &[u8], n: usize, xs: &[f64], ys: &[f64], buf: &mut [f64]) -> Drawing
     requires { ⌜
         (n ≡ length (G.statesOf (now s)))
@@ -128,7 +128,7 @@ fn draw_near(s: &[u8], n: usize, xs: &[f64], ys: &[f64], buf: &mut [f64]) -> Dra
     )
 }
 
-// Routes a checked sheet for which there is room.
+// Routes a sheet of at most 64 states and 256 arrows.
 fn draw_accepted(s: &[u8], xs: &[f64], ys: &[f64], buf: &mut [f64]) -> Drawing
     requires { ⌜
         (length (G.statesOf (now s)) ≤ 64)

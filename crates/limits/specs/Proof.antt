@@ -1,4 +1,4 @@
--- Document 02's claim on limits holds. Assumes noneLent.
+-- Document 02's claim on limits holds. Assumes nothing.
 use mathlib.Core.Path.{_≡_, refl, sym, ap, ap₂, _∙_}
 use mathlib.Core.Bool.{Bool, true, false, not, _&&_, _||_}
 use mathlib.Core.List.{List, [], _∷_, _++_}
@@ -28,10 +28,10 @@ use Rattle.layout.specs.Layout.{planOf, lastKind}
 use Rattle.plan.specs.Measured.{layoutBeyond}
 use Rattle.plan.specs.Planned.{measuredRefusals}
 use Rattle.calls.specs.Calls.{Outcome, values, number, mainScreen, servicePanel, smaller, cappedLimits, short, onto, check, labelSize, drawnOf, numbersOf, route, recordsAfter, textAfter, clutter, layoutFor, layout, xsAfter, ysAfter, listing, listingWritable, list, listAfter, freshSheet, writeSheet, writeSheetAfter}
-use Rattle.calls.specs.Laws.{capped-most, capped-below, capped-largest}
+use Rattle.calls.specs.Laws.{capped-most, capped-below, capped-largest, accepted-shown}
 use Rattle.calls.specs.Decided.{number-same, number-apart}
 use Rattle.calls.specs.Refused.{check-answered}
-use Rattle.limits.specs.Under.{NotFive, SameBy, ByLimits, noneLent, FiveOver, BlockOver, blockLines, blockBytes, blockSum, UnderLimits}
+use Rattle.limits.specs.Under.{NotFive, SameBy, ByLimits, noneLent, FiveOver, BlockOver, blockLines, blockBytes, blockSum, OnPanel, UnderLimits}
 use Rattle.limits.specs.Apart.{holding, given, alike-by, narrower, cause-of}
 
 -- ---- the limits that count
@@ -288,9 +288,13 @@ module _ (s : List ℕ) (m : Limits) where
 lower : (s : List ℕ) (l m : Limits) → AtMost l m → check s l ≡ values tt → check s m ≡ values tt
 lower s l m a e = check-answered s m .answer .1 (clear-higher (cappedLimits l) (cappedLimits m) s (capped-higher l m a) (check-answered s l .answer .0 e))
 
-on-panel : (s : List ℕ) → check s servicePanel ≡ values tt → Within servicePanel (meaning s) × (check s mainScreen ≡ values tt)
+-- with the numbers written out
+within-panel : (s : List ℕ) → Within servicePanel (meaning s) → OnPanel (meaning s)
+within-panel s w = record { states = w .states; arrows = w .arrows; lines = w .lines }
+
+on-panel : (s : List ℕ) → check s servicePanel ≡ values tt → OnPanel (meaning s) × (check s mainScreen ≡ values tt)
 on-panel s e = (
-  rw capped-panel at (opened s servicePanel e .1),
+  within-panel s (rw capped-panel at (opened s servicePanel e .1)),
   lower s servicePanel mainScreen (record { states = omega arith; arrows = omega arith; lines = omega arith }) e,
 )
 
@@ -298,6 +302,7 @@ pub under-limits : UnderLimits
 under-limits = record {
   most = λ m. (capped-below m, capped-most m);
   largest = capped-largest;
+  numbers = (refl, refl);
   panel = capped-panel;
   main = capped-main;
   rises = capped-higher;
@@ -319,5 +324,6 @@ under-limits = record {
   opened = opened;
   opens = opens;
   lower = lower;
+  onMain = λ s m e. accepted-shown m s (check-answered s m .answer .0 e);
   onPanel = on-panel;
 }

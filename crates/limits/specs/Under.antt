@@ -7,9 +7,10 @@ use mathlib.Core.List.{List}
 use Prim.Native.Nat.{ℕ, _≤_, _<_}
 use lib.ListN.{length, getD}
 use lib.Ieee.{Float}
-use Rattle.sheet.specs.Sheet.{meaning}
+use Rattle.sheet.specs.Sheet.{Graph, meaning}
+use Rattle.sheet.specs.Meaning.{arrowAt}
 use Rattle.sheet.specs.Refusals.{AtMost}
-use Rattle.sheet.specs.Accepted.{Within}
+use Rattle.sheet.specs.Accepted.{Within, OnMainScreen}
 use Rattle.sheet.specs.Over.{SoundSheet, Over}
 use Rattle.sheet.specs.declared.Limits.{Limits}
 use Rattle.label.specs.Label.{totalLength}
@@ -33,7 +34,7 @@ pub record ByLimits {A B : Type 0} (answer : Limits → Outcome A) (left : Limit
   pub higher : (l m : Limits) → AtMost (cappedLimits l) (cappedLimits m) → NotFive (answer l) → SameBy answer left l m
   -- "Each limit above the main screen's counts as the main screen's": nothing but the limits that count is looked at,
   pub counting : (l m : Limits) → cappedLimits l ≡ cappedLimits m → SameBy answer left l m
-  -- and limits that are all above the main screen's answer as that
+  -- and so limits that are all at least the main screen's answer as that
   pub above : (m : Limits) → AtMost mainScreen m → SameBy answer left m mainScreen
 
 -- where nothing is lent
@@ -54,6 +55,13 @@ pub data BlockOver (m : Limits) (text lengths : List ℕ) : Type 0 where
   blockBytes : (j : ℕ) → j < length lengths → 96 < getD lengths j 0 → BlockOver m text lengths
   blockSum : (length text ≡ totalLength lengths → ⊥) → BlockOver m text lengths
 
+-- ---- what the panel opens
+
+pub record OnPanel (g : Graph) : Type 0 where
+  pub states : length (g .states) ≤ 24
+  pub arrows : length (g .arrows) ≤ 64
+  pub lines : (k : ℕ) → k < length (g .arrows) → length (arrowAt g k .lines) ≤ 4
+
 -- ---- the claim
 
 pub record UnderLimits : Type 0 where
@@ -61,7 +69,9 @@ pub record UnderLimits : Type 0 where
 
   pub most : (m : Limits) → AtMost (cappedLimits m) m × AtMost (cappedLimits m) mainScreen
   pub largest : (l m : Limits) → AtMost l m → AtMost l mainScreen → AtMost l (cappedLimits m)
-  -- those of the panel and of the main screen count as they are; higher limits count as higher ones
+  -- "The main screen keeps its 64, 256 and 8"; the panel's are 24, 64 and 4
+  pub numbers : (mainScreen ≡ record { states = 64; arrows = 256; lines = 8 }) × (servicePanel ≡ record { states = 24; arrows = 64; lines = 4 })
+  -- those of the panel and of the main screen count as they are; higher limits count as higher ones, so that `higher` speaks of limits that are higher as they are given, too
   pub panel : cappedLimits servicePanel ≡ servicePanel
   pub main : cappedLimits mainScreen ≡ mainScreen
   pub rises : (l m : Limits) → AtMost l m → AtMost (cappedLimits l) (cappedLimits m)
@@ -96,5 +106,7 @@ pub record UnderLimits : Type 0 where
   pub opens : (s : List ℕ) (m : Limits) → SoundSheet s → Within (cappedLimits m) (meaning s) → check s m ≡ values tt
   -- accepted under lower limits, accepted under higher ones
   pub lower : (s : List ℕ) (l m : Limits) → AtMost l m → check s l ≡ values tt → check s m ≡ values tt
-  -- "at most 24 states, 64 arrows and 4 lines an arrow"; what the panel opens, the main screen does
-  pub onPanel : (s : List ℕ) → check s servicePanel ≡ values tt → Within servicePanel (meaning s) × (check s mainScreen ≡ values tt)
+  -- under any limits at most 64 states, 256 arrows, 8 lines an arrow and 96 bytes a line; on the panel "at most 24 states, 64 arrows and 4 lines an arrow", and what it opens the
+  -- main screen does
+  pub onMain : (s : List ℕ) (m : Limits) → check s m ≡ values tt → OnMainScreen (meaning s)
+  pub onPanel : (s : List ℕ) → check s servicePanel ≡ values tt → OnPanel (meaning s) × (check s mainScreen ≡ values tt)

@@ -1,4 +1,4 @@
--- What an exported call returns and what it leaves in the places it is lent for values, from what the call answers.
+-- The limits that an exported call is given; what it returns and what it leaves in the places it is lent for values, from what the call answers.
 use mathlib.Core.List.{List, [], _∷_}
 use Prim.Native.Nat.{ℕ}
 use lib.ListN.{getD}

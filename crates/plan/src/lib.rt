@@ -139,7 +139,7 @@ fn layout_beyond(
 
 // ---- the call
 
-// Lays out a checked sheet; what is read of it, and its centres, in the slices lent for that.
+// Lays out a sheet; what is read of it, and its centres, in the slices lent for that.
 fn plan_read(
     s: &[u8],
     kind: u8,
@@ -184,7 +184,7 @@ fn plan_read(
     Planned::Size(flags.len(), size.width, size.height)
 }
 
-// Lays out a checked sheet of n states and m arrows.
+// Lays out a sheet of n states and m arrows.
 fn plan_sized(s: &[u8], kind: u8, n: usize, m: usize, xs: &mut [f64], ys: &mut [f64]) -> Planned
     requires { ⌜
         (kind ≤ L.lastKind)
@@ -224,7 +224,7 @@ fn plan_sized(s: &[u8], kind: u8, n: usize, m: usize, xs: &mut [f64], ys: &mut [
     )
 }
 
-// Lays out a checked sheet for which there is room.
+// Lays out a sheet of at most 64 states and 256 arrows.
 fn plan_accepted(s: &[u8], kind: u8, xs: &mut [f64], ys: &mut [f64]) -> Planned
     requires { ⌜
         (length (G.statesOf (now s)) ≤ 64)

@@ -1,4 +1,4 @@
--- What refuses a sheet, in the words of document 01's table and in its order: 1, 2, 4, 3, 5, 6.
+-- What refuses a sheet, in the words of document 01's table and in its order: 1, 2, 4, 3, 5, 6; for 5 the limits of document 02's screens.
 use mathlib.Core.Bool.{Bool, true, false, cond, not, _||_}
 use mathlib.Core.List.{List, [], _∷_, map}
 use Prim.Native.Nat.{ℕ, _+_, _*_, _≤_}

@@ -1,5 +1,5 @@
 -- The drawings that document 01 marks with a star: one list, and one theorem over it. Numbers and layouts are stated on what the calls
--- answer and leave, with every lent slice that is long enough. Assumes nothing.
+-- answer and leave, layouts under all limits that allow the states, with every lent slice that is long enough. Assumes nothing.
 use mathlib.Core.Path.{_≡_, refl}
 use mathlib.Core.Bool.{Bool, true, false}
 use mathlib.Core.List.{List, [], _∷_, _++_, flatMap}

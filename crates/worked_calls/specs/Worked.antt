@@ -1,4 +1,4 @@
--- Document 01, 'Worked drawings': "Sheet: a start state, a second state, an arrow 0 to 1 with the line `a`. Output, whole". What `layout`, `route` and `list` answer and leave of it. Assumes nothing.
+-- Document 01, 'Worked drawings': "Sheet: a start state, a second state, an arrow 0 to 1 with the line `a`. Output, whole". What `layout`, `route` and `list` answer and leave of it, under all limits that allow it. Assumes nothing.
 use mathlib.Core.Path.{_≡_, refl, ap, ap₂, _∙_}
 use mathlib.Core.Bool.{Bool, false, not, _&&_, _||_}
 use mathlib.Core.List.{List, flatMap}
