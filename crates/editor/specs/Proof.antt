@@ -26,6 +26,7 @@ use Rattle.encode.specs.Fewer.{records-fewer, meaning-encodable}
 use Rattle.encode.specs.Forward.{forward, full-first}
 use Rattle.encode.specs.Bytes.{sheet-bytes, meaning-bytes}
 use Rattle.calls.specs.Calls.{values, number, cappedLimits, short, onto, check, freshSheet, writeRefusals, writeSheet, writeSheetAfter}
+use Rattle.calls.specs.Saved.{roomRefusals}
 use Rattle.calls.specs.Decided.{number-same, number-apart, answered-clear}
 use Rattle.calls.specs.Refused.{check-answered, write-kept}
 use Rattle.accents.specs.Sheets.{SameSizes, AnsweredAlike}
@@ -34,13 +35,10 @@ use Rattle.editor.specs.Saves.{Saved, savedSheet, AsEdited, EditorSaves}
 
 -- ---- 7, once the sheet is accepted
 
-abbrev last : List ℕ → ℕ → List Refusal
-last s room = refusal 7 (short room (freshSheet s)) ∷ []
-
 module _ (s : List ℕ) (m : Limits) (room : ℕ) (c : Clear (refusals (cappedLimits m) s)) where
-  left-to-room : writeSheet s m room ≡ decide (last s room) number (values (length (freshSheet s)))
+  left-to-room : writeSheet s m room ≡ decide (roomRefusals s room) number (values (length (freshSheet s)))
   unfolding writeSheet
-  left-to-room = clear-joined number (values (length (freshSheet s))) (refusals (cappedLimits m) s) (last s room) c
+  left-to-room = clear-joined number (values (length (freshSheet s))) (refusals (cappedLimits m) s) (roomRefusals s room) c
 
   room-enough : length (freshSheet s) ≤ room → writeSheet s m room ≡ values (length (freshSheet s))
   room-enough h =
@@ -169,7 +167,7 @@ module _ (s : List ℕ) (m : Limits) (out : List ℕ) (a : Saved s m out) where
       decided : {A : Type 0} (refuse : ℕ → A) (answer : List ℕ → A)
           → decide (writeRefusals s k (length lent)) refuse (answer (freshSheet s)) ≡ decide (writeRefusals w k (length lent)) refuse (answer (freshSheet w))
       decided refuse answer =
-          headed refuse (answer (freshSheet s)) (answer (freshSheet w)) (refusals (cappedLimits k) s) (refusals (cappedLimits k) w) (last s (length lent)) (last w (length lent)) (refused-alike k)
+          headed refuse (answer (freshSheet s)) (answer (freshSheet w)) (refusals (cappedLimits k) s) (refusals (cappedLimits k) w) (roomRefusals s (length lent)) (roomRefusals w (length lent)) (refused-alike k)
           (ap (λ (f : List ℕ). decide (refusal 7 (short (length lent) f) ∷ []) refuse (answer f)) (sym same-fresh))
 
       saved-again : (writeSheet s k (length lent) ≡ writeSheet w k (length lent)) × (writeSheetAfter s k lent ≡ writeSheetAfter w k lent)
@@ -194,7 +192,7 @@ module _ (s : List ℕ) (m : Limits) (out : List ℕ) (a : Saved s m out) where
 module _ (s : List ℕ) (m : Limits) (room : ℕ) where
   carried : (n : ℕ) → First (refusals (cappedLimits m) s) n → writeSheet s m room ≡ number n
   unfolding writeSheet
-  carried n f = first-joined number (values (length (freshSheet s))) (refusals (cappedLimits m) s) (last s room) n f
+  carried n f = first-joined number (values (length (freshSheet s))) (refusals (cappedLimits m) s) (roomRefusals s room) n f
 
   check-carried : (n : ℕ) → check s m ≡ number n → writeSheet s m room ≡ number n
   check-carried n e = carried n (check-answered s m .numbers n .0 e)

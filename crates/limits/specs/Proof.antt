@@ -28,6 +28,7 @@ use Rattle.layout.specs.Layout.{planOf, lastKind}
 use Rattle.plan.specs.Measured.{layoutBeyond}
 use Rattle.plan.specs.Planned.{measuredRefusals}
 use Rattle.calls.specs.Calls.{Outcome, values, number, mainScreen, servicePanel, smaller, cappedLimits, short, onto, check, labelSize, drawnOf, numbersOf, route, recordsAfter, textAfter, clutter, layoutFor, layout, xsAfter, ysAfter, listing, listingWritable, list, listAfter, freshSheet, writeSheet, writeSheetAfter}
+use Rattle.calls.specs.Saved.{roomRefusals}
 use Rattle.calls.specs.Laws.{capped-most, capped-below, capped-largest, accepted-shown}
 use Rattle.calls.specs.Decided.{number-same, number-apart}
 use Rattle.calls.specs.Refused.{check-answered}
@@ -162,7 +163,7 @@ listTail s kind room =
     ∷ [])
 
 abbrev writeTail : List ℕ → ℕ → List Refusal
-writeTail s room = six s (refusal 7 (short room (freshSheet s)) ∷ [])
+writeTail s room = six s (roomRefusals s room)
 
 -- ---- call by call
 
