@@ -1,1 +1,2 @@
 // No code: what document 02 says of accents, over the calls, in specs/.
+#![tactic(auto)]

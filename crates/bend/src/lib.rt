@@ -1,4 +1,5 @@
 // The bow of an arrow between two states: none, up or down, so far that it keeps clear of other states; and its curve.
+#![tactic(auto)]
 ghost use Rattle.std.specs.Prelude.{◌≡◌, ◌-◌, ◌<◌, ◌≤◌, length};
 ghost use Rattle.laws.specs.Sort.{place_from};
 ghost use Rattle.shape.specs.Centres.{centres};
@@ -17,7 +18,7 @@ use shape::{Curve, EPS, NODE_RADIUS, V};
 
 // Which way the label of an arrow may go: beside a line, outside an arc (1 bent to the left, -1 to the right),
 // outwards from a loop.
-#[derive(Drop)]
+#[derive(Clone, Copy)]
 pub enum Shape {
     Line,
     Arc(f64),
@@ -25,7 +26,7 @@ pub enum Shape {
 }
 
 // An arrow whose curve is fixed and whose label is still to be placed.
-#[derive(Drop)]
+#[derive(Clone, Copy)]
 pub struct Routed {
     pub curve: Curve,
     pub tip_angle: f64,
@@ -41,7 +42,7 @@ fn control(c: Chord, h: f64) -> V
 }
 
 // The least room so far, and the square of the distance that it comes from.
-#[derive(Drop)]
+#[derive(Clone, Copy)]
 pub struct Near {
     pub room: f64,
     pub square: f64,
@@ -101,7 +102,7 @@ fn clearance(xs: &[f64], ys: &[f64], c: Chord, h: f64) -> f64
 }
 
 // A bow and the clearance that its arc keeps.
-#[derive(Drop)]
+#[derive(Clone, Copy)]
 pub struct Best {
     pub clearance: f64,
     pub bow: f64,

@@ -1,4 +1,5 @@
 // The calls of documents 01 and 02. None has a requirement.
+#![tactic(auto)]
 ghost use Rattle.std.specs.Prelude.{◌≡◌, ◌≤◌, length};
 ghost use Rattle.sheet.specs.Sheet.{states_of};
 ghost use Rattle.write_sheet.specs.Sheets.{Savable};
@@ -14,7 +15,7 @@ use records::RECORD_NUMBERS;
 use sheet::{Checked, Limits};
 
 // The clutter, or the number of the refusal.
-#[derive(Drop)]
+#[derive(Clone, Copy)]
 pub enum Counted {
     Count(usize),
     Refused(u8),

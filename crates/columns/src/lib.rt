@@ -1,5 +1,6 @@
 // The columns of the layered layout: breadth-first from one state, the states that are not reached in one last column.
 // The columns stand one after another in `order`, which has one place a state; `sizes` says how long each is.
+#![tactic(auto)]
 ghost use Rattle.std.specs.Prelude.{◌≡◌, false, [], ◌∷◌, ◌++◌, ◌+◌, ◌≤◌, ◌<◌, length, take, drop};
 ghost use Rattle.laws.specs.Filter.{filter_by};
 ghost use Rattle.laws.specs.Loops.{over};
@@ -8,7 +9,7 @@ ghost use Rattle.columns.specs.Columns as D;
 ghost use Rattle.columns.specs.Found.{Fair, Reached, follow};
 
 // How many columns there are, and how many states they hold.
-#[derive(Drop)]
+#[derive(Clone, Copy)]
 pub struct Filled {
     pub columns: usize,
     pub states: usize,

@@ -1,4 +1,5 @@
 // A sheet checked and routed at given centres.
+#![tactic(auto)]
 ghost use Rattle.std.specs.Prelude.{◌≡◌, ◌≤◌, length};
 ghost use Rattle.sheet.specs.Sheet as G;
 ghost use Rattle.draw.specs.Drawn as S;
@@ -6,7 +7,7 @@ ghost use Rattle.draw.specs.Drawn as S;
 use sheet::{Checked, Limits};
 
 // How many records a drawing has, or the number of the refusal.
-#[derive(Drop)]
+#[derive(Clone, Copy)]
 pub enum Drawing {
     Records(usize),
     Refused(u8),

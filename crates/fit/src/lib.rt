@@ -1,4 +1,5 @@
 // Fitting a drawing: what it covers, the shift to the margin, and its size.
+#![tactic(auto)]
 ghost use Rattle.std.specs.Prelude.{◌≡◌, ◌*◌, ◌≤◌, length};
 ghost use mathlib.Core.List.{flat_map};
 ghost use Rattle.laws.specs.Loops.{over};
@@ -17,7 +18,7 @@ use trace::POINTS;
 pub const MARGIN: f64 = 16.0;
 
 // The width and height of a drawing, margins included.
-#[derive(Drop)]
+#[derive(Clone, Copy)]
 pub struct Size {
     pub width: f64,
     pub height: f64,

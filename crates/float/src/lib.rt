@@ -1,4 +1,5 @@
 // The stand-ins for the library's float functions. Each operation rounds once.
+#![tactic(auto)]
 ghost use Rattle.std.specs.Prelude.{◌≡◌, ◌*◌, ◌^◌, ◌<◌, ◌≤◌};
 ghost use Rattle.std.specs.Float.Ieee.Scale.{finite};
 ghost use Rattle.root.specs.Rounded.{magnitude};
@@ -16,7 +17,7 @@ pub const TAU: f64 = remainder::TAU;
 const WHOLE_BITS: u64 = 0x4330_0000_0000_0000;
 
 // The order of two numbers, as Rust names it.
-#[derive(Drop)]
+#[derive(Clone, Copy)]
 pub enum Ordering {
     Less,
     Equal,

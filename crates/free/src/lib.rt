@@ -1,4 +1,5 @@
 // The bows that states beside an arrow block, and the first free one.
+#![tactic(auto)]
 ghost use Rattle.std.specs.Prelude.{◌≡◌, ◌+◌, ◌<◌, ◌≤◌, length};
 ghost use Rattle.shape.specs.Centres.{centres};
 ghost use Rattle.free.specs.Chords as C;
@@ -11,7 +12,7 @@ use shape::{NODE_RADIUS, V};
 pub const CLEARANCE: f64 = 10.0;
 
 // The straight way from the centre of one state to that of another: a to b, with its direction and length.
-#[derive(Drop)]
+#[derive(Clone, Copy)]
 pub struct Chord {
     pub from: usize,
     pub to: usize,
@@ -22,7 +23,7 @@ pub struct Chord {
 }
 
 // An open interval of bows.
-#[derive(Drop)]
+#[derive(Clone, Copy)]
 pub struct Span {
     pub lo: f64,
     pub hi: f64,
@@ -137,7 +138,7 @@ pub fn inside_some(lo: &[f64], hi: &[f64], h: f64) -> bool
 }
 
 // What a pass has come to: where h is, and whether anything moved it.
-#[derive(Drop)]
+#[derive(Clone, Copy)]
 pub struct Pass {
     pub h: f64,
     pub moved: bool,

@@ -1,4 +1,5 @@
 // The size of a label block: its lines measured character by character.
+#![tactic(auto)]
 ghost use Rattle.std.specs.Prelude.{◌≡◌, ◌<◌, ◌≤◌, length, take, drop};
 ghost use Rattle.float.specs.Constants.{f0};
 ghost use Rattle.sheet.specs.Sheet.{line_of, lines_from};
@@ -18,7 +19,7 @@ const LABEL_WIDE_CHAR_WIDTH: f64 = LABEL_FONT_SIZE;
 const LABEL_LINE_HEIGHT: f64 = 15.0;
 
 // A line measured so far: the state of its UTF-8, the value of the character that has begun, and the width.
-#[derive(Drop)]
+#[derive(Clone, Copy)]
 pub struct Measure {
     pub st: u8,
     pub value: u32,
@@ -26,14 +27,14 @@ pub struct Measure {
 }
 
 // The size of a label block.
-#[derive(Drop)]
+#[derive(Clone, Copy)]
 pub struct Block {
     pub width: f64,
     pub height: f64,
 }
 
 // The answer of `label_size`: width and height, or the number of a refusal.
-#[derive(Drop)]
+#[derive(Clone, Copy)]
 pub enum Sized {
     Size(f64, f64),
     Refused(u8),

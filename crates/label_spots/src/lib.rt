@@ -1,4 +1,5 @@
 // Where the label of an arrow may go, and the drawing of the arrow with its label there.
+#![tactic(auto)]
 ghost use Rattle.std.specs.Prelude.{◌≡◌, ◌<◌, get_or};
 ghost use Rattle.label_spots.specs.Spots as S;
 ghost use Rattle.label_spots.specs.Labels as L;
@@ -13,28 +14,28 @@ const LABEL_GAP: f64 = 4.0;
 const NEARLY: f64 = 0.2;
 
 // A point on the curve, and the side to put the label on.
-#[derive(Drop)]
+#[derive(Clone, Copy)]
 pub struct Spot {
     pub at: V,
     pub side: V,
 }
 
 // How a label block is aligned at its anchor: it starts there, is centred on it, or ends there.
-#[derive(Drop)]
+#[derive(Clone, Copy)]
 pub enum Anchor {
     Start,
     Middle,
     End,
 }
 
-#[derive(Drop)]
+#[derive(Clone, Copy)]
 pub struct Placed {
     pub label: V,
     pub anchor: Anchor,
 }
 
 // What the turn of an arrow is given: its number, its curve, and the size of the label that is to be placed.
-#[derive(Drop)]
+#[derive(Clone, Copy)]
 pub struct Turn {
     pub edge: usize,
     pub arrow: Routed,
@@ -43,7 +44,7 @@ pub struct Turn {
 }
 
 // The drawing of one arrow.
-#[derive(Drop)]
+#[derive(Clone, Copy)]
 pub struct Geometry {
     pub edge: usize,
     pub curve: Curve,

@@ -1,1 +1,2 @@
 // No code: the laws that the other crates cite, in specs/.
+#![tactic(auto)]

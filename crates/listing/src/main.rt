@@ -1,5 +1,6 @@
 // Reads a sheet from standard input and writes its listing under the main screen's limits, laid out as Auto, or
 // `refused` and the number.
+#![tactic(auto)]
 ghost use Rattle.std.specs.Prelude.{◌≡◌, ◌≤◌, length, take};
 ghost use Rattle.listing.specs.Listing as S;
 

@@ -1,5 +1,5 @@
 -- A reader of numbers from bytes. What is written of a number is read back as its hundredths; no trailing zero, no trailing point, never `-0`. Assumes nothing.
-use Rattle.std.specs.Prelude.{◌≡◌, ℕ, zero, suc, ◌+◌, ◌-◌, ◌*◌, ◌/◌, ◌%◌, ◌<◌, ◌≤◌, Bool, true, false, cond, not, ◌&&◌, leb, List, [], ◌∷◌, ◌++◌, length, ◌==◌, ◌≢◌, from_bits, nat_eq, nat_le, nat_lt, Float}
+use Rattle.std.specs.Prelude.{◌≡◌, ℕ, zero, suc, ◌+◌, ◌-◌, ◌*◌, ◌/◌, ◌%◌, ◌<◌, ◌≤◌, Bool, true, false, cond, not, ◌&&◌, leb, List, [], ◌∷◌, ◌++◌, length, ◌==◌, ◌≢◌, nat_eq, nat_le, nat_lt, Float}
 use Rattle.std.proofs.Math.Path.{refl, ap}
 use Rattle.std.proofs.Common.{sym, ◌∙◌, true≢false, append_assoc, le_refl, arith, length-append}
 use Rattle.std.proofs.Math.Option.{Option, none, some}
@@ -277,8 +277,8 @@ pub not_finite_zero : (v : Float) → finite v ≡ false → num_text v ≡ asci
 not_finite_zero v e = num_text_zero v (none v e)
   where
     none : (v : Float) → finite v ≡ false → rounded_size v ≡ 0
-    none nan e = unfold rounded_size Ieee.lt from_bits in refl
-    none (inf s) e = unfold rounded_size Ieee.lt from_bits in refl
+    none nan e = unfold rounded_size Ieee.lt Ieee.of_bits in refl
+    none (inf s) e = unfold rounded_size Ieee.lt Ieee.of_bits in refl
     none (fin s m x) e = absurd (true≢false e)
 
 size_read : Option Read → ℕ

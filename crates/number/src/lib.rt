@@ -1,12 +1,13 @@
 // A written number: at most two decimals, no trailing zeros, never `-0`; not finite gives `0`.
 // A writer stores what fits and always advances: on an empty slice it measures.
+#![tactic(auto)]
 ghost use Rattle.std.specs.Prelude.{◌≡◌, ◌<◌, not, ◌&&◌, length, ◌==◌};
 ghost use Rattle.laws.specs.Writers.{Wrote};
 ghost use Rattle.float.specs.Standins.{negative};
 ghost use Rattle.number.specs.Number as S;
 
 // What `write_num` answers: the length written, or the refusal's number.
-#[derive(Drop)]
+#[derive(Clone, Copy)]
 pub enum Written {
     Length(usize),
     Refused(u8),

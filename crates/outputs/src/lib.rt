@@ -1,5 +1,6 @@
 // Answers that a drawing or a layout has ready: put whole into what is lent, or refused by 10 or 7 with nothing
 // touched.
+#![tactic(auto)]
 ghost use Rattle.std.specs.Prelude.{◌≡◌, ◌*◌, ◌≤◌, length, take};
 ghost use mathlib.Core.List.{flat_map};
 ghost use Rattle.laws.specs.Flat.{table};
@@ -17,14 +18,14 @@ use records::RECORD_NUMBERS;
 use totals::Totals;
 
 // The f64 numbers and the bytes written, or the number of the refusal.
-#[derive(Drop)]
+#[derive(Clone, Copy)]
 pub enum RouteAnswer {
     Lengths(usize, usize),
     Refused(u8),
 }
 
 // The number of states, width and height, or the number of the refusal.
-#[derive(Drop)]
+#[derive(Clone, Copy)]
 pub enum LaidOut {
     Size(usize, f64, f64),
     Refused(u8),

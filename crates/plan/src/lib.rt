@@ -1,4 +1,5 @@
 // A sheet checked and laid out by kind.
+#![tactic(auto)]
 ghost use Rattle.std.specs.Prelude.{◌≡◌, ◌≤◌, length};
 ghost use Rattle.sheet.specs.Sheet as G;
 ghost use Rattle.layout.specs.Layout as L;
@@ -9,7 +10,7 @@ ghost use Rattle.plan.specs.Planned as S;
 use sheet::{Checked, Limits};
 
 // How many states there are, width and height of the drawing; or the number of the refusal.
-#[derive(Drop)]
+#[derive(Clone, Copy)]
 pub enum Planned {
     Size(usize, f64, f64),
     Refused(u8),

@@ -1,6 +1,7 @@
 // A reader over the sheet, which walks one chain through the sheet's bytes: a thin layer over plain bytes and an
 // index. Each function over the struct takes it apart and calls a covered function on slice and number; each is
 // proved by hand.
+#![tactic(auto)]
 ghost use Rattle.std.specs.Prelude.{◌≡◌, ◌<◌};
 ghost use Rattle.sheet.specs.Sheet as S;
 ghost use Rattle.reader.specs.Reading as R;
@@ -8,14 +9,14 @@ ghost use Rattle.reader.specs.Reading as R;
 use sheet::{first_line_at, first_text_at, kind_at, next_at, one_at, word_at};
 
 // The sheet's bytes, and the number of the record at which the reader stands.
-#[derive(Drop)]
+#[derive(Clone, Copy)]
 pub struct Reader<'a> {
     pub sheet: &'a [u8],
     pub at: usize,
 }
 
 // A record: its kind, its byte 1, and the words from byte 4 on.
-#[derive(Drop)]
+#[derive(Clone, Copy)]
 pub struct Record {
     pub kind: usize,
     pub one: usize,

@@ -1,5 +1,6 @@
 // A record of the drawing: the twenty numbers of an arrow, written into its own part of a lent slice, and read from it.
 // A slot: an arrow whose label is still to be placed, in twenty numbers too.
+#![tactic(auto)]
 ghost use Rattle.std.specs.Prelude.{◌≡◌, ◌+◌, ◌*◌, ◌≤◌, length};
 ghost use Rattle.laws.specs.Flat.{part};
 ghost use Rattle.laws.specs.Put.{put};
@@ -16,7 +17,7 @@ pub const RECORD_NUMBERS: usize = 20;
 // ---- writing a record
 
 // The points of a curve: how many, and four of them, unused ones at 0, 0.
-#[derive(Drop)]
+#[derive(Clone, Copy)]
 pub struct Corners {
     pub n: f64,
     pub a: V,
@@ -231,7 +232,7 @@ const ARC_KIND: f64 = ARC as f64;
 const STRAIGHT_KIND: f64 = STRAIGHT as f64;
 
 // The sort as a float, and the shape's numbers, unused ones 0.
-#[derive(Drop)]
+#[derive(Clone, Copy)]
 pub struct Shaped {
     pub kind: f64,
     pub v: V,

@@ -1,1 +1,2 @@
 // No code: what document 02 says of the search for the reverse arrow, over sheets and over what `route` leaves, in specs/.
+#![tactic(auto)]

@@ -1,4 +1,6 @@
 // The bits of the square root of a finite f64 above zero, nearest to the exact one. Whole numbers of 64 bits decide; floats only guess.
+#![tactic(auto)]
+
 ghost use Rattle.std.specs.Prelude.{◌≡◌, true, ◌+◌, ◌*◌, ◌^◌, ◌≤◌, ◌<◌};
 ghost use Rattle.root.specs.Root.{whole_root, nearest_root, scale, scaled, evened, root_bits};
 ghost use Rattle.root.specs.Digits.{digit_step};
@@ -33,7 +35,7 @@ const INVERSE: u64 = 0x5fe6_eb50_c7b5_37a9;
 const SPLITTER: f64 = 134217729.0;
 
 // The root of the digits taken so far, the remainder, and the digits to come.
-#[derive(Drop)]
+#[derive(Clone, Copy)]
 pub struct Digits {
     pub q: u64,
     pub r: u64,
@@ -41,7 +43,7 @@ pub struct Digits {
 }
 
 // A significand and its exponent.
-#[derive(Drop)]
+#[derive(Clone, Copy)]
 pub struct Scaled {
     pub s: u64,
     pub e: u64,

@@ -1,5 +1,6 @@
 // The scene while labels are placed, in lent slices: centres as two slices, boxes of four numbers, traces of forty.
 // What a label costs in it, and the search for the label's place.
+#![tactic(auto)]
 ghost use Rattle.std.specs.Prelude.{◌≡◌, cond, [], ◌∷◌, ◌++◌, map, ◌+◌, ◌*◌, ◌≤◌, ◌<◌, ltb, length};
 ghost use Rattle.laws.specs.Best.{cut_total};
 ghost use Rattle.laws.specs.Counting.{how_many, worth};
@@ -216,7 +217,7 @@ pub fn full_cost(
 // ---- the search for a place
 
 // The best cost so far, and its place.
-#[derive(Drop)]
+#[derive(Clone, Copy)]
 pub struct Found {
     pub limit: usize,
     pub place: usize,

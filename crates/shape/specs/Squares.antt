@@ -27,6 +27,10 @@ nan_square : nan ⊗ nan ≡ nan
 unfolding Ieee.mul
 nan_square = refl
 
+nan_first : (y : Float) → nan ⊗ nan ⊕ y ≡ nan
+unfolding Ieee.mul Ieee.add
+nan_first y = refl
+
 other : ne nan nan ≡ false → ⊥
 unfolding Ieee.ne Ieee.eq
 other e = subst T e tt
@@ -40,7 +44,7 @@ numbers a b n = (by_bool (is_nan a) (λ e. absurd (first a b e n)) (λ e. e), by
     is (fin s m x) e = absurd (true≢false (sym (unfold is_nan in e)))
 
     first : (a b : Float) → is_nan a ≡ true → ne (a ⊗ a ⊕ b ⊗ b) (a ⊗ a ⊕ b ⊗ b) ≡ false → ⊥
-    first a b e n = let w : a ⊗ a ⊕ b ⊗ b ≡ nan = rw (is a e) (unfold Ieee.mul Ieee.add in refl) in other (rw w at n)
+    first a b e n = let w : a ⊗ a ⊕ b ⊗ b ≡ nan = rw (is a e) (nan_first (b ⊗ b)) in other (rw w at n)
 
     second : (a b : Float) → is_nan b ≡ true → ne (a ⊗ a ⊕ b ⊗ b) (a ⊗ a ⊕ b ⊗ b) ≡ false → ⊥
     second a b e n = let w : a ⊗ a ⊕ b ⊗ b ≡ nan = rw (is b e) (ap (λ (z : Float). a ⊗ a ⊕ z) nan_square ∙ sum_nan (a ⊗ a)) in other (rw w at n)

@@ -53,18 +53,25 @@ apart-zero false zero e l u = subst T e tt
 apart-zero true (suc a) e l u = subst T l (lt→ltb 0 (suc a + 0) (omega arith))
 apart-zero false (suc a) e l u = subst T u (lt→ltb 0 (suc a) (omega arith))
 
+-- the same of a number that is equal to 0
+level_nothing : (s : Bool) (a k : ℕ) → k ≡ 0 → level s a false k ≡ true → (below s a false k ≡ false) × (below false k s a ≡ false)
+level_nothing s a k z e = rw z (level-zero s a (rw z at e))
+
+apart_nothing : (s : Bool) (a k : ℕ) → k ≡ 0 → level s a false k ≡ false → below s a false k ≡ false → below false k s a ≡ false → ⊥
+apart_nothing s a k z e l u = apart-zero s a (rw z at e) (rw z at l) (rw z at u)
+
 zero_rate : (p : Float) → eq p f0 ≡ true → (lt p f0 ≡ false) × (lt f0 p ≡ false)
 unfolding of_bits Ieee.lt Ieee.eq
 zero_rate nan e = absurd (subst T (sym e) tt)
 zero_rate (inf s) e = absurd (subst T (sym e) tt)
-zero_rate (fin s m x) e = rw zero-mul (level-zero s (m * up x * down (pos 0)) (rw zero-mul at e))
+zero_rate (fin s m x) e = let z : 0 * down x ≡ 0 = zero-mul (down x) in level_nothing s (m * up x * down (pos 0)) (0 * down x) z e
 
 nan_rate : (p : Float) → eq p f0 ≡ false → lt p f0 ≡ false → lt f0 p ≡ false → p ≡ nan
 unfolding of_bits Ieee.lt Ieee.eq
 nan_rate nan e l u = refl
 nan_rate (inf true) e l u = absurd (subst T l tt)
 nan_rate (inf false) e l u = absurd (subst T u tt)
-nan_rate (fin s m x) e l u = absurd (apart-zero s (m * up x * down (pos 0)) (rw zero-mul at e) (rw zero-mul at l) (rw zero-mul at u))
+nan_rate (fin s m x) e l u = let z : 0 * down x ≡ 0 = zero-mul (down x) in absurd (apart_nothing s (m * up x * down (pos 0)) (0 * down x) z e l u)
 
 by_nan : (q : Float) → q ⊘ nan ≡ nan
 unfolding Ieee.div

@@ -1,4 +1,5 @@
 // Points, boxes and curves of f64 by value; clipping and crossing. Each operation rounds once, in the order written.
+#![tactic(auto)]
 ghost use Rattle.std.specs.Prelude.{◌≡◌, cond, ◌≤◌, ◌<◌, length};
 ghost use Rattle.float.specs.Ops.{lt, le};
 ghost use Rattle.shape.specs.Plane as S;
@@ -16,7 +17,7 @@ pub const START_ARROW_LENGTH: f64 = 28.0;
 pub const EPS: f64 = 1e-9;
 
 // A point or a direction.
-#[derive(Drop)]
+#[derive(Clone, Copy)]
 pub struct V {
     pub x: f64,
     pub y: f64,
@@ -119,7 +120,7 @@ impl V {
 }
 
 // A box with sides along the axes.
-#[derive(Drop)]
+#[derive(Clone, Copy)]
 pub struct Rect {
     pub x0: f64,
     pub y0: f64,
@@ -241,7 +242,7 @@ fn outside(lo: f64, hi: f64, v: f64) -> f64
 }
 
 // The shape of an arrow: a line, or a Bézier curve of second or third degree.
-#[derive(Drop)]
+#[derive(Clone, Copy)]
 pub enum Curve {
     Line(V, V),
     Quad(V, V, V),
@@ -306,7 +307,7 @@ impl Curve {
 }
 
 // The part of a segment that is left, from `enter` to `leave`, while `ok`.
-#[derive(Drop)]
+#[derive(Clone, Copy)]
 pub struct Clip {
     pub enter: f64,
     pub leave: f64,

@@ -1,4 +1,5 @@
 // A method sheet: its fields, and the bytes of its records.
+#![tactic(auto)]
 ghost use Rattle.std.specs.Prelude.{◌≡◌, ◌+◌, ◌*◌, ◌<◌};
 ghost use Rattle.laws.specs.Loops.{any_up};
 ghost use Rattle.sheet.specs.Sheet as S;
@@ -6,7 +7,7 @@ ghost use Rattle.sheet.specs.Meaning as M;
 ghost use Rattle.sheet.specs.Refusals as R;
 
 // The most that a screen opens: states, arrows, and lines of an arrow.
-#[derive(Drop)]
+#[derive(Clone, Copy)]
 pub struct Limits {
     pub states: usize,
     pub arrows: usize,
@@ -16,7 +17,7 @@ pub struct Limits {
 // The most bytes of a line, on every screen.
 pub const LONGEST_LINE: usize = 96;
 
-#[derive(Drop)]
+#[derive(Clone, Copy)]
 pub enum Checked {
     Accepted,
     Refused(u8),

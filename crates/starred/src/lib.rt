@@ -1,1 +1,2 @@
 // No code: the starred drawings, one list and one theorem over it, in specs/.
+#![tactic(auto)]

@@ -1,5 +1,6 @@
 // Path text of curves and arrowheads, and whether their coordinates may be written.
 // A writer stores what fits and always advances: on an empty slice it measures.
+#![tactic(auto)]
 ghost use Rattle.std.specs.Prelude.{◌≡◌, ◌&&◌, [], ◌∷◌, ◌++◌};
 ghost use Rattle.laws.specs.Writers.{Wrote};
 ghost use Rattle.text.specs.Ascii.{ascii};
@@ -13,7 +14,7 @@ const ARROW_LENGTH: f64 = 9.0;
 const ARROW_HALF_WIDTH: f64 = 3.5;
 
 // The corners of an arrowhead.
-#[derive(Drop)]
+#[derive(Clone, Copy)]
 pub struct Head {
     pub tip: V,
     pub left: V,

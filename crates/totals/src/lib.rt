@@ -1,4 +1,5 @@
 // The numbers of the listing's last line, counted over the records of a drawing and the arrows of its sheet.
+#![tactic(auto)]
 ghost use Rattle.std.specs.Prelude.{◌≡◌, ◌+◌, ◌*◌, ◌≤◌, ◌<◌, length};
 ghost use Rattle.laws.specs.Counting.{how_many, worth};
 ghost use Rattle.laws.specs.Flat.{part};
@@ -14,7 +15,7 @@ use shape::Curve;
 use sheet::word_at;
 
 // Straight arrows, arcs, loops, left-out arrows and label lines.
-#[derive(Drop)]
+#[derive(Clone, Copy)]
 pub struct Totals {
     pub straight: usize,
     pub arcs: usize,
@@ -68,7 +69,7 @@ fn with_points(records: &[f64], count: usize, n: usize) -> usize
 // ---- the arrows of the sheet
 
 // Of some arrows, those that are left out, and the lines of the others.
-#[derive(Drop)]
+#[derive(Clone, Copy)]
 pub struct ArrowCounts {
     pub left_out: usize,
     pub lines: usize,

@@ -1,5 +1,6 @@
 // The turns of `geometry` in three passes over all arrows: loops, then arcs, then straight arrows, each at the
 // cheapest listed place or direction in the scene so far; then the records.
+#![tactic(auto)]
 ghost use Rattle.std.specs.Prelude.{◌≡◌, ◌+◌, ◌*◌, ◌≤◌, ◌<◌, length, get_or};
 ghost use Rattle.laws.specs.Put.{put};
 ghost use Rattle.shape.specs.Centres.{centres};
@@ -12,7 +13,7 @@ use label_spots::{Geometry, Turn};
 use records::{ARC, LEFT_OUT, LOOP, RECORD_NUMBERS, STRAIGHT};
 
 // How many boxes and traces the scene has.
-#[derive(Drop)]
+#[derive(Clone, Copy)]
 struct Counts {
     nb: usize,
     nt: usize,

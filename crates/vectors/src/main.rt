@@ -1,5 +1,6 @@
 // Compares the oracle's answers, which stand in standard input, and prints for each kind of case
 // how many there were and how many differ. `oracle/README.md` says how the stream is made.
+#![tactic(auto)]
 ghost use Rattle.std.specs.Prelude.{◌<◌};
 
 use libc::{STDIN_FILENO, STDOUT_FILENO};
@@ -9,7 +10,7 @@ const MOST: u32 = 1000000;
 
 // A case that was read: its kind and its payload's length. Not whole where the input ended in it,
 // or where it is longer than any case.
-#[derive(Drop)]
+#[derive(Clone, Copy)]
 struct Case {
     kind: u8,
     length: usize,

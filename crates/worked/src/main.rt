@@ -1,5 +1,6 @@
 // The worked drawings of document 01 that are not starred, the listing of a sheet without states, and sheets at the
 // service panel's limits, each with what the program gives.
+#![tactic(auto)]
 use calls::{Counted, LaidOut};
 use libc::STDOUT_FILENO;
 use number::Written;

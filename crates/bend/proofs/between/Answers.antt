@@ -1,0 +1,15 @@
+-- `bend::between` meets its contract.
+use mathlib.Core.Path.{ap, ◌∙◌}
+use Rattle.free.specs.declared.Chord.{Chord}
+use Rattle.shape.specs.Centres.{centres}
+use Rattle.bend.specs.Bend.{bend}
+use Rattle.bend.specs.Between.{with_bow, between}
+use borrow.Author.Rules.{rules}
+use Rattle.bend.proofs.between.Goals as goal
+
+pub returns : goal.returns
+unfolding between
+returns c = let a = c.args in
+    c.with_bow.ensures
+    ∙ ap (with_bow c.chord_of-c.result) c.bend-h.ensures
+    ∙ ap (λ (d : Chord). with_bow d (bend d (centres a.xs.now a.ys.now) a.both_ways)) c.chord_of-c.ensures

@@ -1,0 +1,9 @@
+-- `bend::pair_up` meets its contract.
+use mathlib.Core.Path.{ap, ◌∙◌}
+use Rattle.float.specs.Constants.{f1}
+use Rattle.free.specs.Free.{spans, first_free}
+use borrow.Author.Rules.{rules}
+use Rattle.bend.proofs.pair_up.Goals as goal
+
+pub returns : goal.returns
+returns c = let a = c.args in c.first_free.ensures ∙ ap (first_free f1 (spans a.lo.now a.hi.now)) c.clamp-base.ensures

@@ -1,0 +1,8 @@
+-- `float::arctangent_of` meets its contract.
+use Rattle.float.specs.Standins.{arctangent_of, halved}
+use borrow.Author.Rules.{rules}
+use Rattle.float.proofs.arctangent_of.Goals as goal
+
+pub returns : goal.returns
+unfolding arctangent_of
+returns c = rw (← c.halved.ensures, ← c.halved-u.ensures, c.arc_series.ensures)

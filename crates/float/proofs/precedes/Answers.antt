@@ -1,0 +1,21 @@
+-- `float::precedes` meets its contract.
+use Rattle.float.specs.Standins.{precedes}
+use Rattle.laws.specs.Nan.{nan_test}
+use borrow.Author.Rules.{rules}
+use Rattle.float.proofs.precedes.Goals as goal
+
+pub returns-then-a-b : goal.returns-then-a-b
+unfolding precedes
+returns-then-a-b c = rw c.if-a-b.true
+
+pub returns-then-a-b-2 : goal.returns-then-a-b-2
+unfolding precedes
+returns-then-a-b-2 c = rw (c.if-a-b.false, c.if-a-b-2.true, ← c.negative.ensures, ← c.negative-then-a-b-2.ensures) c.minus_first.ensures
+
+pub returns-then-a : goal.returns-then-a
+unfolding precedes
+returns-then-a c = rw (c.if-a-b.false, c.if-a-b-2.false, ← (nan_test c.args.a), c.if-a.true)
+
+pub returns : goal.returns
+unfolding precedes
+returns c = rw (c.if-a-b.false, c.if-a-b-2.false, ← (nan_test c.args.a), ← (nan_test c.args.b), c.if-a.false)

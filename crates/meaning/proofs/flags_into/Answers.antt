@@ -1,0 +1,28 @@
+use mathlib.Core.Path.{◌≡◌, ap}
+use mathlib.Core.List.{map}
+use Prim.Native.Nat.{◌+◌, ◌<◌}
+use native.Mathlib.Omega.{arith}
+use Rattle.sheet.specs.Sheet.{count, byte_one, state_chain}
+use Rattle.meaning.specs.Read.{flags_are}
+use Rattle.meaning.proofs.Laws.{Fills, fills_start, fills_cut, fills_end, fills_step}
+use borrow.Author.Rules.{rules}
+use Rattle.reader.specs.declared.Record.{Record}
+use Rattle.meaning.proofs.flags_into.Goals as goal
+
+pub loop-i-init : goal.loop-i-init
+loop-i-init c = (fills_start c.word_at-i.ensures.0 c.word_at-left.ensures.0, omega arith, omega arith, omega arith)
+
+pub shape_of-out-then-left-eq0 : goal.shape_of-out-then-left-eq0
+shape_of-out-then-left-eq0 c = c.loop-i.invariant.0.same
+
+pub returns-then-left-eq0 : goal.returns-then-left-eq0
+returns-then-left-eq0 c = rw (flags_are _) (fills_cut c.loop-i.invariant.0 c.if-left-eq0.true)
+
+pub loop-i-preserved : goal.loop-i-preserved
+loop-i-preserved c = (fills_step c.loop-i.invariant.0 c.if-left-eq0.false c.loop-i-test.true (ap (λ (x : Record). x.one) c.record_of-d.ensures.0) c.store_u8.ensures c.next_of-i.ensures.0, omega arith, omega arith, omega arith)
+
+pub shape_of-out : goal.shape_of-out
+shape_of-out c = c.loop-i.invariant.0.same
+
+pub returns : goal.returns
+returns c = rw (flags_are _) (fills_end c.loop-i.invariant.0 c.loop-i-test.false)

@@ -1,0 +1,6 @@
+-- `shape::Rect::empty` meets its contract.
+use borrow.Author.Rules.{rules}
+use Rattle.shape.proofs.Rect.empty.Goals as goal
+
+pub returns : goal.returns
+returns c = rw c.infinity-most.ensures

@@ -1,0 +1,6 @@
+-- `shape::V::polar` meets its contract.
+use borrow.Author.Rules.{rules}
+use Rattle.shape.proofs.V.polar.Goals as goal
+
+pub returns : goal.returns
+returns c = rw (← c.cos.ensures, ← c.sin.ensures, c.new.ensures)

@@ -1,0 +1,6 @@
+-- `shape::orient` meets its contract.
+use borrow.Author.Rules.{rules}
+use Rattle.shape.proofs.orient.Goals as goal
+
+pub returns : goal.returns
+returns c = rw (c.sub-there.ensures, c.sub-along.ensures)

@@ -1,0 +1,12 @@
+use mathlib.Core.Path.{◌∙◌}
+use Prim.Native.Nat.{◌<◌}
+use native.Mathlib.Omega.{arith}
+use Rattle.sheet.specs.Sheet.{met_line}
+use Rattle.sheet_check.proofs.Laws.{Walks, walks_start, walks_cut, walks_end, walks_step, walks_stop}
+use Rattle.sheet_check.proofs.walk_lines.Given as goal
+
+abbrev pub invariant-loop-i : goal.invariant-loop-i
+invariant-loop-i l = Walks l.s (met_line l.s) l.first l.initial.marks l.marks l.i l.left × (l.i < 65536)
+
+abbrev pub decreases-loop-i : goal.decreases-loop-i
+decreases-loop-i l = l.left

@@ -1,0 +1,13 @@
+-- `trace::any_hit` meets its contract.
+use Rattle.std.proofs.Common.{◌≡◌, ◌+◌, refl, ◌∙◌, arith}
+use Rattle.laws.specs.Flat.{table}
+use Rattle.trace.specs.Traces.{any_segment, segment_hits}
+use Rattle.trace.specs.Form.{trace_point, points_of}
+use Rattle.trace.proofs.Laws.{hit_at, miss_at, seg_end}
+use Rattle.trace.proofs.any_hit.Given as goal
+
+abbrev pub invariant-loop-left : goal.invariant-loop-left
+invariant-loop-left l = (any_segment (segment_hits l.r) (table (trace_point l.t) l.k l.left) ≡ any_segment (segment_hits l.r) (points_of l.n l.t)) × (l.k + l.left ≡ l.n)
+
+abbrev pub decreases-loop-left : goal.decreases-loop-left
+decreases-loop-left l = l.left
