@@ -53,7 +53,7 @@ ends_and_lines a = (ends_of a, length a.lines)
 abbrev with_ends : ℕ → ArrowCounts → Ends × ℕ → ArrowCounts
 with_ends n t x =
     let kept = ends_below n x.0.source x.0.target in
-    arrow_counts (t.left_out_lem + cond kept 0 1) (t.lines + cond kept x.1 0)
+    arrow_counts (t.left_out + cond kept 0 1) (t.lines + cond kept x.1 0)
 
 counted_by : (g : Graph) → over (with_ends (length g.states)) none_counted (map ends_and_lines g.arrows) ≡ arrow_counts (how_many (is_left_out g) g.arrows) (length (counted_lines g))
 unfolding left_out_add lines_add
@@ -65,7 +65,7 @@ totals-alike g h e many gs =
     let q : map ends_and_lines g.arrows ≡ map ends_and_lines h.arrows =
     map-alike ends_and_lines ends_and_lines g.arrows h.arrows no_arrow no_arrow e.many
     (λ k l. ap₂ (λ (x : Ends) (y : ℕ). (x, y)) (ap₂ ends_by (e.sources k l) (e.targets k l)) (many k l)) in
-    ap (λ (t : ArrowCounts). record { straight = how_many (has_points 2) gs; arcs = how_many (has_points 3) gs; loops = how_many (has_points 4) gs; left_out_lem = t.left_out_lem; lines = t.lines })
+    ap (λ (t : ArrowCounts). record { straight = how_many (has_points 2) gs; arcs = how_many (has_points 3) gs; loops = how_many (has_points 4) gs; left_out = t.left_out; lines = t.lines })
     (sym (counted_by g)
     ∙ ap₂ (λ (n : ℕ) (l : List (Ends × ℕ)). over (with_ends n) none_counted l) e.states q
     ∙ counted_by h)

@@ -169,7 +169,7 @@ start_line s = text_line "start" (whole_field s.number ∷ head_field (start_tip
 abbrev pub total_line : Totals → TextLine
 total_line t =
     text_line "total"
-    (whole_field t.straight ∷ whole_field t.arcs ∷ whole_field t.loops ∷ whole_field t.left_out_lem ∷ whole_field t.lines ∷ [])
+    (whole_field t.straight ∷ whole_field t.arcs ∷ whole_field t.loops ∷ whole_field t.left_out ∷ whole_field t.lines ∷ [])
 
 -- "four lines a record"
 abbrev pub record_lines : Geometry → List TextLine

@@ -45,7 +45,7 @@ worked_listing =
 
 -- one straight arrow, and its one line
 abbrev worked_totals : Totals
-worked_totals = record { straight = 1; arcs = 0; loops = 0; left_out_lem = 0; lines = 1 }
+worked_totals = record { straight = 1; arcs = 0; loops = 0; left_out = 0; lines = 1 }
 
 pub worked_listing_lem : list_text (whole 244) (whole 76) (vec (whole 66) (whole 38) ∷ vec (whole 206) (whole 38) ∷ []) (1 ∷ 0 ∷ []) (worked_arrow ∷ []) worked_totals ≡ worked_listing
 unfolding list_text lines_text line_text body_text fields_text field_text list_lines starts states_from filter_by flat_map head_of path_text more_text points_text point_text num_text decimal rounded_size minus_text fraction digits digits_by S.round sin cos reduced series down to_unsigned of_int round size span climb units odd sum add sub mul div rem neg lt eq of_bits of_fields count_trailing_zeros

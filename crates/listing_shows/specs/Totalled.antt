@@ -42,7 +42,7 @@ ends_differ g a = is_kept g a && not (eqb a.source a.target)
 abbrev pub arrows_with : Lent → (Graph → Arrow → Bool) → ℕ
 arrows_with c test = how_many (test (meaning c.sheet)) (meaning c.sheet).arrows
 
--- the lines of an arrow; "Label lines of left_out_lem arrows are not counted."
+-- the lines of an arrow; "Label lines of left-out arrows are not counted."
 abbrev pub lines_of_kept : Graph → Arrow → ℕ
 lines_of_kept g a = cond (end_missing g a) 0 (length a.lines)
 
@@ -53,18 +53,18 @@ lines_in_all g = total_from 0 (map (lines_of_kept g) g.arrows)
 -- ---- the claim: for all byte lists, limits, kinds and lent slices, where `list` answers
 
 pub record Totalled (c : Lent) (a : ListAnswered c) : Type 0 where
-  -- "The listing ends with a line `total`, then the numbers of straight arrows, arcs, loops, left_out_lem arrows and label lines."
+  -- "The listing ends with a line `total`, then the numbers of straight arrows, arcs, loops, left-out arrows and label lines."
   pub totals : Totals
   pub before : List ℕ
   pub ends : list_wrote c a ≡ before ++ line_text (total_line totals)
   pub line : last_line (list_wrote c a) ≡ total_text totals
   -- over the sheet
-  pub left_out_lem : totals.left_out_lem ≡ arrows_with c end_missing
+  pub left_out : totals.left_out ≡ arrows_with c end_missing
   pub lines : totals.lines ≡ lines_in_all (meaning c.sheet)
   pub same_ends : totals.loops ≡ arrows_with c ends_same
   pub other_ends : totals.straight + totals.arcs ≡ arrows_with c ends_differ
   -- "The first four add up to the sheet's arrows."
-  pub all : totals.straight + totals.arcs + totals.loops + totals.left_out_lem ≡ length (meaning c.sheet).arrows
+  pub all : totals.straight + totals.arcs + totals.loops + totals.left_out ≡ length (meaning c.sheet).arrows
   -- over the records that `route` leaves at the layout's centres: straight arrows, arcs and loops by their points, and no others (with slices long enough both answer: `lays` and `routes` of ListingShows)
   pub straight : (l : LayoutAnswered c) (r : Answered (route_call c l)) → totals.straight ≡ records_with (route_call c l) r 2
   pub arcs : (l : LayoutAnswered c) (r : Answered (route_call c l)) → totals.arcs ≡ records_with (route_call c l) r 3

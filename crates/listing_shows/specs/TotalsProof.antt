@@ -262,7 +262,7 @@ module _ (c : Lent) (a : ListAnswered c) where
         before = lines_text (lines_before plan.width plan.height cs flags listed);
         ends = wrote_is c a ∙ total_ends plan.width plan.height cs flags listed counts;
         line = ap last_line (wrote_is c a) ∙ last-at plan.width plan.height cs flags listed counts [] (total_line counts);
-        left_out_lem = missing_are graph plan.xs plan.ys;
+        left_out = missing_are graph plan.xs plan.ys;
         lines = omega (arith, lines_from graph 0 graph.arrows);
         same_ends = loops_are graph plan.xs plan.ys;
         other_ends = others_are graph plan.xs plan.ys;

@@ -67,7 +67,7 @@ rest-past node k (c ∷ l) h = rw (ne_eqb k node (λ e. omega arith)) (ap (λ (r
 rest_others : (d k : ℕ) (l : List «V») → rest_but (k + d) k l ≡ states_but d l
 unfolding rest_but states_but
 rest_others d k [] = refl
-rest_others zero k (c ∷ l) = rw (add-zero k, eq-eqb k k refl) (rest-past k (suc k) l (omega arith))
+rest_others zero k (c ∷ l) = rw (add-zero k, eq-eqb k k refl) (rest-past (k + 0) (suc k) l (omega arith))
 rest_others (suc d) k (c ∷ l) =
     rw (ne_eqb k (k + suc d) (λ e. omega arith))
     (ap (λ (r : List «V»). c ∷ r) (ap (λ (n : ℕ). rest_but n (suc k) l) (add-suc k d ∙ sym (suc-add k d)) ∙ rest_others d (suc k) l))

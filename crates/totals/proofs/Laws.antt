@@ -47,7 +47,7 @@ fold_start g a s i m e q = rw (e, q)
 -- t are the arrows as the code counted them
 pub totals_are : (g : Graph) (gs : List Geometry) (n : ℕ) (t : ArrowCounts) (a b c : ℕ) → n ≡ length g.states → t ≡ over (with_arrow n) none_counted g.arrows
     → a ≡ how_many (has_points 2) gs → b ≡ how_many (has_points 3) gs → c ≡ how_many (has_points 4) gs
-    → ◌≡◌ {A = Totals} (record { straight = a; arcs = b; loops = c; left_out_lem = t.left_out_lem; lines = t.lines }) (totals_of g gs)
+    → ◌≡◌ {A = Totals} (record { straight = a; arcs = b; loops = c; left_out = t.left_out; lines = t.lines }) (totals_of g gs)
 unfolding totals_of
 totals_are g gs n t a b c en et ea eb ec =
     let e : t ≡ arrow_counts (how_many (is_left_out g) g.arrows) (length (counted_lines g)) = et ∙ ap (λ (n : ℕ). over (with_arrow n) none_counted g.arrows) en ∙ arrows_counted g in

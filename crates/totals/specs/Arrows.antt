@@ -14,7 +14,7 @@ use Rattle.totals.specs.declared.ArrowCounts.{ArrowCounts}
 use Rattle.totals.specs.Totals.{is_left_out, counted_lines}
 
 abbrev pub arrow_counts : ℕ → ℕ → ArrowCounts
-arrow_counts out lines = record { left_out_lem = out; lines = lines }
+arrow_counts out lines = record { left_out = out; lines = lines }
 
 abbrev pub none_counted : ArrowCounts
 none_counted = arrow_counts 0 0
@@ -27,7 +27,7 @@ unfoldable pub lines_add : ℕ → Arrow → ℕ
 lines_add n a = cond (ends_below n a.source a.target) (length a.lines) 0
 
 abbrev pub with_arrow : ℕ → ArrowCounts → Arrow → ArrowCounts
-with_arrow n t a = arrow_counts (t.left_out_lem + left_out_add n a) (t.lines + lines_add n a)
+with_arrow n t a = arrow_counts (t.left_out + left_out_add n a) (t.lines + lines_add n a)
 
 module _ (g : Graph) where
   abbrev out : List Arrow → ℕ
@@ -36,7 +36,7 @@ module _ (g : Graph) where
   abbrev within : List Arrow → ℕ
   within l = length (flat_map (λ (a : Arrow). a.lines) (filter_by (is_kept g) l))
 
-  counted : (t : ArrowCounts) (l : List Arrow) → over (with_arrow (length g.states)) t l ≡ arrow_counts (t.left_out_lem + out l) (t.lines + within l)
+  counted : (t : ArrowCounts) (l : List Arrow) → over (with_arrow (length g.states)) t l ≡ arrow_counts (t.left_out + out l) (t.lines + within l)
   unfolding over left_out_add lines_add how_many filter_by flat_map
   counted t [] = ap₂ arrow_counts (omega arith) (omega arith)
   counted t (a ∷ l) =

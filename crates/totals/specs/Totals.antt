@@ -34,6 +34,6 @@ totals_of g gs = record {
   straight = how_many (has_points 2) gs;
   arcs = how_many (has_points 3) gs;
   loops = how_many (has_points 4) gs;
-  left_out_lem = how_many (is_left_out g) g.arrows;
+  left_out = how_many (is_left_out g) g.arrows;
   lines = length (counted_lines g);
 }

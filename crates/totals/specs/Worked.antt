@@ -43,6 +43,6 @@ four_records =
     drawn_as (Line o o) ∷ drawn_as (Quad o o o) ∷ drawn_as (Quad o o o) ∷ drawn_as (Cubic o o o o) ∷ []
 
 -- a line without text is counted, the line of a left-out arrow is not
-pub worked_totals_lem : totals_of five_arrows four_records ≡ record { straight = 1; arcs = 2; loops = 1; left_out_lem = 1; lines = 4 }
+pub worked_totals_lem : totals_of five_arrows four_records ≡ record { straight = 1; arcs = 2; loops = 1; left_out = 1; lines = 4 }
 unfolding totals_of how_many filter_by flat_map
 worked_totals_lem = refl

@@ -111,9 +111,9 @@ fn lines_add(s: &[u8], k: usize, n: usize) -> usize
 
 // One arrow more, that of record k.
 fn with_arrow(s: &[u8], k: usize, n: usize, t: ArrowCounts) -> ArrowCounts
-    requires { (k < 65536) × (t.left_out_lem ≤ 65536) × (t.lines ≤ 4294967296) }
+    requires { (k < 65536) × (t.left_out ≤ 65536) × (t.lines ≤ 4294967296) }
     ensures { (result ≡ W.with_arrow n t (G.arrow_of s.now k))
-        × (result.left_out_lem ≤ t.left_out_lem + 1)
+        × (result.left_out ≤ t.left_out + 1)
         × (result.lines ≤ t.lines + 65536) }
 {
     let out = left_out_add(s, k, n);

@@ -53,7 +53,7 @@ module _ (p : «V» → «V» → Bool) (g : ℕ → «V») where
   unfolding any_segment table
   seg_miss k zero h e = absurd (not-suc-le-zero h)
   seg_miss k (suc zero) h e = absurd (omega arith)
-  seg_miss k (suc (suc n)) h e = let f : p (g k) (g (suc k)) ≡ false = rw add-one at e in let e : k + 1 ≡ suc k = omega arith in rw (less_one (suc n), f, e)
+  seg_miss k (suc (suc n)) h e = let f : p (g k) (g (suc k)) ≡ false = rw add-one at e in rw (less_one (suc n), f) (ap (λ (j : ℕ). any_segment p (table g j (suc n))) (add-one k))
 
   pub seg_end : (k n : ℕ) → n ≤ 1 → false ≡ any_segment p (table g k n)
   unfolding any_segment table

@@ -17,7 +17,10 @@ slice_bounds-bend_past-end-2 c = let g = c.blocked-n.ensures in sym (length-take
 
 pub bend_past-requires : goal.bend_past-requires
 bend_past-requires c = let g = c.blocked-n.ensures in
-    (c.requires.ys_len, length-take-le _ _ (omega (arith, g.room, g.same)) ∙ sym (length-take-le _ _ g.room))
+    record {
+      ys_len = c.requires.ys_len;
+      hi_len = length-take-le _ _ (omega (arith, g.room, g.same)) ∙ sym (length-take-le _ _ g.room);
+    }
 
 pub returns : goal.returns
 unfolding bend

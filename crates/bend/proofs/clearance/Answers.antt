@@ -18,11 +18,14 @@ unfolding clearance
 loop-k-init c = let a = c.args in (
       omega arith,
       start-near c.infinity-most.result c.infinity-most.ensures,
-      ap₂ (λ (v : «V») (m : Float). up (sampled (other_states a.c (centres a.xs.now a.ys.now)) (Quad a.c.a-1 v a.c.b-1)) 1 16 m) c.control.ensures c.infinity-most.ensures,
+      ap₂ (λ (v : «V») (m : Float). up (sampled (other_states a.c (centres a.xs.now a.ys.now)) (Quad a.c.a v a.c.b)) 1 16 m) c.control.ensures c.infinity-most.ensures,
     )
 
 pub nearest-r-requires : goal.nearest-r-requires
-nearest-r-requires c = (c.requires, c.loop-k.invariant.1)
+nearest-r-requires c = record {
+      ys_len = c.requires;
+      good_near = c.loop-k.invariant.1;
+    }
 
 pub loop-k-preserved : goal.loop-k-preserved
 loop-k-preserved c = let a = c.args in

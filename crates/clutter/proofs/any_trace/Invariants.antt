@@ -1,0 +1,17 @@
+-- `clutter::any_trace` meets its contract.
+use mathlib.Core.Path.{◌≡◌, refl, ◌∙◌}
+use Prim.Native.Nat.{◌+◌, ◌-◌}
+use native.Mathlib.Omega.{arith}
+use Rattle.laws.specs.Flat.{part}
+use Rattle.laws.specs.Any.{any_of, some_hit, some_miss, some_none}
+use Rattle.laws.specs.Tables.{table-first, table_none}
+use Rattle.trace.specs.Traces.{struck}
+use Rattle.trace.specs.Form.{decode_trace, decode_traces}
+use Rattle.clutter.specs.Clutter.{traces_from}
+use Rattle.clutter.proofs.any_trace.Given as goal
+
+abbrev pub invariant-loop-left : goal.invariant-loop-left
+invariant-loop-left l = (any_of (struck l.own l.b) (traces_from l.traces l.k l.left) ≡ any_of (struck l.own l.b) (decode_traces l.n l.traces)) × (l.k + l.left ≡ l.n)
+
+abbrev pub decreases-loop-left : goal.decreases-loop-left
+decreases-loop-left l = l.left

@@ -1,0 +1,18 @@
+-- `columns::explore` meets its contract.
+use mathlib.Core.Path.{◌≡◌, refl, sym, ap, subst, ◌∙◌}
+use mathlib.Core.List.{List}
+use Prim.Native.Nat.{ℕ, ◌+◌, ◌-◌, ◌≤◌}
+use native.Mathlib.Omega.{arith}
+use lib.ListN.{length, take, drop, get_or}
+use Rattle.laws.specs.Loops.{over}
+use Rattle.columns.specs.Columns.{end_pairs, discover, successors, explore}
+use Rattle.columns.specs.Found.{Fair, visit_fair, front_kept}
+use Rattle.columns.proofs.Laws.{explore-step, explore_stop}
+use Rattle.columns.proofs.explore.Given as goal
+
+abbrev pub invariant-loop-i : goal.invariant-loop-i
+invariant-loop-i l = (length l.order ≡ length l.initial.order) × (l.p ≤ length l.initial.order) × (l.high ≤ l.p) × (take l.high l.order ≡ take l.high l.initial.order) × Fair (length l.initial.order) (take l.p l.order)
+    × (explore (length l.initial.order) (end_pairs l.sources l.targets) (take l.p l.order) (drop l.i (take l.high l.initial.order)) ≡ explore (length l.initial.order) (end_pairs l.sources l.targets) (take l.high l.initial.order) (drop l.low (take l.high l.initial.order)))
+
+abbrev pub decreases-loop-i : goal.decreases-loop-i
+decreases-loop-i l = l.high - l.i

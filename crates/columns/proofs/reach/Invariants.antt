@@ -1,0 +1,13 @@
+-- `columns::reach` meets its contract.
+use mathlib.Core.Path.{◌≡◌, refl, ◌∙◌}
+use Prim.Native.Nat.{◌-◌, ◌<◌}
+use native.Mathlib.Omega.{arith}
+use lib.ListN.{length, length-set}
+use Rattle.columns.proofs.Laws.{Searching, search_begin, search_grown, search_stop, search_step, search_reached}
+use Rattle.columns.proofs.reach.Given as goal
+
+abbrev pub invariant-loop-left : goal.invariant-loop-left
+invariant-loop-left l = Searching l.sources l.targets l.start l.order l.sizes l.count l.low l.high l.left × (length l.order ≡ length l.initial.order) × (length l.sizes ≡ length l.initial.sizes)
+
+abbrev pub decreases-loop-left : goal.decreases-loop-left
+decreases-loop-left l = l.left

@@ -1,0 +1,39 @@
+-- `drawing_text::records_ok` meets its contract. The invariant: the test of the records still to come decides.
+use mathlib.Core.Path.{◌≡◌, sym, ap, ◌∙◌}
+use Prim.Native.Nat.{◌-◌, ◌≤◌}
+use native.Mathlib.Omega.{arith}
+use Rattle.laws.specs.Flat.{part, table}
+use Rattle.laws.specs.Every.{every, every_stop, every-step, every-end, every-all}
+use Rattle.laws.specs.Tables.{table_from, table_front, table-past}
+use Rattle.records.specs.Records.{decode_geometry, decode_records}
+use borrow.Author.Tests.{not-true, not-false}
+use mathlib.Core.List.{flat_map}
+use Rattle.label_spots.specs.declared.Geometry.{Geometry}
+use Rattle.drawing_text.specs.Lines.{record_lines, line_writable, lines_writable}
+use mathlib.Core.Bool.{not}
+use Rattle.drawing_text.proofs.records_ok.Goals as goal
+
+pub loop-k-init : goal.loop-k-init
+unfolding lines_writable
+loop-k-init c = (omega arith, ap (every (λ (g : Geometry). lines_writable (record_lines g))) (table_from (λ j. decode_geometry (part 20 j c.args.records.now)) c.args.count) ∙ sym (every-all line_writable record_lines _))
+
+pub geometry_at-g-requires : goal.geometry_at-g-requires
+geometry_at-g-requires c = omega arith
+
+pub record_ok-requires : goal.record_ok-requires
+record_ok-requires c = tt
+
+pub returns-then-not-record_ok : goal.returns-then-not-record_ok
+returns-then-not-record_ok c = every_stop (λ (g : Geometry). lines_writable (record_lines g)) (decode_geometry (part 20 c.loop-k.k c.args.records.now)) (table_front _ c.loop-k.k c.args.count (omega arith)) (ap (λ (g : Geometry). lines_writable (record_lines g)) (sym c.geometry_at-g.ensures) ∙ sym c.record_ok.ensures ∙ not-true _ (ap not c.if-not-record_ok.true)) c.loop-k.invariant.1
+
+pub overflow_step-k : goal.overflow_step-k
+overflow_step-k c = omega arith
+
+pub loop-k-smaller : goal.loop-k-smaller
+loop-k-smaller c = omega arith
+
+pub loop-k-preserved : goal.loop-k-preserved
+loop-k-preserved c = (omega arith, every-step (λ (g : Geometry). lines_writable (record_lines g)) (decode_geometry (part 20 c.loop-k.k c.args.records.now)) (table_front _ c.loop-k.k c.args.count (omega arith)) (ap (λ (g : Geometry). lines_writable (record_lines g)) (sym c.geometry_at-g.ensures) ∙ sym c.record_ok.ensures ∙ not-false _ (ap not c.if-not-record_ok.false)) c.loop-k.invariant.1)
+
+pub returns : goal.returns
+returns c = every-end (λ (g : Geometry). lines_writable (record_lines g)) (table-past _ c.loop-k.k c.args.count (omega arith)) c.loop-k.invariant.1

@@ -1,0 +1,18 @@
+-- `fit::to_margin` meets its contract.
+use mathlib.Core.Path.{◌≡◌, refl, ◌∙◌}
+use mathlib.Core.List.{◌++◌, map}
+use Prim.Native.Nat.{◌-◌, ◌≤◌}
+use native.Mathlib.Omega.{arith}
+use lib.ListN.{length, get_or, take, drop, length-set}
+use lib.Ieee.{Float, nan}
+use Rattle.laws.specs.Filled.{map-step, map-end}
+use Rattle.float.specs.Constants.{margin}
+use Rattle.float.specs.Ops.{◌⊕◌, ◌⊖◌}
+use Rattle.fit.specs.Fit.{shifted}
+use Rattle.fit.proofs.to_margin.Given as goal
+
+abbrev pub invariant-loop-i : goal.invariant-loop-i
+invariant-loop-i l = (l.i-end ≡ length l.initial.l) × (l.i ≤ length l.initial.l) × (length l.l ≡ length l.initial.l) × (take l.i l.l ++ map (λ v. v ⊕ (margin ⊖ l.low)) (drop l.i l.l) ≡ shifted l.low l.initial.l)
+
+abbrev pub decreases-loop-i : goal.decreases-loop-i
+decreases-loop-i l = length l.initial.l - l.i

@@ -1,0 +1,47 @@
+-- `scene::traces_cost` meets its contract.
+use mathlib.Core.Path.{◌≡◌, refl, ◌∙◌}
+use mathlib.Core.List.{map}
+use Prim.Native.Nat.{◌+◌, ◌-◌, ◌*◌, ◌≤◌}
+use native.Mathlib.Omega.{arith}
+use Rattle.laws.specs.Best.{cut_total}
+use Rattle.laws.specs.Flat.{table, part}
+use Rattle.laws.specs.Counting.{worth, cut_step, cut_stop, cut-end}
+use Rattle.trace.specs.Traces.{struck}
+use Rattle.trace.specs.Form.{decode_trace, decode_traces}
+use Rattle.scene.proofs.traces_cost.Goals as goal
+
+pub loop-left-init : goal.loop-left-init
+loop-left-init c = (refl, omega arith, omega arith)
+
+pub returns-then-limit-sum : goal.returns-then-limit-sum
+returns-then-limit-sum c = let a = c.args in
+    let l = c.loop-left in
+    (cut_stop (worth (struck a.own a.wide) 3) (λ i. decode_trace (part 40 i a.traces.now)) a.limit l.sum l.k l.left c.if-limit-sum.true ∙ l.invariant.0, omega arith)
+
+pub trace_add-sum-requires : goal.trace_add-sum-requires
+trace_add-sum-requires c = omega arith
+
+pub overflow_add-sum : goal.overflow_add-sum
+overflow_add-sum c = omega arith
+
+pub overflow_add-k : goal.overflow_add-k
+overflow_add-k c = omega arith
+
+pub overflow_sub-left : goal.overflow_sub-left
+overflow_sub-left c = omega arith
+
+pub loop-left-smaller : goal.loop-left-smaller
+loop-left-smaller c = omega arith
+
+pub loop-left-preserved : goal.loop-left-preserved
+loop-left-preserved c = let a = c.args in
+    let l = c.loop-left in (
+      cut_step (worth (struck a.own a.wide) 3) (λ i. decode_trace (part 40 i a.traces.now)) a.limit l.sum c.trace_add-sum.result l.k l.left c.loop-left-test.true c.if-limit-sum.false c.trace_add-sum.ensures.0 ∙ l.invariant.0,
+      omega arith,
+      omega arith,
+    )
+
+pub returns : goal.returns
+returns c = let a = c.args in
+    let l = c.loop-left in
+    (cut-end (worth (struck a.own a.wide) 3) (λ i. decode_trace (part 40 i a.traces.now)) a.limit l.sum l.k l.left c.loop-left-test.false ∙ l.invariant.0, omega arith)

@@ -1,0 +1,19 @@
+-- `totals::with_points` meets its contract.
+use mathlib.Core.Path.{◌≡◌}
+use Prim.Native.Nat.{ℕ, ◌+◌, ◌-◌, ◌≤◌}
+use native.Mathlib.Omega.{arith}
+use Rattle.laws.specs.Flat.{table, part}
+use Rattle.laws.specs.Counting.{how_many, how_many-step, how_many_none}
+use Rattle.laws.specs.Tables.{table-first, table_none}
+use Rattle.label_spots.specs.declared.Geometry.{Geometry}
+use Rattle.records.specs.Records.{decode_geometry, decode_records}
+use Rattle.totals.specs.Totals.{has_points}
+use Rattle.totals.proofs.with_points.Given as goal
+
+abbrev pub invariant-loop-left : goal.invariant-loop-left
+invariant-loop-left l = (l.sum + how_many (has_points l.n) (table (λ i. decode_geometry (part 20 i l.records)) l.k l.left) ≡ how_many (has_points l.n) (decode_records l.count l.records))
+    × (l.k + l.left ≡ l.count)
+    × (l.sum + l.left ≤ l.count)
+
+abbrev pub decreases-loop-left : goal.decreases-loop-left
+decreases-loop-left l = l.left
