@@ -1,0 +1,16 @@
+-- `layout::layers_clutter` meets its contract.
+use mathlib.Core.Path.{ap, ◌∙◌}
+use Rattle.layout.specs.Layout.{Plan, plan_by, clutter_at}
+use borrow.Author.Rules.{rules}
+use Rattle.layout.proofs.layers_clutter.Goals as goal
+
+pub shape_of-xs : goal.shape_of-xs
+shape_of-xs c = c.layers_at.auto.xs
+
+pub shape_of-ys : goal.shape_of-ys
+shape_of-ys c = c.layers_at.auto.ys
+
+pub returns : goal.returns
+returns c = let a = c.args in
+    let p : Plan = plan_by a.flags.now a.sources.now a.targets.now a.widths.now a.heights.now in
+    c.clutter_at.ensures ∙ ap (clutter_at p) c.layers_at.ensures

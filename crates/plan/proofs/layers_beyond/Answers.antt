@@ -1,0 +1,17 @@
+-- `plan::layers_beyond` meets its contract.
+use mathlib.Core.Path.{ap, ◌∙◌}
+use Rattle.layout.specs.Layout.{Plan, plan_by}
+use Rattle.plan.specs.Measured.{beyond_at}
+use borrow.Author.Rules.{rules}
+use Rattle.plan.proofs.layers_beyond.Goals as goal
+
+pub shape_of-px : goal.shape_of-px
+shape_of-px c = c.layers_at.auto.xs
+
+pub shape_of-py : goal.shape_of-py
+shape_of-py c = c.layers_at.auto.ys
+
+pub returns : goal.returns
+returns c = let a = c.args in
+    let p : Plan = plan_by a.flags.now a.sources.now a.targets.now a.widths.now a.heights.now in
+    c.beyond.ensures ∙ ap (beyond_at p) c.layers_at.ensures
