@@ -1,0 +1,48 @@
+-- `call_cases::at_centres` meets its contract. Assumes nothing.
+use mathlib.Core.Path.{sym, ◌∙◌}
+use Prim.Native.Nat.{◌+◌, ◌*◌}
+use native.Mathlib.Omega.{arith}
+use lib.Seq.{length-take-le}
+use borrow.Author.Tests.{le-leb, lt-leb}
+use Rattle.cases.specs.Laws.{part-tail}
+use Rattle.call_cases.specs.Cases.{drawn_agrees, at_centres}
+use Rattle.call_cases.specs.Laws.{first_floats, of_three}
+use borrow.Author.Rules.{rules}
+use Rattle.call_cases.proofs.at_centres.Goals as goal
+
+pub index-nx-requires : goal.index-nx-requires
+index-nx-requires c = tt
+
+pub index-ny-requires : goal.index-ny-requires
+index-ny-requires c = tt
+
+pub returns-then-nx-gt80 : goal.returns-then-nx-gt80
+unfolding at_centres
+returns-then-nx-gt80 c = rw (← c.index-nx.ensures.0, lt-leb _ _ c.if-nx-gt80.true)
+
+pub returns-then-ny-gt80 : goal.returns-then-ny-gt80
+unfolding at_centres
+returns-then-ny-gt80 c = rw (← c.index-nx.ensures.0, ← c.index-ny.ensures.0, le-leb _ _ c.if-nx-gt80.false, lt-leb _ _ c.if-ny-gt80.true)
+
+pub returns-then-rest-end : goal.returns-then-rest-end
+unfolding at_centres
+returns-then-rest-end c = rw (← c.index-nx.ensures.0, ← c.index-ny.ensures.0, le-leb _ _ c.if-nx-gt80.false, le-leb _ _ c.if-ny-gt80.false, lt-leb _ _ c.if-rest-end.true)
+
+pub fill_floats-requires : goal.fill_floats-requires
+fill_floats-requires c = tt
+
+pub fill_floats-requires-2 : goal.fill_floats-requires-2
+fill_floats-requires-2 c = tt
+
+pub slice_bounds-drawn_agrees-end : goal.slice_bounds-drawn_agrees-end
+slice_bounds-drawn_agrees-end c = sym (length-take-le _ _ (omega arith))
+
+pub slice_bounds-drawn_agrees-end-2 : goal.slice_bounds-drawn_agrees-end-2
+slice_bounds-drawn_agrees-end-2 c = sym (length-take-le _ _ (omega arith))
+
+pub drawn_agrees-requires : goal.drawn_agrees-requires
+drawn_agrees-requires c = tt
+
+pub returns : goal.returns
+unfolding at_centres
+returns c = rw (← c.index-nx.ensures.0, ← c.index-ny.ensures.0, le-leb _ _ c.if-nx-gt80.false, le-leb _ _ c.if-ny-gt80.false, le-leb _ _ c.if-rest-end.false) (c.drawn_agrees.ensures ∙ of_three (drawn_agrees c.args.kind c.args.answer c.args.sheet.now c.args.m) _ _ _ _ _ _ (first_floats c.args.rest.now 4 c.index-nx.result 80 _ c.fill_floats.ensures c.if-nx-gt80.false) (first_floats c.args.rest.now (4 + 8 * c.index-nx.result) c.index-ny.result 80 _ c.fill_floats-2.ensures c.if-ny-gt80.false) (part-tail (4 + 8 * c.index-nx.result + 8 * c.index-ny.result) c.args.rest.now))

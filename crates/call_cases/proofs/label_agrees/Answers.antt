@@ -1,0 +1,38 @@
+-- `call_cases::label_agrees` meets its contract. Assumes nothing.
+use mathlib.Core.Path.{sym, ap, ◌∙◌}
+use mathlib.Core.List.{List}
+use Prim.Native.Nat.{ℕ}
+use native.Mathlib.Omega.{arith}
+use lib.ListN.{take}
+use lib.Seq.{length-take-le}
+use lib.Ieee.{Float}
+use borrow.Author.Tests.{le-leb, lt-leb}
+use Rattle.calls.specs.Calls.{Outcome, label_size}
+use Rattle.cases.specs.Payload.{bits_at}
+use Rattle.cases.specs.Laws.{each_first}
+use Rattle.call_cases.specs.Cases.{outcome_right, size_is, label_agrees}
+use borrow.Author.Rules.{rules}
+use Rattle.call_cases.proofs.label_agrees.Goals as goal
+
+pub index-lines-requires : goal.index-lines-requires
+index-lines-requires c = tt
+
+pub returns-then-lines-gt16 : goal.returns-then-lines-gt16
+unfolding label_agrees
+returns-then-lines-gt16 c = rw (← c.index-lines.ensures.0, lt-leb _ _ c.if-lines-gt16.true)
+
+pub fill_sizes-requires : goal.fill_sizes-requires
+fill_sizes-requires c = tt
+
+pub slice_bounds-label_size-end : goal.slice_bounds-label_size-end
+slice_bounds-label_size-end c = sym (length-take-le _ _ (omega arith))
+
+pub label_size-requires : goal.label_size-requires
+label_size-requires c = tt
+
+pub sized_is-requires : goal.sized_is-requires
+sized_is-requires c = tt
+
+pub returns : goal.returns
+unfolding label_agrees
+returns c = rw (← c.index-lines.ensures.0, le-leb _ _ c.if-lines-gt16.false) (c.sized_is.ensures ∙ ap (λ (o : Outcome (Float × Float)). outcome_right c.args.answer (size_is c.args.rest.now) o) (c.label_size.ensures ∙ ap (λ (l : List ℕ). label_size c.args.text.now l c.args.m) (ap (take c.index-lines.result) c.fill_sizes.ensures ∙ each_first 8 (bits_at c.args.rest.now) 18 c.index-lines.result 16 c.if-lines-gt16.false)))

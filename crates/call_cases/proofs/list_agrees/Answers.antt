@@ -1,0 +1,21 @@
+-- `call_cases::list_agrees` meets its contract. Assumes nothing.
+use mathlib.Core.Path.{ap, ◌∙◌}
+use mathlib.Core.List.{List}
+use Prim.Native.Nat.{ℕ}
+use lib.ListN.{replicate}
+use borrow.Author.Tests.{le-leb, lt-leb}
+use Rattle.cases.specs.Laws.{part-tail}
+use Rattle.call_cases.specs.Cases.{list_is, list_agrees}
+use borrow.Author.Rules.{rules}
+use Rattle.call_cases.proofs.list_agrees.Goals as goal
+
+pub index-room-requires : goal.index-room-requires
+index-room-requires c = tt
+
+pub returns-then-rest-lt2 : goal.returns-then-rest-lt2
+unfolding list_agrees
+returns-then-rest-lt2 c = rw (lt-leb _ _ c.if-rest-lt2.true)
+
+pub returns : goal.returns
+unfolding list_agrees
+returns c = rw (le-leb _ _ c.if-rest-lt2.false, ← c.index-room.ensures.0) (c.list_is.ensures ∙ ap (λ (t : List ℕ). list_is c.args.answer c.args.by c.args.sheet.now c.args.m c.index-room.result t (replicate 65600 170)) (part-tail 2 c.args.rest.now))

@@ -1,0 +1,29 @@
+-- `call_cases::number_agrees` meets its contract. Assumes nothing.
+use mathlib.Core.Path.{ap₂, ◌∙◌}
+use mathlib.Core.List.{List}
+use Prim.Native.Nat.{ℕ}
+use lib.ListN.{replicate}
+use lib.Ieee.{Float}
+use borrow.Author.Tests.{le-leb, lt-leb}
+use Rattle.cases.specs.Laws.{part-tail}
+use Rattle.call_cases.specs.Cases.{number_is, number_agrees}
+use borrow.Author.Rules.{rules}
+use Rattle.call_cases.proofs.number_agrees.Goals as goal
+
+pub index-room-requires : goal.index-room-requires
+index-room-requires c = tt
+
+pub returns-then-room-gt64 : goal.returns-then-room-gt64
+unfolding number_agrees
+returns-then-room-gt64 c = rw (← c.index-room.ensures.0, lt-leb _ _ c.if-room-gt64.true)
+
+pub returns-then-rest-lt10 : goal.returns-then-rest-lt10
+unfolding number_agrees
+returns-then-rest-lt10 c = rw (← c.index-room.ensures.0, le-leb _ _ c.if-room-gt64.false, lt-leb _ _ c.if-rest-lt10.true)
+
+pub float-requires : goal.float-requires
+float-requires c = tt
+
+pub returns : goal.returns
+unfolding number_agrees
+returns c = rw (← c.index-room.ensures.0, le-leb _ _ c.if-room-gt64.false, le-leb _ _ c.if-rest-lt10.false) (c.number_is.ensures ∙ ap₂ (λ (v : Float) (t : List ℕ). number_is c.args.answer v c.index-room.result t (replicate 96 170)) c.float.ensures (part-tail 10 c.args.rest.now))

@@ -1,0 +1,27 @@
+-- `call_cases::sheet_agrees` meets its contract. Assumes nothing.
+use mathlib.Core.Path.{ap, ◌∙◌}
+use mathlib.Core.List.{List}
+use Prim.Native.Nat.{ℕ}
+use lib.ListN.{replicate}
+use borrow.Author.Tests.{le-leb, lt-leb}
+use Rattle.cases.specs.Laws.{part-tail}
+use Rattle.call_cases.specs.Cases.{sheet_is, sheet_agrees}
+use borrow.Author.Rules.{rules}
+use Rattle.call_cases.proofs.sheet_agrees.Goals as goal
+
+pub length_at-room-requires : goal.length_at-room-requires
+length_at-room-requires c = tt
+
+pub returns-then-room-gt65568 : goal.returns-then-room-gt65568
+unfolding sheet_agrees
+returns-then-room-gt65568 c = rw (← c.length_at-room.ensures.0, lt-leb _ _ c.if-room-gt65568.true)
+
+pub returns-then-rest-lt4 : goal.returns-then-rest-lt4
+unfolding sheet_agrees
+returns-then-rest-lt4 c = rw (← c.length_at-room.ensures.0, le-leb _ _ c.if-room-gt65568.false, lt-leb _ _ c.if-rest-lt4.true)
+
+pub returns : goal.returns
+unfolding sheet_agrees
+returns c = let a = c.args in
+    rw (← c.length_at-room.ensures.0, le-leb _ _ c.if-room-gt65568.false, le-leb _ _ c.if-rest-lt4.false)
+    (c.sheet_is.ensures ∙ ap (λ (t : List ℕ). sheet_is a.answer a.sheet.now a.m c.length_at-room.result t (replicate 65600 170)) (part-tail 4 a.rest.now))
