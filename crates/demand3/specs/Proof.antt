@@ -5,7 +5,8 @@ use Rattle.std.proofs.Math.Path.{ap}
 use mathlib.Core.List.{List, [], ◌∷◌, map}
 use Rattle.std.proofs.Math.ListN.{length, length-map, get_or-map}
 use Rattle.std.specs.Float.{nan}
-use Rattle.laws.specs.Best.{FirstLeast, first_least_unique}
+use Rattle.laws.specs.Best.{FirstLeast}
+use Rattle.laws.proofs.Best.{first_least_unique}
 use Rattle.laws.specs.Refusals.{Refusal, Clear, clear_decides}
 use Rattle.laws.specs.Flat.{part}
 use Rattle.laws.specs.Flats.{length_flat, part_flat}

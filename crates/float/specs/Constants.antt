@@ -1,5 +1,5 @@
 -- The constants by their bits, as the code has them; those that the Rust names, under its names or, where the word has another meaning here, with a word more (its CLEARANCE is `full_clearance`); and the list that reads each as the f64 nearest to a fraction.
--- A name gives the decimal: f0-36 is 0.36, f64-0 is 64. f2e20 and f2e64 are powers of two. `infinity` is read by `infinity_is`, `label_char_width` by `label_char_width_is`.
+-- A name gives the decimal: f0_36 is 0.36, f64_0 is 64. f2e20 and f2e64 are powers of two. `infinity` is read by `infinity_is`, `label_char_width` by `label_char_width_is`.
 use Rattle.std.specs.Prelude.{◌≡◌, refl, false, List, [], ◌∷◌, ℕ, ◌^◌, Float}
 use Rattle.std.specs.Float.{inf, binary64}
 use Rattle.std.specs.Float.Ieee.{of_bits, round, mul}

@@ -5,7 +5,7 @@ use Rattle.std.proofs.Math.Path.{refl, ap}
 use Rattle.std.proofs.Common.{sym, ap₂, ◌∙◌, le_of_suc-le-suc, not-suc-le-zero}
 use mathlib.Core.List.{List, [], ◌∷◌, map}
 use Prim.Native.Nat.{ℕ, zero, suc, ◌<◌, zero-le, suc-le-suc}
-use Rattle.laws.specs.Best.{best, best_is, FirstLeast}
+use Rattle.laws.specs.Best.{best}
 
 module _ {S T : Type 0} (places : S → T → ℕ) (cost : S → T → ℕ → ℕ) (after : S → T → ℕ → S) where
   -- the place taken at a turn: a turn has at least one place, `suc (places s t)` in all
@@ -22,14 +22,6 @@ module _ {S T : Type 0} (places : S → T → ℕ) (cost : S → T → ℕ → �
   run_scene s [] k = s
   run_scene s (t ∷ ts) zero = s
   run_scene s (t ∷ ts) (suc k) = run_scene (after s t (taken_by s t)) ts k
-
-  -- (1) at each turn the place taken is the first least of those listed, by its full cost in the scene of that turn
-  pub run_least : (s : S) (ts : List T) (k : ℕ) (d : T) → k < length ts →
-      FirstLeast (cost (run_scene s ts k) (get_or ts k d)) (suc (places (run_scene s ts k) (get_or ts k d))) (get_or (run s ts) k 0)
-  unfolding run run_scene
-  run_least s [] k d h = absurd (not-suc-le-zero h)
-  run_least s (t ∷ ts) zero d h = best_is (cost s t) (places s t)
-  run_least s (t ∷ ts) (suc k) d h = run_least (after s t (taken_by s t)) ts k d (le_of_suc-le-suc h)
 
   -- (2) the first k records come from the first k turns alone
   pub run_take : (k : ℕ) (s : S) (ts : List T) → take k (run s ts) ≡ run s (take k ts)

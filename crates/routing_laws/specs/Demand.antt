@@ -11,6 +11,7 @@ use Rattle.laws.specs.Cases.{by_bool, by_lt}
 use Rattle.laws.specs.Filter.{filter_by, filter_yes, filter_no}
 use Rattle.laws.specs.Best.{FirstLeast}
 use Rattle.laws.specs.Run as Run
+use Rattle.laws.proofs.Run.{run_least}
 use Rattle.laws.specs.Zip.{zip_by, zip_at, take_zip}
 use Rattle.laws.specs.Joined.{filter_flat, flat_same, flat_filter}
 use Rattle.laws.specs.Places.{filter_some, filter_only, At, find}
@@ -51,7 +52,7 @@ cheapest f sizes d k h =
     let s : 0 < listed_by f (step_in f sizes d k).item = listed_some f (step_in f sizes d k).item in
     let e : suc (listed_by f (step_in f sizes d k).item - 1) ≡ listed_by f (step_in f sizes d k).item = omega arith in
     subst (λ (n : ℕ). FirstLeast (cost f (scene_at f sizes k) (step_in f sizes d k)) n (get_or (places_taken f sizes) k 0)) e
-    (Run.run_least (more f) (cost f) (scene_after f) (first_scene f) (steps f sizes) k d h)
+    (run_least (more f) (cost f) (scene_after f) (first_scene f) (steps f sizes) k d h)
 
 -- ---- (2) the drawings of the first turns come from the labels of those turns alone
 

@@ -1,6 +1,7 @@
 -- The turn of an arrow that is no loop: every listed place gets its full cost, and the first that no other undercuts is taken.
 use Rattle.std.specs.Prelude.{◌≡◌, ℕ, length}
-use Rattle.laws.specs.Best.{best, best_is, FirstLeast}
+use Rattle.laws.specs.Best.{best, FirstLeast}
+use Rattle.laws.proofs.Best.{best_is}
 use Rattle.shape.specs.declared.Rect.{Rect}
 use Rattle.label_spots.specs.declared.Turn.{Turn}
 use Rattle.bend.specs.declared.Shape.{Shape}

@@ -1,7 +1,8 @@
 -- The turn of a self-loop: every direction of `self_loop` gets its full cost, and the first that no other undercuts is taken.
 use Rattle.std.specs.Prelude.{◌≡◌, cond, List, [], ◌∷◌, ℕ, zero, suc, ◌+◌, ◌-◌, ◌*◌, ◌<◌, length, get_or, Float}
 use Rattle.std.proofs.Common.{subst, arith}
-use Rattle.laws.specs.Best.{best, best_is, FirstLeast}
+use Rattle.laws.specs.Best.{best, FirstLeast}
+use Rattle.laws.proofs.Best.{best_is}
 use Rattle.laws.specs.Counting.{how_many}
 use Rattle.float.specs.Constants.{cramped_room, f1}
 use Rattle.float.specs.Ops.{lt}

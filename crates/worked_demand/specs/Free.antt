@@ -4,7 +4,8 @@ use Rattle.std.proofs.Math.Path.{refl, ap}
 use Rattle.std.proofs.Common.{sym, ◌∙◌, true≢false, not-suc-le-zero, arith, ltb-true, eqb-true}
 use mathlib.Core.List.{List, [], ◌∷◌}
 use Rattle.laws.specs.Cases.{by_bool, by_lt}
-use Rattle.laws.specs.Best.{best, best_is, first_least_unique}
+use Rattle.laws.specs.Best.{best}
+use Rattle.laws.proofs.Best.{best_is, first_least_unique}
 use Rattle.laws.specs.Run as Run
 
 -- every place before p costs something
