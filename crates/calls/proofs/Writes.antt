@@ -13,7 +13,7 @@ use Rattle.sheet.specs.Order.{accepted_exactly, check-refused, check_accepted}
 use Rattle.sheet.specs.declared.Checked.TheVariants as C
 use Rattle.sheet.specs.declared.Limits.{Limits}
 use Rattle.encode.specs.Encode.{space_of, state_size, arrow_size, records_for}
-use Rattle.encode.specs.Means.{encode-length}
+use Rattle.encode.proofs.Means.{encode-length}
 use Rattle.write_sheet.specs.Sheets.{Savable}
 use Rattle.write_sheet.specs.Whole.{savable}
 use Rattle.number.specs.declared.Written.{Written}

@@ -16,12 +16,12 @@ use Rattle.sheet.specs.Order.{accepted_exactly}
 use Rattle.sheet.specs.Accepted.{right_length, few, within-limits}
 use Rattle.sheet.specs.declared.Checked.TheVariants.{Accepted}
 use Rattle.encode.specs.Encode.{records_for, encode}
-use Rattle.encode.specs.Means.{count_is, encode-length, encode_right, meaning-encode}
-use Rattle.encode.specs.Meets.{met_in_order}
-use Rattle.encode.specs.Accepts.{encode-clear}
+use Rattle.encode.proofs.Means.{count_is, encode-length, encode_right, meaning-encode}
+use Rattle.encode.proofs.Meets.{met_in_order}
+use Rattle.encode.proofs.Accepts.{encode-clear}
 use Rattle.encode.specs.Fewer.{records_fewer, meaning_encodable}
-use Rattle.encode.specs.Forward.{forward, full_first}
-use Rattle.encode.specs.Bytes.{sheet_bytes, meaning-bytes}
+use Rattle.encode.proofs.Forward.{forward, full_first}
+use Rattle.encode.proofs.Bytes.{sheet_bytes, meaning-bytes}
 use Rattle.calls.specs.Calls.{values, number, capped_limits, short, onto, check, fresh_sheet, write_refusals, write_sheet, write_sheet_after}
 use Rattle.calls.specs.Saved.{room_refusals}
 use Rattle.calls.specs.Decided.{number_same, number-apart, answered-clear}

@@ -12,39 +12,9 @@ use Rattle.sheet.specs.declared.Limits.{Limits}
 use Rattle.encode.specs.Encode.{records_for, encode}
 use Rattle.encode.specs.Flags.{none_above}
 use Rattle.encode.specs.Blocks.{at-word}
-use Rattle.encode.specs.Means.{head_at, encode-length, encode_right, meaning-encode}
-use Rattle.encode.specs.Meets.{right_chains}
-use Rattle.encode.specs.Clean.{right_bytes}
 
 -- a graph whose sheet a screen accepts: within its limits, every line well-formed, no flag bit above 1, at most 4,095 records
 pub record Encodable (m : Limits) (g : Graph) : Type 0 where
   pub within : Within m g
   pub flags : (k : ℕ) → k < length g.states → get_or (flags_of g) k 0 ≤ 3
   pub few : records_for g ≤ 4095
-
-fits_length : (g : Graph) → records_for g ≤ 4095 → wrong_length (encode g) ≡ false
-fits_length g h =
-    let n = length (encode g) in
-    let e : n ≡ 16 * (1 + records_for g) = encode-length g in
-    or_none (ltb n 16) (ltb 65536 n || not (eqb n (16 * (1 + count (encode g))))) (le-ltb n 16 (omega arith))
-    (or_none (ltb 65536 n) (not (eqb n (16 * (1 + count (encode g))))) (le-ltb 65536 n (omega arith))
-    (ap not (eq-eqb n (16 * (1 + count (encode g))) (encode_right g))))
-
-right_version : (g : Graph) → wrong_version (encode g) ≡ false
-right_version g = let e : version (encode g) ≡ 1 = at-word 0 (head_at g) in rw e
-
-module _ (m : Limits) (g : Graph) (w : Encodable m g) where
-  -- No cause of a refusal holds.
-  pub encode-clear : Clear (refusals m (encode g))
-  encode-clear =
-      without 1 (fits_length g w.few)
-      (without 2 (right_version g)
-      (without 4 (right_bytes g (none_above 3 g w.flags))
-      (without 3 (right_chains g)
-      (without 5 (ap (over_limits m) (meaning-encode g) ∙ not-over m g w.within)
-      (without 6 (ap ill_formed (meaning-encode g) ∙ not_ill m g w.within)
-      clear_none)))))
-
-  -- The written sheet is accepted.
-  pub encode_accepted : check_of m (encode g) ≡ Accepted
-  encode_accepted = (accepted_exactly m (encode g)).1 encode-clear

@@ -3,9 +3,6 @@ pub mod Blocks
 pub mod Flags
 pub mod Kinds
 pub mod Pieces
-pub mod Means
-pub mod Meets
-pub mod Clean
 pub mod Accepts
 pub mod Fewer
 pub mod Forward

@@ -29,7 +29,3 @@ pub record WorkedSheets : Type 0 where
       ++ arrow_bytes 0 1 0 0
   -- no states, no arrows: the header alone
   pub empty : encode (meaning empty_sheet) ≡ empty_sheet
-
-pub worked_sheets : WorkedSheets
-unfolding encode all_records space_of pieces_by line_records arrow_records flat_map chain_by line_of lines_from arrow_of states_of arrows_of
-worked_sheets = record { same = refl; ordered = refl; joined = refl; kept = refl; blocks = refl; empty = refl }

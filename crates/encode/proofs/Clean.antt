@@ -16,7 +16,7 @@ use Rattle.encode.specs.Encode.{first_index, space_of, state_size, piece_size, p
 use Rattle.encode.specs.Flags.{flags_above}
 use Rattle.encode.specs.Blocks.{StandsAt, at_drop, at_byte, at_kind, Ahead, Throughout, throughout_one, throughout_join, all_throughout}
 use Rattle.encode.specs.Kinds.{never, any_never, bad_piece, piece_some, piece_few, pieces_good, state_form, piece_form, line_form, arrow_form}
-use Rattle.encode.specs.Means.{line-head, line-rest, arrow-head, arrow-rest, head_at, states-at, arrows-at, count_is, encode_right}
+use Rattle.encode.proofs.Means.{line-head, line-rest, arrow-head, arrow-rest, head_at, states-at, arrows-at, count_is, encode_right}
 
 -- zeros that stand from byte i on
 unset : (s : List ℕ) (i e n : ℕ) (r : List ℕ) → drop i s ≡ zeros n ++ r → e ≤ i + n → some_set s i e ≡ false

@@ -15,7 +15,7 @@ use Rattle.sheet.specs.Once.{occurrences, Once, met_at, once_back}
 use Rattle.encode.specs.Encode.{first_index, space_of, all_records, state_size, piece_size, pieces, line_records, arrow_records, line_size, arrow_size, records_for, arrows_from, encode}
 use Rattle.encode.specs.Blocks.{StandsAt, at_kind, at-word, u16_back, beginnings, InRecords, all_head, all_rest}
 use Rattle.encode.specs.Kinds.{never, any_never, pieces_good, state_form, piece_form, line_form, arrow_form}
-use Rattle.encode.specs.Means.{chain_is, line-head, line-rest, line-chain, arrow-head, arrow-rest, arrow-chain, head_at, states-at, arrows-at, count_is, encode_right}
+use Rattle.encode.proofs.Means.{chain_is, line-head, line-rest, line-chain, arrow-head, arrow-rest, arrow-chain, head_at, states-at, arrows-at, count_is, encode_right}
 
 -- ---- n numbers from k on
 abbrev numbers_from : ℕ → ℕ → List ℕ
