@@ -30,8 +30,8 @@ use Rattle.clutter.specs.Clutter.{clutter_of}
 use Rattle.routing.specs.Routing.{Ends, Frame, BlockSize, no_size, kept}
 use Rattle.routing.specs.Routing as Routing
 use Rattle.routing.specs.Sheets.{ends_of, ends_by, frame_of, size_of, SameFrame}
-use Rattle.routing_laws.specs.Agree.{same-frame}
-use Rattle.routing_laws.specs.Slots.{records-length}
+use Rattle.routing_laws.proofs.Agree.{same-frame}
+use Rattle.routing_laws.proofs.Slots.{records-length}
 use Rattle.draw.specs.Drawn.{far_centre, draw_refusals}
 use Rattle.beyond.specs.Beyond.{beyond}
 use Rattle.layout.specs.Layout.{Plan, Layout, plan_of, last_kind, layout_of}
@@ -41,7 +41,8 @@ use Rattle.calls.specs.Calls.{values, number, capped_limits, onto, short, check,
 use Rattle.calls.specs.Laws.{accepted_shown}
 use Rattle.calls.specs.Refused.{check-answered}
 use Rattle.demand3.specs.Demand.{Call, Answered, record_at, path_at, graph, frame, sizes, drawn_at}
-use Rattle.demand3.specs.Proof.{call_records, stands, record_is, path_is, call_frames}
+use Rattle.demand3.specs.Proof.{call_records}
+use Rattle.demand3.proofs.Proof.{stands, record_is, path_is, call_frames}
 use Rattle.accents.specs.Sheets.{SameSizes, AnsweredAlike, RecordsAlike}
 
 -- ---- the totals of a listing: by the ends of the arrows and the numbers of their lines

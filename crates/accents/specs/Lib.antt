@@ -1,4 +1,3 @@
 pub mod Sheets
 pub mod BySizes
-pub mod Proof
 pub mod Worked

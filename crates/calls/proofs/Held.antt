@@ -16,7 +16,7 @@ use Rattle.sheet.specs.declared.Limits.{Limits}
 use Rattle.records.specs.Records.{decode_records}
 use Rattle.records.specs.Back.{Small, length-records}
 use Rattle.routing.specs.Sheets.{ends_of, frame_of, sizes_of}
-use Rattle.routing_laws.specs.Decoded.{records_most, records-small, records_decoded}
+use Rattle.routing_laws.proofs.Decoded.{records_most, records-small, records_decoded}
 use Rattle.draw.specs.Drawn.{draw_refusals, draw_of, draw_after}
 use Rattle.draw.specs.declared.Drawing.{Drawing}
 use Rattle.draw.specs.declared.Drawing.TheVariants as P

@@ -26,7 +26,7 @@ use Rattle.scene.specs.Scene.{Scene}
 use Rattle.routing.specs.Routing.{Frame, Numbered, is_kept_in, is_loop, is_arc, route_of, joined, arc_shape, start_curve, start_traces}
 use Rattle.routing.specs.Sheets.{frame_by, or_zero}
 use Rattle.routing_laws.specs.Passes.{is_crossing, turn_kind, leave_of, reach_of, traces_of}
-use Rattle.routing_laws.specs.Order.{first_scene_lem}
+use Rattle.routing_laws.proofs.Order.{first_scene_lem}
 use Rattle.curves.specs.Lay.{Slices, slices, Laying}
 use Rattle.curves.specs.Steps.{arrow_by, other_kind, Along, One, LaidArrows}
 use Rattle.curves.specs.Traces.{starts-step}

@@ -13,8 +13,10 @@ use Rattle.laws.specs.Lists.{get_d_any}
 use Rattle.label_spots.specs.declared.Geometry.{Geometry}
 use Rattle.routing.specs.Routing.{Frame, BlockSize, Item, Numbered, numbered, is_kept_in, is_loop, kept, edge_of, order, drawing, drawn_for, records, numbered_by, no_ends, numbered_at, item_for, no_item}
 use Rattle.routing_laws.specs.Numbers.{length-numbered, numbered-at}
-use Rattle.routing_laws.specs.Slots.{is_edge, drawn_once, records_edges, records-length}
-use Rattle.routing_laws.specs.Demand.{record_for, record_drawn_lem, kept_turn}
+use Rattle.routing_laws.specs.Slots.{is_edge}
+use Rattle.routing_laws.proofs.Slots.{drawn_once, records_edges, records-length}
+use Rattle.routing_laws.specs.Demand.{record_for}
+use Rattle.routing_laws.proofs.Demand.{record_drawn_lem, kept_turn}
 use Rattle.demand3.specs.Demand.{record_number, HasTurn}
 
 -- ---- arrows by their numbers

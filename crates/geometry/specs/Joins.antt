@@ -26,9 +26,10 @@ use Rattle.routing.specs.Routing.{Frame, Ends, BlockSize, Numbered, numbered, is
 use Rattle.routing.specs.Sheets.{ends_by, frame_by}
 use Rattle.routing_laws.specs.Passes.{is_crossing, turn_kind, Drawn, drawn_with, turned, passed, slots_of, gathered}
 use Rattle.routing_laws.specs.Numbers.{length-numbered, numbered-at, numbered-drop, numbered-past, of_arrow}
-use Rattle.routing_laws.specs.Turns.{size_for, with_loop, with_label, turned_loop, turned_label, turned-other}
-use Rattle.routing_laws.specs.Rim.{rim_angles_lem}
-use Rattle.routing_laws.specs.Slots.{passes-gathered}
+use Rattle.routing_laws.specs.Turns.{size_for, with_loop, with_label}
+use Rattle.routing_laws.proofs.Turns.{turned_loop, turned_label, turned-other}
+use Rattle.routing_laws.proofs.Rim.{rim_angles_lem}
+use Rattle.routing_laws.proofs.Slots.{passes-gathered}
 use Rattle.curves.specs.Lay.{Laying, Slices}
 use Rattle.curves.specs.Numbers.{many-arrows}
 use Rattle.turns.specs.Steps.{rim_by, loop_for, loop_step, label_step, loop_pass, label_pass, LoopsAt, slot_for, slots_for, gathered_from, drawn_from}

@@ -8,7 +8,7 @@ use Rattle.sheet.specs.Sheet.{Graph}
 use Rattle.sheet.specs.Meaning as Meaning
 use Rattle.routing.specs.Routing.{Frame, BlockSize}
 use Rattle.routing.specs.Sheets.{frame_of, sizes_of, SameFrame}
-use Rattle.routing_laws.specs.Agree.{same-frame}
+use Rattle.routing_laws.proofs.Agree.{same-frame}
 use Rattle.circular.specs.Ring.{around_ring, ringed, cos_at, sin_at}
 use Rattle.fit.specs.Fit.{shifted}
 use Rattle.layered.specs.Ys.{xs_length, ys_length}

@@ -8,7 +8,7 @@ use Rattle.shape.specs.Centres.{centres}
 use Rattle.label_spots.specs.declared.Geometry.{Geometry}
 use Rattle.records.specs.Records.{decode_records}
 use Rattle.routing_laws.specs.Frames.{or_zeros, centres-table}
-use Rattle.routing_laws.specs.Decoded.{records_most}
+use Rattle.routing_laws.proofs.Decoded.{records_most}
 use Rattle.clutter.specs.Clutter.{clutter_of}
 use Rattle.clutter.specs.Bounds.{clutter-le}
 use Rattle.fit.specs.Fit.{fit_xs, fit_ys, fit_size}

@@ -11,7 +11,7 @@ use Rattle.records.specs.Records.{decode_records}
 use Rattle.records.specs.Back.{Small}
 use Rattle.routing.specs.Routing.{Frame, BlockSize, records}
 use Rattle.routing.specs.Sheets.{ends_by, sizes_by, size_held}
-use Rattle.routing_laws.specs.Decoded.{records_most, records-small, records_decoded}
+use Rattle.routing_laws.proofs.Decoded.{records_most, records-small, records_decoded}
 use Rattle.geometry.specs.Geometry.{record_count, numbers}
 use Rattle.columns.specs.Columns.{EndPair, end_pairs}
 use Rattle.layered.specs.Layered.{layered_xs, layered_ys}

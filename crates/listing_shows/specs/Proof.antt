@@ -25,7 +25,7 @@ use Rattle.records.specs.Records.{decode_geometry, decode_records}
 use Rattle.records.specs.Back.{length-records}
 use Rattle.beyond.specs.Beyond.{beyond}
 use Rattle.routing.specs.Sheets.{frame_of, sizes_of, ends_of}
-use Rattle.routing_laws.specs.Decoded.{records_decoded}
+use Rattle.routing_laws.proofs.Decoded.{records_decoded}
 use Rattle.totals.specs.declared.Totals.{Totals}
 use Rattle.totals.specs.Totals.{totals_of}
 use Rattle.drawing_text.specs.Lines.{paths_of, paths_text, paths_writable, states_from, starts, field_writable, fields_writable, line_writable, lines_writable, size_line, state_line, edge_line, record_lines, start_line, total_line, list_lines, list_text, list_writable}
@@ -37,7 +37,8 @@ use Rattle.calls.specs.Calls.{number, values, capped_limits, short, onto, drawn_
 use Rattle.calls.specs.Laws.{accepted_shown}
 use Rattle.calls.specs.Decided.{answered-clear}
 use Rattle.demand3.specs.Demand.{Call, Answered, records_left, record_at, path_at, text_line_at}
-use Rattle.demand3.specs.Proof.{call_records, stands, path_is}
+use Rattle.demand3.specs.Proof.{call_records}
+use Rattle.demand3.proofs.Proof.{stands, path_is}
 use Rattle.listing_shows.specs.Shown.{Lent, ListAnswered, LayoutAnswered, xs_left, ys_left, route_call, records_read, totals_read, out_left, list_wrote, last_line, record_line, edge_text, total_text, arrow_number, Shows, Enough, ListingShows}
 use Rattle.listing_shows.specs.Shown as Spec
 use Rattle.listing_shows.specs.Found.{edge_at, last-at}

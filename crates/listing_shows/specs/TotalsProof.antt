@@ -31,8 +31,9 @@ use Rattle.records.specs.Records.{corners_of, decode_geometry}
 use Rattle.routing.specs.Routing.{Frame, BlockSize, Numbered, numbered_from, numbered_by, numbered, numbered_at, is_kept_in, is_loop, joined, route_of, is_arc, arc_shape, Item, loop, label, edge_of, order, no_item, item_for, drawn_by, drawn_for, drawing, records}
 use Rattle.routing.specs.Sheets.{ends_of, frame_of, sizes_of, records_of}
 use Rattle.routing_laws.specs.Numbers.{flat_numbered}
-use Rattle.routing_laws.specs.Slots.{records-each}
-use Rattle.routing_laws.specs.Demand.{size_at, record_for, record_drawn_lem, turn_at, place_at, kept_turn, record_held}
+use Rattle.routing_laws.proofs.Slots.{records-each}
+use Rattle.routing_laws.specs.Demand.{size_at, record_for, turn_at, place_at}
+use Rattle.routing_laws.proofs.Demand.{record_drawn_lem, kept_turn, record_held}
 use Rattle.laws.specs.Places.{At}
 use Rattle.totals.specs.declared.Totals.{Totals}
 use Rattle.totals.specs.Totals.{point_count, has_points, is_left_out, totals_of}
@@ -41,7 +42,8 @@ use Rattle.shape.specs.Centres.{centres}
 use Rattle.layout.specs.Layout.{Layout}
 use Rattle.calls.specs.Calls.{drawn_of, layout_for}
 use Rattle.demand3.specs.Demand.{Call, Answered, record_at}
-use Rattle.demand3.specs.Proof.{call_records, record_is}
+use Rattle.demand3.specs.Proof.{call_records}
+use Rattle.demand3.proofs.Proof.{record_is}
 use Rattle.listing_shows.specs.Shown.{Lent, ListAnswered, LayoutAnswered, route_call, records_read, last_line}
 use Rattle.listing_shows.specs.Totalled.{point_numbers, records_with, end_missing, ends_same, ends_differ, lines_of_kept, Totalled, ListingTotals}
 use Rattle.listing_shows.specs.Found.{last-at, lines_before, total_ends}

@@ -1,3 +1,2 @@
 pub mod Reverse
-pub mod Proof
 pub mod Worked

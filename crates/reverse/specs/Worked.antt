@@ -14,7 +14,6 @@ use Rattle.worked_demand.specs.Calls.{first}
 use Rattle.worked_demand.specs.Computed.{first-drawn}
 use Rattle.worked_demand.specs.Worked.{number_left, turn_is, source_is, target_is, first-answered, first-between, worked_demand}
 use Rattle.reverse.specs.Reverse.{SomeArrow, searched, points_at, StraightAt, CurveExact}
-use Rattle.reverse.specs.Proof.{two_points, three_points, reverse_arrow}
 
 abbrev from_to : ℕ → ℕ → Arrow
 from_to a b = record { source = a; target = b; lines = [] }
@@ -26,15 +25,6 @@ pair_sheet = record {
   arrows = from_to 0 1 ∷ from_to 0 1 ∷ from_to 1 2 ∷ from_to 2 7 ∷ from_to 7 2 ∷ from_to 1 1 ∷ from_to 2 1 ∷ [];
 }
 
--- for an arrow from a to b
-abbrev says : ℕ × ℕ → Bool
-says p = searched pair_sheet [] [] 0 p.0 p.1
-
--- yes from 1 to 2, from 2 to 1 and from 1 to 0; no from 0 to 1, from 0 to 2 and from 2 to 0
-pub worked_search : map says ((1, 2) ∷ (2, 1) ∷ (1, 0) ∷ (0, 1) ∷ (0, 2) ∷ (2, 0) ∷ []) ≡ true ∷ true ∷ true ∷ false ∷ false ∷ false ∷ []
-unfolding frame_of leads any_of
-worked_search = refl
-
 -- ---- the first call of `worked_demand`: arrows 0 and 1 are a pair, arrow 2 is straight
 
 pub record WorkedCurves : Type 0 where
@@ -45,33 +35,3 @@ pub record WorkedCurves : Type 0 where
   -- arrow 2 has two points: none leads back, and no blocked interval has lo < 0 < hi
   pub line : points_at first 2 ≡ f2
   pub straight : StraightAt first 2
-
-two_is : of_nat 2 ≡ f2
-unfolding of_int round of_bits
-two_is = refl
-
-three_is : of_nat 3 ≡ f3
-unfolding of_int round of_bits
-three_is = refl
-
--- the points of turn t's arrow
-turn_points : (t : ℕ) → points_at first (get_or (3 ∷ 0 ∷ 1 ∷ 2 ∷ []) t 0) ≡ number_left first 1 t
-turn_points t = ap (points_at first) (sym (turn_is first-drawn t))
-
-exact : (e : ℕ) → e < 3 → CurveExact first e
-exact e h = reverse_arrow.curve first first-answered e (first-between e h)
-
-arc-first : points_at first 0 ≡ f3
-arc-first = turn_points 1 ∙ worked_demand.arcs.0 ∙ three_is
-
-line_third : points_at first 2 ≡ f2
-line_third = turn_points 3 ∙ worked_demand.straight ∙ two_is
-
-pub worked_curves : WorkedCurves
-worked_curves = record {
-  back = record { arrow = 1; leads = record { inside = (first-between 1 (omega arith)).inside; source = source_is first-drawn 1; target = target_is first-drawn 1 } };
-  arc = arc-first;
-  bent = λ s. clash (ap (λ (v : Float). eq v f2) ((exact 0 (omega arith)).line s) ∙ two_points) (ap (λ (v : Float). eq v f2) arc-first ∙ three_points);
-  line = line_third;
-  straight = (exact 2 (omega arith)).only line_third;
-}

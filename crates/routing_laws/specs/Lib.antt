@@ -7,4 +7,3 @@ pub mod Turns
 pub mod Rim
 pub mod Agree
 pub mod Frames
-pub mod Decoded

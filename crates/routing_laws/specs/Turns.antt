@@ -8,36 +8,17 @@ use Rattle.scene.specs.Scene.{Scene, with_box, with_trace}
 use Rattle.scene.specs.Turn as Place
 use Rattle.self_loop.specs.Looped.{trace_by, direction_cost, loop_taken, looped}
 use Rattle.routing.specs.Routing.{Frame, BlockSize, no_size, Numbered, Route, route_of, Item, loop, label, Step, step_of, loop_turn, label_turn, listed_by, drawn_step}
-use Rattle.routing_laws.specs.Demand.{listed_some, step_with}
+use Rattle.routing_laws.specs.Demand.{step_with}
 use Rattle.routing_laws.specs.Passes.{turn_kind, item_of, items_of, Drawn, drawn_with, store, taken_in, played, turned}
 
 -- the size of the label of arrow k
 abbrev pub size_for : List BlockSize → ℕ → BlockSize
 size_for sizes k = get_or sizes k no_size
 
--- ---- the place taken
-
-all_listed : (f : Frame) (i : Item) → suc (listed_by f i - 1) ≡ listed_by f i
-all_listed f i = let h : 0 < listed_by f i = listed_some f i in omega arith
-
-pub taken_loop : (f : Frame) (s : Scene) (a : Numbered) (z : BlockSize) → taken_in f s (step_with (loop a) z) ≡ loop_taken s (loop_turn f a z)
-unfolding loop_taken
-taken_loop f s a z = ap (best (direction_cost s (loop_turn f a z))) (all_listed f (loop a))
-
-pub taken_label : (f : Frame) (s : Scene) (r : Route) (z : BlockSize) → taken_in f s (step_with (label r) z) ≡ Place.taken s (label_turn r z)
-unfolding Place.taken Place.box_at
-taken_label f s r z = ap (best (Place.place_cost s (label_turn r z))) (all_listed f (label r))
-
 -- ---- what is drawn
 
 abbrev pub step_drawn : Frame → Scene → Step → Geometry
 step_drawn f s t = drawn_step f t (taken_in f s t)
-
-pub drawn_loop : (f : Frame) (s : Scene) (a : Numbered) (z : BlockSize) → step_drawn f s (step_with (loop a) z) ≡ looped s (loop_turn f a z)
-drawn_loop f s a z = ap (drawn_step f (step_with (loop a) z)) (taken_loop f s a z)
-
-pub drawn_label : (f : Frame) (s : Scene) (r : Route) (z : BlockSize) → step_drawn f s (step_with (label r) z) ≡ Place.placed_arrow s (label_turn r z)
-drawn_label f s r z = ap (drawn_step f (step_with (label r) z)) (taken_label f s r z)
 
 -- ---- the turn
 
@@ -54,30 +35,3 @@ loop_draws f sizes s a = looped s (loop_turn f a (size_for sizes a.edge))
 
 abbrev pub label_draws : List BlockSize → Scene → Route → Geometry
 label_draws sizes s r = Place.placed_arrow s (label_turn r (size_for sizes r.from.edge))
-
-pub played_loop : (f : Frame) (sizes : List BlockSize) (d : Drawn) (a : Numbered) → played f d (step_of sizes (loop a)) ≡ with_loop d (loop_draws f sizes d.scene a)
-unfolding played
-played_loop f sizes d a = ap (with_loop d) (drawn_loop f d.scene a (size_for sizes a.edge))
-
-pub played_label : (f : Frame) (sizes : List BlockSize) (d : Drawn) (r : Route) → played f d (step_of sizes (label r)) ≡ with_label d (label_draws sizes d.scene r)
-unfolding played
-played_label f sizes d r = ap (with_label d) (drawn_label f d.scene r (size_for sizes r.from.edge))
-
--- ---- an arrow in a pass
-
--- of the pass's kind: one turn
-turned_one : (f : Frame) (sizes : List BlockSize) (p : ℕ) (d : Drawn) (a : Numbered) → turn_kind f a ≡ p → turned f sizes p d a ≡ played f d (step_of sizes (item_of f p a))
-unfolding turned items_of over
-turned_one f sizes p d a e = rw (eq-eqb _ _ e)
-
-pub turned_loop : (f : Frame) (sizes : List BlockSize) (d : Drawn) (a : Numbered) → turn_kind f a ≡ 1 → turned f sizes 1 d a ≡ with_loop d (loop_draws f sizes d.scene a)
-turned_loop f sizes d a e = turned_one f sizes 1 d a e ∙ played_loop f sizes d a
-
-pub turned_label : (f : Frame) (sizes : List BlockSize) (p : ℕ) (d : Drawn) (a : Numbered) → turn_kind f a ≡ suc (suc p)
-    → turned f sizes (suc (suc p)) d a ≡ with_label d (label_draws sizes d.scene (route_of f a))
-turned_label f sizes p d a e = turned_one f sizes (suc (suc p)) d a e ∙ played_label f sizes d (route_of f a)
-
--- of another kind: none
-pub turned-other : (f : Frame) (sizes : List BlockSize) (p : ℕ) (d : Drawn) (a : Numbered) → (turn_kind f a ≡ p → ⊥) → turned f sizes p d a ≡ d
-unfolding turned items_of over
-turned-other f sizes p d a h = rw (ne_eqb _ _ h)

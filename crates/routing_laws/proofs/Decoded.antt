@@ -10,7 +10,8 @@ use Rattle.records.specs.Records.{fields, decode_records}
 use Rattle.records.specs.Back.{Small, decode_records_lem}
 use Rattle.routing.specs.Routing.{Frame, Ends, BlockSize, numbered_from, numbered, is_kept_in, kept, drawing, drawn_for, records, numbered_by}
 use Rattle.routing_laws.specs.Numbers.{length-numbered}
-use Rattle.routing_laws.specs.Slots.{is_edge, records-each, records-length}
+use Rattle.routing_laws.specs.Slots.{is_edge}
+use Rattle.routing_laws.proofs.Slots.{records-each, records-length}
 
 -- ---- how many
 

@@ -28,11 +28,13 @@ use Rattle.bend.specs.Between.{straight, bowed, with_bow, between}
 use Rattle.records.specs.Records.{corners_of}
 use Rattle.routing.specs.Routing.{Frame, Numbered, no_ends, is_paired, joined, numbered_at, is_kept_in}
 use Rattle.routing.specs.Sheets.{ends_of, ends_by, frame_of}
-use Rattle.routing_laws.specs.Agree.{arrow-inside, arrow_ends, arrow-kept, arrow-apart}
-use Rattle.routing_laws.specs.Demand.{Stroke, stroke_of, stroke_by, records_stroke}
+use Rattle.routing_laws.proofs.Agree.{arrow-inside, arrow_ends, arrow-kept, arrow-apart}
+use Rattle.routing_laws.specs.Demand.{Stroke, stroke_of, stroke_by}
+use Rattle.routing_laws.proofs.Demand.{records_stroke}
 use Rattle.beyond.specs.Beyond.{pair_beyond, is_beyond}
 use Rattle.demand3.specs.Demand.{Call, Answered, graph, frame, sizes, Between}
-use Rattle.demand3.specs.Proof.{past_records, record_drawn, arrow_record_lem, arrow_only}
+use Rattle.demand3.specs.Proof.{past_records}
+use Rattle.demand3.proofs.Proof.{record_drawn, arrow_record_lem, arrow_only}
 use Rattle.reverse.specs.Reverse.{ArrowLeads, SomeArrow, without_left_out, without_arrow, searched, centres_of, arrow_in, SearchExact, paired_before, NeverItself, LeftOutUnseen, around_zero, no_span, StraightWhen, bow_of, BowExact, points_at, CurveExact, ReverseArrow}
 
 -- ---- the search

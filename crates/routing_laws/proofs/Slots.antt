@@ -1,0 +1,225 @@
+-- The passes leave in the slots what the run draws, and what is gathered from there is the records, one for each kept arrow. Assumes nothing.
+use Rattle.std.specs.Prelude.{◌≡◌, Bool, ℕ, zero, suc, ◌+◌, ◌*◌, ◌≤◌, ◌<◌, eqb, length, Float}
+use Rattle.std.proofs.Math.Path.{refl}
+use Rattle.std.proofs.Common.{sym, ap, ap₂, ◌∙◌, arith, eqb-true}
+use Rattle.std.proofs.Math.Bool.{true, false, cond}
+use mathlib.Core.List.{List, [], ◌∷◌, ◌++◌, map, flat_map, append-nil}
+use Rattle.std.proofs.lemmas.Bool.{eqb-false}
+use Rattle.std.proofs.lemmas.List.{length-map}
+use Rattle.laws.specs.Cases.{by_bool}
+use Rattle.laws.specs.Filter.{filter_by, filter_join}
+use Rattle.laws.specs.Flat.{part, part-new}
+use Rattle.laws.specs.Loops.{over, over_join}
+use Rattle.laws.specs.Put.{put, length-put}
+use Rattle.laws.specs.Run as Run
+use Rattle.laws.specs.Zip.{zip_by}
+use Rattle.laws.specs.Flats.{part-kept}
+use Rattle.laws.specs.Joined.{map_join, map_flat, map_flat_one, over_flat, filter_flat, flat_same, flat_filter, flat_flat, filter_map, map-map}
+use Rattle.label_spots.specs.declared.Geometry.{Geometry}
+use Rattle.label_spots.specs.Labels.{labelled}
+use Rattle.records.specs.Records.{fields}
+use Rattle.scene.specs.Scene.{Scene}
+use Rattle.self_loop.specs.Looped.{loop_at}
+use Rattle.routing.specs.Routing.{Frame, BlockSize, Numbered, numbered, is_kept_in, is_loop, kept, route_of, first_scene, Item, loop, label, edge_of, is_arc, order, Step, step_of, steps, drawn_by, more, cost, scene_after, drawn_step, drawing, drawn_for, records, numbered_at, is_turn, item_for}
+use Rattle.routing_laws.specs.Passes.{turn_kind, items_of, Drawn, drawn_with, store, taken_in, played, turned, passed, slots_of, gathered}
+use Rattle.routing_laws.specs.Numbers.{is_number, number_one, number_none, flat_numbered}
+use Rattle.routing_laws.proofs.Order.{order-passes}
+use Rattle.routing_laws.specs.Slots.{is_edge}
+
+-- ---- the passes are the run
+
+pass-run : (f : Frame) (sizes : List BlockSize) (p : ℕ) (d : Drawn) → passed f sizes p d ≡ over (played f) d (map (step_of sizes) (flat_map (items_of f p) (numbered f)))
+unfolding passed turned
+pass-run f sizes p d =
+    sym (over_flat (played f) d (λ a. map (step_of sizes) (items_of f p a)) (numbered f))
+    ∙ ap (over (played f) d) (sym (map_flat (step_of sizes) (items_of f p) (numbered f)))
+
+pub run-passes : (f : Frame) (sizes : List BlockSize) (d : Drawn)
+    → passed f sizes 3 (passed f sizes 2 (passed f sizes 1 d)) ≡ over (played f) d (steps f sizes)
+run-passes f sizes d =
+    let turns : ℕ → List Step = λ p. map (step_of sizes) (flat_map (items_of f p) (numbered f)) in
+    pass-run f sizes 3 (passed f sizes 2 (passed f sizes 1 d))
+    ∙ ap (λ (c : Drawn). over (played f) c (turns 3)) (pass-run f sizes 2 (passed f sizes 1 d) ∙ ap (λ (c : Drawn). over (played f) c (turns 2)) (pass-run f sizes 1 d))
+    ∙ sym
+    (ap (λ (l : List Item). over (played f) d (map (step_of sizes) l)) (order-passes f)
+    ∙ ap (over (played f) d) (map_join (step_of sizes) (flat_map (items_of f 1) (numbered f) ++ flat_map (items_of f 2) (numbered f)) (flat_map (items_of f 3) (numbered f)))
+    ∙ over_join (played f) d (map (step_of sizes) (flat_map (items_of f 1) (numbered f) ++ flat_map (items_of f 2) (numbered f))) (turns 3)
+    ∙ ap (λ (l : List Step). over (played f) (over (played f) d l) (turns 3)) (map_join (step_of sizes) (flat_map (items_of f 1) (numbered f)) (flat_map (items_of f 2) (numbered f)))
+    ∙ ap (λ (c : Drawn). over (played f) c (turns 3)) (over_join (played f) d (turns 1) (turns 2)))
+
+slots_run : (f : Frame) (s : Scene) (l : List Float) (ts : List Step)
+    → (over (played f) (drawn_with s l) ts).slots ≡ over store l (zip_by (drawn_step f) ts (Run.run (more f) (cost f) (scene_after f) s ts))
+unfolding over played zip_by Run.run
+slots_run f s l [] = refl
+slots_run f s l (t ∷ ts) = slots_run f (scene_after f s t (taken_in f s t)) (store l (drawn_step f t (taken_in f s t))) ts
+
+-- after the three passes, each drawing is stored in its slot, in the order of the turns
+pub passes-store : (f : Frame) (sizes : List BlockSize) (l : List Float)
+    → (passed f sizes 3 (passed f sizes 2 (passed f sizes 1 (drawn_with (first_scene f) l)))).slots ≡ over store l (drawing f sizes)
+unfolding drawing
+passes-store f sizes l = ap (λ (d : Drawn). d.slots) (run-passes f sizes (drawn_with (first_scene f) l)) ∙ slots_run f (first_scene f) l (steps f sizes)
+
+-- ---- each kept arrow is drawn once
+
+pub drawn_edge : (f : Frame) (i : Item) (z : BlockSize) (j : ℕ) → (drawn_by f i z j).edge ≡ edge_of i
+unfolding loop_at labelled
+drawn_edge f (loop a) z j = refl
+drawn_edge f (label r) z j = refl
+
+edges_run : (f : Frame) (s : Scene) (ts : List Step)
+    → map (λ g. g.edge) (zip_by (drawn_step f) ts (Run.run (more f) (cost f) (scene_after f) s ts)) ≡ map (λ t. edge_of t.item) ts
+unfolding zip_by Run.run
+edges_run f s [] = refl
+edges_run f s (t ∷ ts) = ap₂ (λ (x : ℕ) (y : List ℕ). x ∷ y) (drawn_edge f t.item t.size (taken_in f s t)) (edges_run f (scene_after f s t (taken_in f s t)) ts)
+
+-- the drawings have the numbers of the turns
+pub edges_drawn : (f : Frame) (sizes : List BlockSize) → map (λ g. g.edge) (drawing f sizes) ≡ map edge_of (order f)
+unfolding drawing
+edges_drawn f sizes = edges_run f (first_scene f) (steps f sizes) ∙ map-map (λ t. edge_of t.item) (step_of sizes) (order f)
+
+own_item : (k : ℕ) (b : Bool) (i : Item) → filter_by (λ j. eqb (edge_of j) k) (cond b (i ∷ []) []) ≡ cond (eqb (edge_of i) k) (cond b (i ∷ []) []) []
+unfolding filter_by
+own_item k true i = refl
+own_item k false i = by_bool (eqb (edge_of i) k) (λ t. rw t) (λ t. rw t)
+
+own_items : (k p : ℕ) (f : Frame) (a : Numbered) → filter_by (λ i. eqb (edge_of i) k) (items_of f p a) ≡ cond (is_number k a) (items_of f p a) []
+unfolding items_of
+own_items k zero f a = own_item k (eqb (turn_kind f a) 0) (loop a)
+own_items k (suc zero) f a = own_item k (eqb (turn_kind f a) 1) (loop a)
+own_items k (suc (suc p)) f a = own_item k (eqb (turn_kind f a) (suc (suc p))) (label (route_of f a))
+
+-- the turns of arrow k in a pass
+own_pass : (f : Frame) (p k : ℕ) → filter_by (is_turn k) (flat_map (items_of f p) (numbered f)) ≡ flat_map (items_of f p) (filter_by (is_number k) (numbered f))
+own_pass f p k =
+    filter_flat (is_turn k) (items_of f p) (numbered f)
+    ∙ flat_same _ _ (numbered f) (own_items k p f)
+    ∙ sym (flat_filter (items_of f p) (is_number k) (numbered f))
+
+pass-items : (f : Frame) (p k : ℕ) → k < length f.arrows → filter_by (is_turn k) (flat_map (items_of f p) (numbered f)) ≡ items_of f p (numbered_at f k)
+pass-items f p k h =
+    own_pass f p k ∙ ap (flat_map (items_of f p)) (number_one f k h)
+    ∙ unfold flat_map in append-nil (items_of f p (numbered_at f k))
+
+one_turn : (f : Frame) (a : Numbered) → items_of f 1 a ++ items_of f 2 a ++ items_of f 3 a ≡ cond (is_kept_in f a) (item_for f a ∷ []) []
+unfolding items_of turn_kind
+one_turn f a = go (is_kept_in f a) (is_loop a) (is_arc (route_of f a))
+  where
+    go : (k l c : Bool)
+        → cond (eqb (cond k (cond l 1 (cond c 2 3)) 0) 1) (loop a ∷ []) []
+        ++ cond (eqb (cond k (cond l 1 (cond c 2 3)) 0) 2) (label (route_of f a) ∷ []) []
+        ++ cond (eqb (cond k (cond l 1 (cond c 2 3)) 0) 3) (label (route_of f a) ∷ []) [] ≡ cond k (cond l (loop a) (label (route_of f a)) ∷ []) []
+    go true true c = refl
+    go true false true = refl
+    go true false false = refl
+    go false l c = refl
+
+own_passes : (f : Frame) (k : ℕ)
+    → filter_by (is_turn k) (order f) ≡ filter_by (is_turn k) (flat_map (items_of f 1) (numbered f)) ++ filter_by (is_turn k) (flat_map (items_of f 2) (numbered f))
+    ++ filter_by (is_turn k) (flat_map (items_of f 3) (numbered f))
+own_passes f k =
+    ap (filter_by (is_turn k)) (order-passes f)
+    ∙ filter_join (is_turn k) (flat_map (items_of f 1) (numbered f) ++ flat_map (items_of f 2) (numbered f)) (flat_map (items_of f 3) (numbered f))
+    ∙ ap (λ (l : List Item). l ++ filter_by (is_turn k) (flat_map (items_of f 3) (numbered f)))
+    (filter_join (is_turn k) (flat_map (items_of f 1) (numbered f)) (flat_map (items_of f 2) (numbered f)))
+
+-- "Each arrow of the records has one turn; a left-out arrow has none"
+pub own_turn : (f : Frame) (k : ℕ) → k < length f.arrows
+    → filter_by (is_turn k) (order f) ≡ cond (is_kept_in f (numbered_at f k)) (item_for f (numbered_at f k) ∷ []) []
+own_turn f k l =
+    own_passes f k
+    ∙ ap₂ (λ (x y : List Item). x ++ y) (ap₂ (λ (x y : List Item). x ++ y) (pass-items f 1 k l) (pass-items f 2 k l)) (pass-items f 3 k l)
+    ∙ one_turn f (numbered_at f k)
+
+pub own_none : (f : Frame) (k : ℕ) → length f.arrows ≤ k → filter_by (is_turn k) (order f) ≡ []
+own_none f k l = own_passes f k ∙ ap₂ (λ (x y : List Item). x ++ y) (ap₂ (λ (x y : List Item). x ++ y) (none 1) (none 2)) (none 3)
+  where
+    none : (p : ℕ) → filter_by (is_turn k) (flat_map (items_of f p) (numbered f)) ≡ []
+    none p = own_pass f p k ∙ ap (flat_map (items_of f p)) (number_none f k l) ∙ unfold flat_map in refl
+
+-- the numbers of the drawings of arrow k, as of its turns
+pub edges_own : (f : Frame) (sizes : List BlockSize) (k : ℕ) → map (λ g. g.edge) (filter_by (λ g. eqb g.edge k) (drawing f sizes)) ≡ map edge_of (filter_by (is_turn k) (order f))
+edges_own f sizes k =
+    sym (filter_map (λ e. eqb e k) (λ g. g.edge) (drawing f sizes)) ∙ ap (filter_by (λ e. eqb e k)) (edges_drawn f sizes) ∙ filter_map (λ e. eqb e k) edge_of (order f)
+
+pub drawn_once : (f : Frame) (sizes : List BlockSize) (k : ℕ) → k < length f.arrows
+    → map (λ g. g.edge) (drawn_for (drawing f sizes) (numbered_at f k)) ≡ cond (is_kept_in f (numbered_at f k)) (k ∷ []) []
+drawn_once f sizes k l =
+    edges_own f sizes k ∙ ap (map edge_of) (own_turn f k l) ∙ go (is_kept_in f (numbered_at f k)) (is_loop (numbered_at f k))
+  where
+    go : (b c : Bool) → map edge_of (cond b (cond c (loop (numbered_at f k)) (label (route_of f (numbered_at f k))) ∷ []) []) ≡ cond b (k ∷ []) []
+    go true true = refl
+    go true false = refl
+    go false c = refl
+
+-- ---- a record for each kept arrow, in arrow order
+
+-- the records by all arrows
+pub records-each : (f : Frame) (sizes : List BlockSize) → records f sizes ≡ flat_map (λ a. cond (is_kept_in f a) (drawn_for (drawing f sizes) a) []) (numbered f)
+unfolding records kept
+records-each f sizes = flat_filter (drawn_for (drawing f sizes)) (is_kept_in f) (numbered f)
+
+pub records_edges : (f : Frame) (sizes : List BlockSize) → map (λ g. g.edge) (records f sizes) ≡ map (λ a. a.edge) (kept f)
+records_edges f sizes =
+    ap (map (λ g. g.edge)) (records-each f sizes)
+    ∙ map_flat (λ g. g.edge) (λ a. cond (is_kept_in f a) (drawn_for (drawing f sizes) a) []) (numbered f)
+    ∙ flat_numbered _ (λ a. cond (is_kept_in f a) (a.edge ∷ []) []) f
+    (λ k l. go k (is_kept_in f (numbered_at f k)) (drawn_for (drawing f sizes) (numbered_at f k)) (drawn_once f sizes k l))
+    ∙ sym (flat_filter (λ a. a.edge ∷ []) (is_kept_in f) (numbered f))
+    ∙ sym (map_flat_one (λ a. a.edge) (filter_by (is_kept_in f) (numbered f)))
+    ∙ unfold kept in refl
+  where
+    go : (k : ℕ) (b : Bool) (gs : List Geometry) → map (λ g. g.edge) gs ≡ cond b (k ∷ []) [] → map (λ g. g.edge) (cond b gs []) ≡ cond b (k ∷ []) []
+    go k true gs e = e
+    go k false gs e = refl
+
+pub records-length : (f : Frame) (sizes : List BlockSize) → length (records f sizes) ≡ length (kept f)
+records-length f sizes = sym (length-map (records f sizes) (λ g. g.edge)) ∙ ap length (records_edges f sizes) ∙ length-map (kept f) (λ a. a.edge)
+
+abbrev latest : List Float → Geometry → List Float
+latest p g = fields g
+
+-- slot k has what was stored there last
+slot-last : (k : ℕ) (l : List Float) (gs : List Geometry) → 20 * k + 20 ≤ length l → part 20 k (over store l gs) ≡ over latest (part 20 k l) (filter_by (is_edge k) gs)
+unfolding over filter_by
+slot-last k l [] h = refl
+slot-last k l (g ∷ gs) h =
+    let room : 20 * k + 20 ≤ length (store l g) = omega (arith, length-put l (20 * g.edge) (fields g)) in
+    let go : part 20 k (over store (store l g) gs) ≡ over latest (part 20 k (store l g)) (filter_by (is_edge k) gs) = slot-last k (store l g) gs room in
+    by_bool (is_edge k g)
+    (λ t. rw t
+    (go
+    ∙ ap (λ (p : List Float). over latest p (filter_by (is_edge k) gs))
+    (ap (λ (m : ℕ). part 20 k (put l (20 * m) (fields g))) (eqb-true g.edge k t) ∙ part-new 20 (20 * k) l (fields g) refl h)))
+    (λ t. rw t (go ∙ ap (λ (p : List Float). over latest p (filter_by (is_edge k) gs)) (part-kept 20 k g.edge l (fields g) refl (λ q. eqb-false g.edge k t (sym q)))))
+
+-- the slot of an arrow that is drawn once
+slot_one : (k : ℕ) (l : List Float) (gs : List Geometry) → map (λ g. g.edge) gs ≡ k ∷ [] → over latest l gs ≡ flat_map fields gs
+unfolding over flat_map
+slot_one k l [] e = absurd (omega (arith, ap length e))
+slot_one k l (g ∷ []) e = refl
+slot_one k l (g ∷ h ∷ gs) e = absurd (omega (arith, ap length e))
+
+pub slots_gathered : (f : Frame) (sizes : List BlockSize) (l : List Float) → 20 * length f.arrows ≤ length l
+    → gathered f (over store l (drawing f sizes)) ≡ flat_map fields (records f sizes)
+unfolding gathered slots_of turn_kind flat_map
+slots_gathered f sizes l room =
+    flat_numbered _ (λ a. flat_map fields (cond (is_kept_in f a) (drawn_for (drawing f sizes) a) [])) f
+    (λ k i. go k (is_kept_in f (numbered_at f k)) (is_loop (numbered_at f k)) (is_arc (route_of f (numbered_at f k))) (drawn_for (drawing f sizes) (numbered_at f k))
+    (slot-last k l (drawing f sizes) (omega arith)) (drawn_once f sizes k i))
+    ∙ sym (flat_flat fields (λ a. cond (is_kept_in f a) (drawn_for (drawing f sizes) a) []) (numbered f))
+    ∙ ap (flat_map fields) (sym (records-each f sizes))
+  where
+    go : (k : ℕ) (b c d : Bool) (gs : List Geometry) → part 20 k (over store l (drawing f sizes)) ≡ over latest (part 20 k l) gs
+        → map (λ g. g.edge) gs ≡ cond b (k ∷ []) []
+        → cond (eqb (cond b (cond c 1 (cond d 2 3)) 0) 0) [] (part 20 k (over store l (drawing f sizes))) ≡ flat_map fields (cond b gs [])
+    go k true true d gs e n = e ∙ slot_one k (part 20 k l) gs n
+    go k true false true gs e n = e ∙ slot_one k (part 20 k l) gs n
+    go k true false false gs e n = e ∙ slot_one k (part 20 k l) gs n
+    go k false c d gs e n = refl
+
+-- what the three passes leave, gathered: the records
+pub passes-gathered : (f : Frame) (sizes : List BlockSize) (l : List Float) → 20 * length f.arrows ≤ length l
+    → gathered f (passed f sizes 3 (passed f sizes 2 (passed f sizes 1 (drawn_with (first_scene f) l)))).slots ≡ flat_map fields (records f sizes)
+passes-gathered f sizes l room = ap (gathered f) (passes-store f sizes l) ∙ slots_gathered f sizes l room
+
+-- ---- the other slots stay
