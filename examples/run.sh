@@ -5,21 +5,22 @@
 # of a sheet of 65,536 bytes, and of one byte more. From anywhere: examples/run.sh
 set -eu
 cd "$(dirname "$0")/.."
-rt staticlib murshogi > /dev/null
-rt check listing > /dev/null
+(cd crates/murshogi && rt lib > /dev/null)
+(cd crates/listing && rt run < stdin > /dev/null)
+lib=crates/murshogi/out
 bin=target/examples
 mkdir -p $bin
 rustc --edition 2024 -O examples/sheet.rs -o $bin/sheet
 for program in list save; do
-    cc -O2 -std=c99 -Wall -Wextra -Iinclude examples/$program.c target/staticlib/libmurshogi.a -o $bin/$program-c
-    rustc --edition 2024 -O examples/$program.rs -L target/staticlib -l static=murshogi -o $bin/$program-rs
+    cc -O2 -std=c99 -Wall -Wextra -Iinclude examples/$program.c $lib/libmurshogi.a -o $bin/$program-c
+    rustc --edition 2024 -O examples/$program.rs -L $lib -l static=murshogi -o $bin/$program-rs
 done
 
 # compare SHEET LISTING: what each of the three prints of a sheet is the listing.
 compare() {
     $bin/list-c "$1" > $bin/c || true
     $bin/list-rs "$1" > $bin/rs || true
-    target/bin/listing < "$1" > $bin/program
+    crates/listing/out/listing < "$1" > $bin/program
     for output in c rs program; do cmp $bin/$output "$2"; done
 }
 

@@ -1,5 +1,5 @@
 //! Differential runs: more cases of the vectors' form, which the proved program `vectors` compares.
-//! The program is `target/bin/vectors` below the working directory, or the command in the environment
+//! The program is `crates/vectors/out/vectors` below the working directory, or the command in the environment
 //! variable `MURSHOGI_VECTORS`, its words parted by blanks.
 
 use std::collections::BTreeMap;
@@ -20,7 +20,7 @@ const RUN: usize = 500;
 /// The lines of the program's report on a stream: the name of each kind of case, how many cases
 /// there were and how many differ.
 fn compared(stream: Vec<u8>) -> BTreeMap<String, (usize, usize)> {
-    let path = std::env::var("MURSHOGI_VECTORS").unwrap_or("target/bin/vectors".to_string());
+    let path = std::env::var("MURSHOGI_VECTORS").unwrap_or("crates/vectors/out/vectors".to_string());
     let words: Vec<&str> = path.split_whitespace().collect();
     let mut program = Command::new(words[0])
         .args(&words[1..])

@@ -1,10 +1,13 @@
 // Reads a sheet from standard input and writes its listing under the main screen's limits, laid out as Auto, or
 // `refused` and the number.
 #![tactic(auto)]
-ghost use Rattle.std.specs.Prelude.{◌≡◌, ◌≤◌, length, take};
+
+ghost use Rattle.std.specs.Prelude.{◌≡◌, ◌≤◌, length, take, IfOk, IfSome, OnOk};
+ghost use Rattle.std.specs.Io.KnownBytes.{Appends};
 ghost use Rattle.listing.specs.Listing as S;
 
-use libc::{STDIN_FILENO, STDOUT_FILENO};
+use std::io;
+use std::io::{Read, Write};
 
 // One byte more is asked for than a sheet may have, so that a longer input is refused as a sheet of that length.
 const ASKED: usize = 65537;
@@ -38,10 +41,35 @@ fn output(input: &[u8; ASKED], n: usize, text: &mut [u8; LENT]) -> usize
     }
 }
 
-fn main() {
+// Reads until `buf` is full or the input ends: how many bytes, which are the input's first.
+fn read_full<R: Read>(from: &mut R, buf: &mut [u8]) -> io::Result<usize>
+    ensures bound { IfOk result (λ n. n ≤ length buf.new) }
+    ensures bytes { IfOk result (λ n. IfSome (R.remaining from.old)
+        (λ input. take n buf.new ≡ take (length buf.old) input)) }
+{
+    let mut done = 0;
+    while done < buf.len() {
+        let n = from.read(&mut buf[done..])?;
+        if n == 0 {
+            break;
+        }
+        done += n;
+    }
+    Ok(done)
+}
+
+// Reads the bytes that are asked for, and writes what the program says of the whole input.
+fn run<R: Read, W: Write>(from: &mut R, to: &mut W) -> io::Result<()>
+    ensures { OnOk result (IfSome (R.remaining from.old)
+        (λ input. Appends (W.contents to.old) (W.contents to.new) (S.output input))) }
+{
     let mut input = [0u8; ASKED];
-    let n = io::read_full(STDIN_FILENO, &mut input);
+    let n = read_full(from, &mut input)?;
     let mut text = [0u8; LENT];
     let m = output(&input, n, &mut text);
-    io::write_all(STDOUT_FILENO, &text[..m]);
+    to.write_all(&text[..m])
+}
+
+fn main(rt: HostRuntime) -> io::Result<()> {
+    run(&mut rt.stdin(), &mut rt.stdout())
 }

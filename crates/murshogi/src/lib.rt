@@ -1,6 +1,7 @@
 // The calls of documents 01 and 02 for C and Rust, as include/murshogi.h declares them. Each returns 0, or the number of
 // the refusal; what it is lent for values is written only where it returns 0.
 #![tactic(auto)]
+
 ghost use Rattle.std.specs.Prelude.{◌≡◌};
 ghost use Rattle.std.proofs.Math.ListN as L;
 ghost use Rattle.calls.specs.Calls as C;

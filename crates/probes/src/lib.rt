@@ -1,5 +1,6 @@
 // Functions below the calls, exported for oracle/ to time and compare.
 #![tactic(auto)]
+
 ghost use Rattle.std.specs.Prelude.{◌≡◌};
 ghost use Rattle.float.specs.Ops.{rem};
 ghost use Rattle.float.specs.Constants.{τ};

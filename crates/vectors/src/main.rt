@@ -1,9 +1,11 @@
 // Compares the oracle's answers, which stand in standard input, and prints for each kind of case
 // how many there were and how many differ. `oracle/README.md` says how the stream is made.
 #![tactic(auto)]
+
 ghost use Rattle.std.specs.Prelude.{◌<◌};
 
-use libc::{STDIN_FILENO, STDOUT_FILENO};
+use std::io;
+use std::io::Read;
 
 // One case more than any stream has; a longer stream counts as cut short.
 const MOST: u32 = 1000000;
@@ -31,17 +33,17 @@ fn cut() -> Case {
     }
 }
 
-// Reads a case.
-fn next(payload: &mut [u8]) -> Case {
+// Reads a case. A read that fails counts as the end of the input.
+fn next<R: Read>(from: &mut R, payload: &mut [u8]) -> Case {
     let mut head = [0u8; 4];
-    if io::read_full(STDIN_FILENO, &mut head) < 4 {
+    if from.read_exact(&mut head).is_err() {
         return cut();
     }
     let length = wide(head[1]) + 256 * wide(head[2]) + 65536 * wide(head[3]);
     if length > payload.len() {
         return cut();
     }
-    if io::read_full(STDIN_FILENO, &mut payload[..length]) < length {
+    if from.read_exact(&mut payload[..length]).is_err() {
         return cut();
     }
     Case {
@@ -93,8 +95,14 @@ fn tried(kind: u8, p: &[u8], cases: &mut [u64], differ: &mut [u64]) {
 
 // What ended the comparison: 0 nothing yet; 1 the case that ends the stream, with the right number of
 // cases; 2 that case with another number; 3 the input ended before it.
-fn step(payload: &mut [u8], cases: &mut [u64], differ: &mut [u64], done: u64) -> u8 {
-    let c = next(payload);
+fn step<R: Read>(
+    from: &mut R,
+    payload: &mut [u8],
+    cases: &mut [u64],
+    differ: &mut [u64],
+    done: u64,
+) -> u8 {
+    let c = next(from, payload);
     let length = c.length;
     if !c.whole {
         return 3;
@@ -112,11 +120,11 @@ fn step(payload: &mut [u8], cases: &mut [u64], differ: &mut [u64], done: u64) ->
     0
 }
 
-fn compare_all(cases: &mut [u64], differ: &mut [u64]) -> u8 {
+fn compare_all<R: Read>(from: &mut R, cases: &mut [u64], differ: &mut [u64]) -> u8 {
     let mut payload = [0u8; 140000];
     let mut done: u32 = 0;
     while done < MOST {
-        let end = step(&mut payload, cases, differ, done as u64);
+        let end = step(from, &mut payload, cases, differ, done as u64);
         if end != 0 {
             return end;
         }
@@ -129,7 +137,7 @@ fn at(list: &[u64], k: usize) -> u64 {
     if k < list.len() { list[k] } else { 0 }
 }
 
-fn report_all(cases: &[u64], differ: &[u64]) {
+fn report_all(rt: &impl Print, cases: &[u64], differ: &[u64]) -> io::Result<()> {
     let mut all: u64 = 0;
     let mut bad: u64 = 0;
     let mut kind: u8 = 0;
@@ -137,40 +145,42 @@ fn report_all(cases: &[u64], differ: &[u64]) {
         kind += 1;
         let n = at(cases, wide(kind));
         let d = at(differ, wide(kind));
-        line(kind, n, d);
+        line(rt, kind, n, d)?;
         all = std::num::wrapping_add_u64(all, n);
         bad = std::num::wrapping_add_u64(bad, d);
     }
-    total(all, bad);
+    total(rt, all, bad)
 }
 
 // ---- what the program prints
 
-fn say(text: &[u8]) {
-    io::write_all(STDOUT_FILENO, text);
+fn say(rt: &impl Print, text: &[u8]) -> io::Result<()> {
+    rt.write_all(text)
 }
 
-fn number(n: u64) {
-    io::print_decimal(STDOUT_FILENO, n);
+fn number(rt: &impl Print, n: u64) -> io::Result<()> {
+    rt.print(n)
 }
 
 // The twenty bytes of a table from a place on; nothing past its end.
-fn entry(table: &[u8], from: usize) {
+fn entry(rt: &impl Print, table: &[u8], from: usize) -> io::Result<()> {
     let end = std::num::wrapping_add_usize(from, 20);
     if from <= end {
         if end <= table.len() {
-            say(&table[from..end]);
+            return say(rt, &table[from..end]);
         }
     }
+    Ok(())
 }
 
 // The name of a kind of case.
-fn name(kind: u8) {
+fn name(rt: &impl Print, kind: u8) -> io::Result<()> {
     if kind == 255 {
-        return say(b"spoiled             ");
+        return say(rt, b"spoiled             ");
     }
     if kind < 17 {
         return entry(
+            rt,
             b"none                root                hypot               midpoint            rem_euclid          \
               sin                 cos                 atan2               min                 max                 \
               round               abs                 clamp               signum              copysign            \
@@ -179,12 +189,13 @@ fn name(kind: u8) {
         );
     }
     if kind < 60 {
-        return say(b"no such kind        ");
+        return say(rt, b"no such kind        ");
     }
     if kind > 68 {
-        return say(b"no such kind        ");
+        return say(rt, b"no such kind        ");
     }
     entry(
+        rt,
         b"route               layout              clutter             list                check               \
           label_size          write_num           write_sheet         under_limits        ",
         20 * wide(kind - 60),
@@ -192,38 +203,38 @@ fn name(kind: u8) {
 }
 
 // One line; none where the stream has no such case.
-fn line(kind: u8, cases: u64, differ: u64) {
+fn line(rt: &impl Print, kind: u8, cases: u64, differ: u64) -> io::Result<()> {
     if cases == 0 {
-        return;
+        return Ok(());
     }
-    name(kind);
-    say(b": ");
-    number(cases);
-    say(b" cases, ");
-    number(differ);
-    say(b" differ\n");
+    name(rt, kind)?;
+    say(rt, b": ")?;
+    number(rt, cases)?;
+    say(rt, b" cases, ")?;
+    number(rt, differ)?;
+    say(rt, b" differ\n")
 }
 
-fn total(cases: u64, differ: u64) {
-    say(b"in all: ");
-    number(cases);
-    say(b" cases, ");
-    number(differ);
-    say(b" differ\n");
+fn total(rt: &impl Print, cases: u64, differ: u64) -> io::Result<()> {
+    say(rt, b"in all: ")?;
+    number(rt, cases)?;
+    say(rt, b" cases, ")?;
+    number(rt, differ)?;
+    say(rt, b" differ\n")
 }
 
-fn ending(end: u8) {
+fn ending(rt: &impl Print, end: u8) -> io::Result<()> {
     match end {
-        1 => say(b"the stream is complete\n"),
-        2 => say(b"the stream says another number of cases\n"),
-        _ => say(b"the stream is cut short\n"),
+        1 => say(rt, b"the stream is complete\n"),
+        2 => say(rt, b"the stream says another number of cases\n"),
+        _ => say(rt, b"the stream is cut short\n"),
     }
 }
 
-fn main() {
+fn main(rt: HostRuntime) -> io::Result<()> {
     let mut cases = [0u64; 256];
     let mut differ = [0u64; 256];
-    let end = compare_all(&mut cases, &mut differ);
-    report_all(&cases, &differ);
-    ending(end);
+    let end = compare_all(&mut rt.stdin(), &mut cases, &mut differ);
+    report_all(&rt, &cases, &differ)?;
+    ending(&rt, end)
 }
