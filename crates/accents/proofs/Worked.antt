@@ -1,28 +1,25 @@
 -- Document 01's worked sheet with accents put into its line, worked out: before and after the letter, one of them twice, and two across pieces. Assumes nothing.
-use Rattle.std.specs.Prelude.{◌≡◌, refl, ℕ, zero, suc, ◌≤◌, ◌<◌, length, get_or, replicate}
+use Rattle.std.specs.Prelude.{◌≡◌, refl, ℕ, zero, suc, ◌<◌, get_or}
 use Rattle.std.proofs.Common.{sym, ap, ◌∙◌, arith}
-use mathlib.Core.List.{List, [], ◌∷◌, ◌++◌, flat_map}
+use mathlib.Core.List.{[], ◌∷◌, flat_map}
 use Rattle.laws.specs.Any.{any_of}
 use Rattle.laws.specs.Every.{every}
 use Rattle.laws.specs.Loops.{any_for, any_up, over}
 use Rattle.laws.specs.Refusals.{decide}
-use Rattle.float.specs.Constants.{whole}
 use Rattle.text.specs.Ascii.{ascii}
 use Rattle.text.specs.Encode.{utf8}
-use Rattle.sheet.specs.Sheet.{chain_by, met_line, met_arrow, met, line_of, lines_from, Graph, arrow_of, states_of, arrows_of, meaning}
+use Rattle.sheet.specs.Sheet.{chain_by, met_line, met_arrow, met, line_of, lines_from, arrow_of, states_of, arrows_of, meaning}
 use Rattle.sheet.specs.Meaning.{arrow_at}
 use Rattle.sheet.specs.Refusals.{repeats, is_set, wrong_record, wrong_bytes, indices, wrong_chains, large_arrow, over_limits, ill_arrow, ill_formed, service_panel, AtMost}
-use Rattle.sheet.specs.Records.{header, state_bytes, arrow_bytes, line_bytes, text_bytes}
 use Rattle.sheet.specs.Examples.{small, small_graph, small_means}
 use Rattle.label.specs.Accents.{WithAccents, as_it_was, more}
-use Rattle.drawing_text.specs.Worked.{worked_listing}
 use Rattle.routing.specs.Routing.{Frame}
 use Rattle.routing_laws.proofs.Agree.{same-frame}
-use Rattle.calls.specs.Calls.{values, main_screen, capped_limits, check, onto, list_after}
-use Rattle.demand3.specs.Demand.{Call, Answered}
+use Rattle.calls.specs.Calls.{values, main_screen, capped_limits, check}
+use Rattle.demand3.specs.Demand.{Answered}
 use Rattle.worked_calls.specs.Numbers.{small_xs, small_ys}
 use Rattle.worked_calls.specs.Worked.{small_limits, worked_calls}
-use Rattle.accents.specs.Sheets.{LinesPut, AccentsPut, AccentsOnly, AnsweredAlike, RecordsAlike}
+use Rattle.accents.specs.Sheets.{LinesPut, AccentsPut, AccentsOnly, AnsweredAlike}
 use Rattle.accents.proofs.Proof.{accents_take_no_width}
 use Rattle.accents.specs.Worked.{accented_line, small_accented, accented_graph, plain_call, accented_call, WorkedAccents}
 

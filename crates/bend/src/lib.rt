@@ -1,5 +1,6 @@
 // The bow of an arrow between two states: none, up or down, so far that it keeps clear of other states; and its curve.
 #![tactic(auto)]
+
 ghost use Rattle.std.specs.Prelude.{◌≡◌, ◌-◌, ◌<◌, ◌≤◌, length};
 ghost use Rattle.laws.specs.Sort.{place_from};
 ghost use Rattle.shape.specs.Centres.{centres};

@@ -1,5 +1,6 @@
 // Which drawings 9 refuses: "a two-way pair whose first free bow exceeds 10^9".
 #![tactic(auto)]
+
 ghost use Rattle.std.specs.Prelude.{◌≡◌, ◌≤◌, ◌<◌, length};
 ghost use Rattle.shape.specs.Centres.{centres};
 ghost use Rattle.routing.specs.Sheets.{frame_by};

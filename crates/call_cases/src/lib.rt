@@ -4,6 +4,7 @@
 // besides, with what it must write. A lent output is the middle of a longer one, which holds 170 in
 // every byte, or UNSET in every number, before the call.
 #![tactic(auto)]
+
 ghost use Rattle.std.specs.Prelude.{◌≡◌, List, ℕ, ◌+◌, ◌<◌, ◌≤◌, eqb, length, get_or, take, drop, Float};
 ghost use Rattle.calls.specs.Calls as C;
 ghost use Rattle.cases.specs.Payload.{word_at, long_at};

@@ -1,5 +1,6 @@
 // The calls of documents 01 and 02. None has a requirement.
 #![tactic(auto)]
+
 ghost use Rattle.std.specs.Prelude.{◌≡◌, ◌≤◌, length};
 ghost use Rattle.sheet.specs.Sheet.{states_of};
 ghost use Rattle.write_sheet.specs.Sheets.{Savable};

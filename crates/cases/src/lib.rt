@@ -1,6 +1,7 @@
 // Reading the cases that the program `vectors` compares. A case's payload is a slice of bytes; a
 // read past its end gives 0, so a payload that is too short is found by its length, not here.
 #![tactic(auto)]
+
 ghost use Rattle.std.specs.Prelude.{◌≡◌, ◌<◌, length, from_bits};
 ghost use Rattle.std.specs.Float.{binary64};
 ghost use Rattle.cases.specs.Payload as S;

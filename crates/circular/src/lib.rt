@@ -1,5 +1,6 @@
 // The ring: the states on a circle, in their order, the start state at the left.
 #![tactic(auto)]
+
 ghost use Rattle.std.specs.Prelude.{◌≡◌, ◌<◌, ◌≤◌, length};
 ghost use Rattle.circular.specs.Ring as S;
 

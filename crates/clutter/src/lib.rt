@@ -1,6 +1,7 @@
 // How cluttered a drawing is, over its records: pairs of arrows that cross, labels that collide with something.
 // Records are twenty numbers each, traces forty.
 #![tactic(auto)]
+
 ghost use Rattle.std.specs.Prelude.{◌≡◌, [], ◌++◌, map, ◌+◌, ◌-◌, ◌*◌, ◌≤◌, ◌<◌, length};
 ghost use Rattle.laws.specs.Counting.{how_many, worth};
 ghost use Rattle.laws.specs.Flat.{part};

@@ -1,6 +1,7 @@
 // The columns of the layered layout: breadth-first from one state, the states that are not reached in one last column.
 // The columns stand one after another in `order`, which has one place a state; `sizes` says how long each is.
 #![tactic(auto)]
+
 ghost use Rattle.std.specs.Prelude.{◌≡◌, false, [], ◌∷◌, ◌++◌, ◌+◌, ◌≤◌, ◌<◌, length, take, drop};
 ghost use Rattle.laws.specs.Filter.{filter_by};
 ghost use Rattle.laws.specs.Loops.{over};

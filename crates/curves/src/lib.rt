@@ -1,6 +1,7 @@
 // What `geometry` has before any label: the curve of each arrow between different states, its kind and where it
 // meets the rims, and the traces of the first scene. An arrow's curve stands in the twenty numbers of its own slot.
 #![tactic(auto)]
+
 ghost use Rattle.std.specs.Prelude.{◌≡◌, cond, [], ◌∷◌, ◌++◌, ◌+◌, ◌*◌, ◌≤◌, ◌<◌, length, get_or};
 ghost use Rattle.laws.specs.Flat.{table};
 ghost use Rattle.float.specs.Constants.{f0};

@@ -24,7 +24,7 @@ use Rattle.routing_laws.specs.Demand.{edge_at, record_for, Stroke, stroke_of}
 use Rattle.routing_laws.proofs.Demand.{records_cheapest, turn_number_lem, turn_kept}
 use Rattle.routing_laws.specs.Demand as Routing
 use Rattle.routing_laws.proofs.Demand as RoutingLaws
-use Rattle.routing.specs.Sheets.{frame_of, records_of, ends_of}
+use Rattle.routing.specs.Sheets.{frame_of, ends_of}
 use Rattle.routing_laws.specs.Agree.{lines_at}
 use Rattle.routing_laws.specs.Agree.{graph_record}
 use Rattle.routing_laws.proofs.Agree.{same-frame, arrow-kept}

@@ -1,5 +1,6 @@
 // A sheet checked and routed at given centres.
 #![tactic(auto)]
+
 ghost use Rattle.std.specs.Prelude.{◌≡◌, ◌≤◌, length};
 ghost use Rattle.sheet.specs.Sheet as G;
 ghost use Rattle.draw.specs.Drawn as S;

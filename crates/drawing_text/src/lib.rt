@@ -1,6 +1,7 @@
 // The text of a drawing: the paths of its records, and its listing.
 // A writer stores what fits and always advances: on an empty slice it measures.
 #![tactic(auto)]
+
 ghost use Rattle.std.specs.Prelude.{◌≡◌, cond, true, ◌*◌, ◌≤◌, length};
 ghost use mathlib.Core.List.{[], ◌∷◌, map, flat_map};
 ghost use Rattle.laws.specs.Writers.{Wrote};

@@ -1,10 +1,10 @@
 -- A graph's sheet is accepted. Assumes nothing.
-use Rattle.std.specs.Prelude.{◌≡◌, false, not, ◌||◌, ℕ, ◌+◌, ◌*◌, ◌≤◌, ◌<◌, ltb, eqb, length, get_or}
+use Rattle.std.specs.Prelude.{◌≡◌, false, not, ◌||◌, ◌+◌, ◌*◌, ◌≤◌, ltb, eqb, length}
 use Rattle.std.proofs.Common.{ap, ◌∙◌, arith, le-ltb, eq-eqb}
-use Rattle.sheet.specs.Sheet.{version, count, Graph, flags_of}
+use Rattle.sheet.specs.Sheet.{version, count, Graph}
 use Rattle.sheet.specs.Refusals.{wrong_length, wrong_version, over_limits, ill_formed, refusals, check_of}
 use Rattle.laws.specs.Bools.{or_none}
-use Rattle.sheet.specs.Accepted.{Within, not-over, not_ill}
+use Rattle.sheet.specs.Accepted.{not-over, not_ill}
 use Rattle.sheet.specs.Order.{accepted_exactly}
 use Rattle.laws.specs.Refusals.{Clear, without, clear_none}
 use Rattle.sheet.specs.declared.Checked.TheVariants.{Accepted}

@@ -1,10 +1,10 @@
 -- Sheets written afresh, computed. Assumes nothing.
-use Rattle.std.specs.Prelude.{◌≡◌, refl, replicate}
-use mathlib.Core.List.{[], ◌∷◌, ◌++◌, flat_map}
-use Rattle.sheet.specs.Sheet.{chain_by, line_of, lines_from, arrow_of, states_of, arrows_of, Graph, meaning}
+use Rattle.std.specs.Prelude.{◌≡◌, replicate}
+use mathlib.Core.List.{[], ◌∷◌, ◌++◌}
+use Rattle.sheet.specs.Sheet.{Graph, meaning}
 use Rattle.sheet.specs.Records.{header, state_bytes, arrow_bytes, line_bytes, text_bytes}
 use Rattle.sheet.specs.Examples.{empty_sheet, small, shuffled, lined}
-use Rattle.encode.specs.Encode.{space_of, all_records, pieces_by, line_records, arrow_records, encode}
+use Rattle.encode.specs.Encode.{encode}
 
 abbrev pub branching : Graph
 branching = record {

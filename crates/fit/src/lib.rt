@@ -1,5 +1,6 @@
 // Fitting a drawing: what it covers, the shift to the margin, and its size.
 #![tactic(auto)]
+
 ghost use Rattle.std.specs.Prelude.{◌≡◌, ◌*◌, ◌≤◌, length};
 ghost use mathlib.Core.List.{flat_map};
 ghost use Rattle.laws.specs.Loops.{over};

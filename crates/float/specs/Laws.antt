@@ -1,6 +1,6 @@
 -- What later crates cite of the stand-ins: the larger and the smaller, and the arctangent at zeros (roots: RootLaws); and of numbers without a sign. Assumes nothing.
 -- (`<` of floats is transitive and irreflexive, with NaN and the infinities: `float_lt_trans`, `lt-itself` of laws.)
-use Rattle.std.specs.Prelude.{◌≡◌, refl, Bool, true, cond, ℕ, zero, suc, ◌+◌, ◌-◌, ◌*◌, T, ltb, ℤ, Float}
+use Rattle.std.specs.Prelude.{◌≡◌, refl, Bool, true, cond, ℕ, zero, suc, ◌+◌, ◌*◌, T, ltb, ℤ, Float}
 use Rattle.std.proofs.Common.{ap, ap₂, ◌∙◌, subst, mul-pos, mul-one, zero-mul, ne_eqb, le-ltb, ltb-false}
 use Rattle.std.proofs.Math.Bool.{false}
 use native.Mathlib.Omega.{arith}

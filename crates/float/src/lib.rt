@@ -1,5 +1,6 @@
 // The stand-ins for the library's float functions. Each operation rounds once.
 #![tactic(auto)]
+
 ghost use Rattle.std.specs.Prelude.{◌≡◌, ◌*◌, ◌^◌, ◌<◌, ◌≤◌};
 ghost use Rattle.std.specs.Float.Ieee.Scale.{finite};
 ghost use Rattle.root.specs.Rounded.{magnitude};

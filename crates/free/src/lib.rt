@@ -1,5 +1,6 @@
 // The bows that states beside an arrow block, and the first free one.
 #![tactic(auto)]
+
 ghost use Rattle.std.specs.Prelude.{◌≡◌, ◌+◌, ◌<◌, ◌≤◌, length};
 ghost use Rattle.shape.specs.Centres.{centres};
 ghost use Rattle.free.specs.Chords as C;

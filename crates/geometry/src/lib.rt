@@ -1,5 +1,6 @@
 // `geometry`: the drawing of a graph at given centres, from its flags, arrow ends and label sizes.
 #![tactic(auto)]
+
 ghost use Rattle.std.specs.Prelude.{◌≡◌, ◌*◌, ◌≤◌, length};
 ghost use Rattle.shape.specs.Centres.{centres};
 ghost use Rattle.laws.specs.Put.{put};

@@ -1,5 +1,6 @@
 // A sheet's graph in slices, one place a state and one an arrow.
 #![tactic(auto)]
+
 ghost use Rattle.std.specs.Prelude.{◌≡◌, map, ◌≤◌, length};
 ghost use Rattle.sheet.specs.Sheet as S;
 ghost use Rattle.meaning.specs.Read as M;

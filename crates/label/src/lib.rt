@@ -1,5 +1,6 @@
 // The size of a label block: its lines measured character by character.
 #![tactic(auto)]
+
 ghost use Rattle.std.specs.Prelude.{◌≡◌, ◌<◌, ◌≤◌, length, take, drop};
 ghost use Rattle.float.specs.Constants.{f0};
 ghost use Rattle.sheet.specs.Sheet.{line_of, lines_from};

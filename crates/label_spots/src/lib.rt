@@ -1,5 +1,6 @@
 // Where the label of an arrow may go, and the drawing of the arrow with its label there.
 #![tactic(auto)]
+
 ghost use Rattle.std.specs.Prelude.{◌≡◌, ◌<◌, get_or};
 ghost use Rattle.label_spots.specs.Spots as S;
 ghost use Rattle.label_spots.specs.Labels as L;

@@ -1,5 +1,5 @@
 -- The place that the plain search takes is the first least one, and there is only one such place. Assumes nothing.
-use Rattle.std.specs.Prelude.{◌≡◌, ◌⊎◌, ltb, leb, eqb}
+use Rattle.std.specs.Prelude.{◌≡◌, ◌⊎◌}
 use Rattle.std.proofs.Math.Path.{sym}
 use Rattle.std.proofs.Common.{subst, le_refl, le_trans, le_of_lt, lt_of_lt_of_le, eq-or-lt_of_le, le_of_suc-le-suc, not-suc-le-zero, lt_irrefl}
 use Rattle.std.proofs.Math.Logic.{⊎_elim}

@@ -1,8 +1,8 @@
 -- The first of some places that no other undercuts, and a search that stops early and finds the same.
 -- A place is its number in the list, 0 and on; `cost j` is the full cost of place j. Assumes nothing.
-use Rattle.std.specs.Prelude.{◌≡◌, refl, cond, List, [], ◌∷◌, ◌⊎◌, ltb, leb, eqb}
+use Rattle.std.specs.Prelude.{◌≡◌, refl, cond, List, [], ◌∷◌, ltb, leb, eqb}
 use Rattle.std.proofs.Math.Path.{sym, ap}
-use Rattle.std.proofs.Common.{◌∙◌, subst, le_refl, le_trans, le_of_lt, lt_of_lt_of_le, lt_of_le_of_lt, eq-or-lt_of_le, le_of_suc-le-suc, not-suc-le-zero, add-zero, add-suc, suc-add, lt_irrefl, eq-zero-or-pos, one-add}
+use Rattle.std.proofs.Common.{◌∙◌, le_refl, le_trans, lt_of_le_of_lt, add-zero, add-suc, suc-add, eq-zero-or-pos, one-add}
 use Rattle.std.proofs.Math.Logic.{⊎_elim}
 use Prim.Native.Nat.{ℕ, zero, suc, ◌+◌, ◌≤◌, ◌<◌, zero-le}
 use native.Mathlib.Omega.{arith}

@@ -3,7 +3,7 @@ use Rattle.std.specs.Prelude.{◌≡◌, ◌⊎◌, set, take, drop}
 use Rattle.std.proofs.Math.Path.{refl, sym, ap, ap₂}
 use Rattle.std.proofs.Common.{◌∙◌, inl, inr, ⊎_elim, mul-zero, mul-le-mul_left, not-suc-le-zero, arith, take_at, drop_at, drop-drop}
 use mathlib.Core.List.{List, [], ◌∷◌, ◌++◌, append_assoc, flat_map}
-use Prim.Native.Nat.{ℕ, zero, suc, ◌+◌, ◌-◌, ◌*◌, ◌≤◌, ◌<◌}
+use Prim.Native.Nat.{ℕ, zero, suc, ◌+◌, ◌*◌, ◌≤◌, ◌<◌}
 use Rattle.std.proofs.Math.Nat.{mul-suc, add_comm, zero-add}
 use Rattle.std.proofs.Math.ListN.{length, get_or, length-append, get_or-append}
 use Rattle.std.proofs.Math.Seq.{get_or-append-add, drop-set-lt}

@@ -1,8 +1,8 @@
 -- A run over turns. At each turn every listed place gets its full cost in the scene so far, the first least one is taken, and what it brings goes into the scene.
 -- S is the scene, T what a turn is given. Everything is a parameter, so that a real diagram is one instance. Assumes nothing.
-use Rattle.std.specs.Prelude.{◌≡◌, length, get_or, take}
+use Rattle.std.specs.Prelude.{◌≡◌, get_or, take}
 use Rattle.std.proofs.Math.Path.{refl, ap}
-use Rattle.std.proofs.Common.{sym, ap₂, ◌∙◌, le_of_suc-le-suc, not-suc-le-zero}
+use Rattle.std.proofs.Common.{sym, ap₂, ◌∙◌}
 use mathlib.Core.List.{List, [], ◌∷◌, map}
 use Prim.Native.Nat.{ℕ, zero, suc, ◌<◌, zero-le, suc-le-suc}
 use Rattle.laws.specs.Best.{best}

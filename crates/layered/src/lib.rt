@@ -1,5 +1,6 @@
 // The layered layout: x from the column of a state, y from its slot there.
 #![tactic(auto)]
+
 ghost use Rattle.std.specs.Prelude.{◌≡◌, map, ◌+◌, ◌≤◌, ◌<◌, length, replicate};
 ghost use Rattle.laws.specs.Split.{split, sum_all};
 ghost use Rattle.float.specs.Constants.{f0};

@@ -1,5 +1,6 @@
 // The layout of a graph by kind: layers or ring, the choice between them, and the fit.
 #![tactic(auto)]
+
 ghost use Rattle.std.specs.Prelude.{◌≡◌, ◌<◌, ◌≤◌, length};
 ghost use Rattle.sheet.specs.Meaning.{start_index};
 ghost use Rattle.circular.specs.Ring.{largest};

@@ -1,5 +1,5 @@
 -- Document 02's claim on limits holds. Assumes nothing.
-use Rattle.std.specs.Prelude.{◌≡◌, Bool, false, ◌&&◌, ◌||◌, ℕ, ◌≤◌, ◌<◌, eqb, length, get_or}
+use Rattle.std.specs.Prelude.{◌≡◌, Bool, false, ◌&&◌, ◌||◌, ℕ, ◌≤◌, eqb, length, get_or}
 use Rattle.std.proofs.Math.Path.{refl, ap, ap₂}
 use Rattle.std.proofs.Common.{sym, ◌∙◌, arith}
 use Rattle.std.proofs.Math.Bool.{true, not}
@@ -17,9 +17,8 @@ use Rattle.sheet.specs.Accepted.{Within, within-limits, not-over, not_ill}
 use Rattle.sheet.specs.Over.{SoundSheet, over_is, is_over, over_lower, clear_higher}
 use Rattle.sheet.specs.Order.{accepted_exactly}
 use Rattle.sheet.specs.declared.Limits.{Limits}
-use Rattle.label.specs.Label.{label_refusals, cut, total_length, block_width, block_height}
+use Rattle.label.specs.Label.{cut, total_length}
 use Rattle.routing.specs.Sheets.{frame_of}
-use Rattle.clutter.specs.Clutter.{clutter_of}
 use Rattle.drawing_text.specs.Lines.{paths_text, paths_writable}
 use Rattle.beyond.specs.Beyond.{beyond}
 use Rattle.draw.specs.Drawn.{far_centre, centre_refusals}

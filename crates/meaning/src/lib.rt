@@ -1,5 +1,6 @@
 // What a sheet means, read out of its bytes by walks along its chains.
 #![tactic(auto)]
+
 ghost use Rattle.std.specs.Prelude.{◌≡◌, map, ◌+◌, ◌*◌, ◌<◌, ◌≤◌, length, set};
 ghost use Rattle.laws.specs.Any.{any_of};
 ghost use Rattle.laws.specs.Put.{put};

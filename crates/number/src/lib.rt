@@ -1,6 +1,7 @@
 // A written number: at most two decimals, no trailing zeros, never `-0`; not finite gives `0`.
 // A writer stores what fits and always advances: on an empty slice it measures.
 #![tactic(auto)]
+
 ghost use Rattle.std.specs.Prelude.{◌≡◌, ◌<◌, not, ◌&&◌, length, ◌==◌};
 ghost use Rattle.laws.specs.Writers.{Wrote};
 ghost use Rattle.float.specs.Standins.{negative};

@@ -1,6 +1,7 @@
 // Answers that a drawing or a layout has ready: put whole into what is lent, or refused by 10 or 7 with nothing
 // touched.
 #![tactic(auto)]
+
 ghost use Rattle.std.specs.Prelude.{◌≡◌, ◌*◌, ◌≤◌, length, take};
 ghost use mathlib.Core.List.{flat_map};
 ghost use Rattle.laws.specs.Flat.{table};

@@ -1,5 +1,6 @@
 // A sheet checked and laid out by kind.
 #![tactic(auto)]
+
 ghost use Rattle.std.specs.Prelude.{◌≡◌, ◌≤◌, length};
 ghost use Rattle.sheet.specs.Sheet as G;
 ghost use Rattle.layout.specs.Layout as L;

@@ -1,7 +1,7 @@
 // A reader over the sheet, which walks one chain through the sheet's bytes: a thin layer over plain bytes and an
-// index. Each function over the struct takes it apart and calls a covered function on slice and number; each is
-// proved by hand.
+// index. Each function over the struct takes it apart and calls a function on slice and number.
 #![tactic(auto)]
+
 ghost use Rattle.std.specs.Prelude.{◌≡◌, ◌<◌};
 ghost use Rattle.sheet.specs.Sheet as S;
 ghost use Rattle.reader.specs.Reading as R;

@@ -1,6 +1,7 @@
 // A record of the drawing: the twenty numbers of an arrow, written into its own part of a lent slice, and read from it.
 // A slot: an arrow whose label is still to be placed, in twenty numbers too.
 #![tactic(auto)]
+
 ghost use Rattle.std.specs.Prelude.{◌≡◌, ◌+◌, ◌*◌, ◌≤◌, length};
 ghost use Rattle.laws.specs.Flat.{part};
 ghost use Rattle.laws.specs.Put.{put};

@@ -1,5 +1,6 @@
 // The remainder of an f64 by TAU, exact, as Rust's `%` and C's fmod have it, by whole numbers of 64 bits.
 #![tactic(auto)]
+
 ghost use Rattle.std.specs.Prelude.{◌≡◌, ◌*◌, ◌%◌, ◌^◌, ◌≤◌, ◌<◌};
 ghost use Rattle.std.specs.Float.Ieee.{rem, of_bits};
 ghost use Rattle.std.specs.Float.{binary64};

@@ -6,16 +6,14 @@ use Rattle.laws.specs.Any.{any_of}
 use Rattle.laws.specs.Bools.{clash}
 use Rattle.float.specs.Ops.{of_nat, eq}
 use Rattle.float.specs.Constants.{f2, f3}
-use Rattle.sheet.specs.Sheet.{Arrow, Graph}
 use Rattle.bend.specs.Leads.{leads}
-use Rattle.routing.specs.Sheets.{frame_of, no_state}
-use Rattle.demand3.specs.Demand.{graph}
+use Rattle.routing.specs.Sheets.{frame_of}
 use Rattle.worked_demand.specs.Calls.{first}
 use Rattle.worked_demand.specs.Computed.{first-drawn}
 use Rattle.worked_demand.specs.Worked.{number_left, turn_is, source_is, target_is, first-answered, first-between, worked_demand}
-use Rattle.reverse.specs.Reverse.{SomeArrow, searched, points_at, StraightAt, CurveExact}
+use Rattle.reverse.specs.Reverse.{searched, points_at, CurveExact}
 use Rattle.reverse.proofs.Proof.{two_points, three_points, reverse_arrow}
-use Rattle.reverse.specs.Worked.{from_to, pair_sheet, WorkedCurves}
+use Rattle.reverse.specs.Worked.{pair_sheet, WorkedCurves}
 
 -- for an arrow from a to b
 abbrev says : ℕ × ℕ → Bool

@@ -1,19 +1,11 @@
 -- The claim is not empty: the search on a small sheet, and an answered call of `route` with a pair and a straight arrow. Assumes nothing.
-use Rattle.std.specs.Prelude.{◌≡◌, refl, Bool, true, false, [], ◌∷◌, map, ℕ, ◌<◌, get_or, Float}
-use Rattle.std.proofs.Common.{sym, ap, ◌∙◌, arith}
-use Rattle.std.specs.Float.Ieee.{of_int, round, of_bits}
-use Rattle.laws.specs.Any.{any_of}
-use Rattle.laws.specs.Bools.{clash}
-use Rattle.float.specs.Ops.{of_nat, eq}
+use Rattle.std.specs.Prelude.{◌≡◌, [], ◌∷◌, ℕ}
 use Rattle.float.specs.Constants.{f2, f3}
 use Rattle.sheet.specs.Sheet.{Arrow, Graph}
-use Rattle.bend.specs.Leads.{leads}
-use Rattle.routing.specs.Sheets.{frame_of, no_state}
+use Rattle.routing.specs.Sheets.{no_state}
 use Rattle.demand3.specs.Demand.{graph}
 use Rattle.worked_demand.specs.Calls.{first}
-use Rattle.worked_demand.specs.Computed.{first-drawn}
-use Rattle.worked_demand.specs.Worked.{number_left, turn_is, source_is, target_is, first-answered, first-between, worked_demand}
-use Rattle.reverse.specs.Reverse.{SomeArrow, searched, points_at, StraightAt, CurveExact}
+use Rattle.reverse.specs.Reverse.{SomeArrow, points_at, StraightAt}
 
 abbrev from_to : ℕ → ℕ → Arrow
 from_to a b = record { source = a; target = b; lines = [] }

@@ -1,5 +1,5 @@
 -- Finite numbers that are not negative are in the order of their bits. Assumes nothing.
-use Rattle.std.specs.Prelude.{◌≡◌, refl, Bool, true, false, ◌||◌, ℕ, ◌-◌, ◌*◌, ◌^◌, ◌≤◌, ◌<◌, eqb, leb, ltb, Float}
+use Rattle.std.specs.Prelude.{◌≡◌, refl, Bool, true, false, ◌||◌, ℕ, ◌*◌, ◌^◌, ◌≤◌, ◌<◌, eqb, leb, ltb, Float}
 use Rattle.std.proofs.Common.{sym, ap, ap₂, ◌∙◌, subst, true≢false, mul-le-mul_right, le_of_mul-le-mul_right, le_antisymm, le_of_eq, lt_of_lt_of_le, lt_irrefl, arith, pow_pos, eqb-true, ltb-true, ltb-false, lt-ltb, le-ltb, le-leb, eq-eqb, ne_eqb}
 use Rattle.std.proofs.lemmas.Bool.{eqb-false, lt-leb}
 use Rattle.std.specs.Float.{nan, inf, fin, binary64}

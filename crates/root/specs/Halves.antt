@@ -1,5 +1,5 @@
 -- The nearest root told with numbers below 2 ^ 64, by halves of 26 binary digits: p is the nearest to the root of n where p * (p - 1) < n ≤ p * (p + 1). Assumes nothing.
-use Rattle.std.specs.Prelude.{◌≡◌, ℕ, zero, suc, ◌+◌, ◌-◌, ◌*◌, ◌^◌, ◌≤◌, ◌<◌}
+use Rattle.std.specs.Prelude.{◌≡◌, ℕ, zero, suc, ◌+◌, ◌*◌, ◌^◌, ◌≤◌, ◌<◌}
 use Rattle.std.proofs.Common.{arith}
 use Rattle.root.specs.Root.{nearest_root}
 use Rattle.root.specs.Nearest.{Nearest, twice_less, nearest_unique}

@@ -1,22 +1,20 @@
 -- What two sheets that differ only in labels have in common, and demand 3 over graphs and centres. Assumes nothing.
-use Rattle.std.specs.Prelude.{◌≡◌, refl, Bool, true, false, ◌&&◌, List, [], ◌∷◌, map, ℕ, zero, suc, ◌≤◌, ◌<◌, eqb, length, get_or, Float}
+use Rattle.std.specs.Prelude.{◌≡◌, refl, Bool, true, false, ◌&&◌, List, [], ◌∷◌, map, ℕ, zero, suc, ◌<◌, eqb, length, get_or, Float}
 use Rattle.std.proofs.Common.{sym, ap, ◌∙◌, arith, lt-ltb, ne_eqb}
 use Rattle.std.proofs.Math.Path.{ap₂}
 use Rattle.std.proofs.Math.ListN.{length-map, get_or-map}
 use Rattle.std.specs.Float.Ieee.{of_bits, of_int, mul, round}
 use Rattle.laws.specs.Lists.{map-alike}
 use Rattle.laws.specs.Loops.{over}
-use Rattle.laws.specs.Places.{At}
 use Rattle.sheet.specs.Sheet.{Arrow, Graph, flags_of}
 use Rattle.sheet.specs.Meaning.{ends_below, no_arrow, arrow_at}
 use Rattle.sheet.specs.Meaning as Meaning
 use Rattle.routing.specs.Sheets.{centres_at, frame_with, ends_of, ends_by, block_size, size_of, frame_of, sizes_of, no_state, SameFrame}
-use Rattle.label_spots.specs.declared.Geometry.{Geometry}
-use Rattle.routing.specs.Routing.{Ends, Frame, is_kept_in, is_loop, no_size, Item, edge_of, order, numbered_at, item_for, no_item}
-use Rattle.routing_laws.specs.Demand.{size_at, record_for, edge_at, TurnCheapest, stroke_of}
+use Rattle.routing.specs.Routing.{Ends, Frame, is_kept_in, is_loop, no_size, Item, edge_of, order, numbered_at, no_item}
+use Rattle.routing_laws.specs.Demand.{size_at, record_for, edge_at, stroke_of}
 use Rattle.routing_laws.proofs.Demand.{prefix, kept_turn, records_cheapest, records_prefix}
 use Rattle.routing_laws.proofs.Demand as Demand
-use Rattle.routing_laws.specs.Agree.{lines_at, graph_record, GraphDemand}
+use Rattle.routing_laws.specs.Agree.{lines_at, GraphDemand}
 
 -- no label enters the frame, nor the order of the turns
 pub same-frame : (g h : Graph) (xs ys : List Float) → SameFrame g h → frame_of g xs ys ≡ frame_of h xs ys

@@ -1,5 +1,5 @@
 -- What holds of every routing: the cheapest listed place at every turn, and what two sheets that differ only in labels have in common. Assumes nothing.
-use Rattle.std.specs.Prelude.{◌≡◌, Bool, cond, ℕ, suc, ◌-◌, ◌≤◌, ◌<◌, eqb, length, get_or, take, Float}
+use Rattle.std.specs.Prelude.{◌≡◌, Bool, cond, ℕ, suc, ◌-◌, ◌≤◌, ◌<◌, eqb, length, get_or, take}
 use Rattle.std.proofs.Math.Path.{refl, ap}
 use Rattle.std.proofs.Common.{sym, ap₂, ◌∙◌, subst, arith, get_or-take}
 use Rattle.std.proofs.Math.Bool.{true, false}
@@ -15,10 +15,6 @@ use Rattle.laws.proofs.Run.{run_least}
 use Rattle.laws.specs.Zip.{zip_by, zip_at, take_zip}
 use Rattle.laws.specs.Joined.{filter_flat, flat_same, flat_filter}
 use Rattle.laws.specs.Places.{filter_some, filter_only, At, find}
-use Rattle.shape.specs.declared.«V».{«V»}
-use Rattle.shape.specs.declared.Curve.{Curve}
-use Rattle.shape.specs.Curves.{end}
-use Rattle.bend.specs.declared.Routed.{Routed}
 use Rattle.bend.specs.declared.Shape.{Shape}
 use Rattle.bend.specs.declared.Shape.TheVariants as Shape
 use Rattle.label_spots.specs.declared.Geometry.{Geometry}
@@ -26,7 +22,7 @@ use Rattle.label_spots.specs.Spots.{spot_count, spot-count}
 use Rattle.label_spots.specs.Labels.{labelled}
 use Rattle.scene.specs.Scene.{Scene}
 use Rattle.directions.specs.Lengths.{directions_some}
-use Rattle.routing.specs.Routing.{numbered_at, is_turn, item_for, Frame, is_loop, joined, route_of, numbered, is_kept_in, drawn_for, Numbered, records, BlockSize, no_size, Item, loop, label, edge_of, Route, Step, step_of, order, steps, listed_by, rim, more, cost, drawn_step, drawn_by, scene_after, first_scene, places_taken, scene_at, drawing, no_item}
+use Rattle.routing.specs.Routing.{numbered_at, is_turn, item_for, Frame, is_loop, joined, route_of, numbered, is_kept_in, drawn_for, Numbered, BlockSize, Item, loop, label, edge_of, Route, Step, step_of, order, steps, listed_by, rim, more, cost, drawn_step, drawn_by, scene_after, first_scene, places_taken, scene_at, drawing, no_item}
 use Rattle.routing_laws.specs.Numbers.{is_number, number_one}
 use Rattle.routing_laws.specs.Slots.{is_edge}
 use Rattle.routing_laws.proofs.Slots.{own_turn, own_none, edges_drawn, drawn_edge, drawn_once, records-each}

@@ -13,7 +13,7 @@ use Rattle.shape.specs.Centres.{centre, centres}
 use Rattle.directions.specs.Rims.{leave_angle, reach_angle, ends_between, angle_at, meets_rim, arrow_angles, start_mark, rim_angles, ends_at, all_ends}
 use Rattle.directions.specs.Rims as Rims
 use Rattle.sheet.specs.Meaning.{is_start}
-use Rattle.routing.specs.Routing.{Frame, Ends, Numbered, numbered_from, numbered, joined, Route, route_of, leaving, reaching, rim}
+use Rattle.routing.specs.Routing.{Frame, Numbered, numbered_from, numbered, joined, route_of, rim}
 use Rattle.routing.specs.Sheets.{ends_by, frame_by}
 use Rattle.routing_laws.specs.Passes.{is_crossing, leave_of, reach_of}
 use Rattle.routing_laws.specs.Order.{routes_of}

@@ -1,16 +1,15 @@
 -- One turn as the code runs it: the turn of a loop is `looped`, that of a label `placed_arrow`. Assumes nothing.
-use Rattle.std.specs.Prelude.{◌≡◌, List, ℕ, suc, ◌-◌, ◌<◌, get_or}
+use Rattle.std.specs.Prelude.{◌≡◌, List, ℕ, suc, ◌-◌, ◌<◌}
 use Rattle.std.proofs.Common.{ap, ◌∙◌, arith, ne_eqb, eq-eqb}
 use Rattle.laws.specs.Best.{best}
 use Rattle.laws.specs.Loops.{over}
-use Rattle.label_spots.specs.declared.Geometry.{Geometry}
-use Rattle.scene.specs.Scene.{Scene, with_box, with_trace}
+use Rattle.scene.specs.Scene.{Scene}
 use Rattle.scene.specs.Turn as Place
-use Rattle.self_loop.specs.Looped.{trace_by, direction_cost, loop_taken, looped}
-use Rattle.routing.specs.Routing.{Frame, BlockSize, no_size, Numbered, Route, route_of, Item, loop, label, Step, step_of, loop_turn, label_turn, listed_by, drawn_step}
+use Rattle.self_loop.specs.Looped.{direction_cost, loop_taken, looped}
+use Rattle.routing.specs.Routing.{Frame, BlockSize, Numbered, Route, route_of, Item, loop, label, step_of, loop_turn, label_turn, listed_by, drawn_step}
 use Rattle.routing_laws.specs.Demand.{step_with}
 use Rattle.routing_laws.proofs.Demand.{listed_some}
-use Rattle.routing_laws.specs.Passes.{turn_kind, item_of, items_of, Drawn, drawn_with, store, taken_in, played, turned}
+use Rattle.routing_laws.specs.Passes.{turn_kind, item_of, items_of, Drawn, taken_in, played, turned}
 use Rattle.routing_laws.specs.Turns.{size_for, step_drawn, with_loop, with_label, loop_draws, label_draws}
 
 -- ---- the place taken

@@ -1,33 +1,14 @@
 -- What holds of every routing: the cheapest listed place at every turn, and what two sheets that differ only in labels have in common. Assumes nothing.
-use Rattle.std.specs.Prelude.{◌≡◌, Bool, cond, ℕ, suc, ◌-◌, ◌≤◌, ◌<◌, eqb, length, get_or, take, Float}
-use Rattle.std.proofs.Math.Path.{refl, ap}
-use Rattle.std.proofs.Common.{sym, ap₂, ◌∙◌, subst, arith, get_or-take}
-use Rattle.std.proofs.Math.Bool.{true, false}
-use mathlib.Core.List.{List, [], ◌∷◌, map, flat_map, append-nil}
-use borrow.Author.Tests.{eq-eqb, ne_eqb, eqb-true, eqb-false}
-use Rattle.std.proofs.lemmas.List.{length-map}
-use Rattle.std.proofs.Math.ListN.{get_or-map}
-use Rattle.laws.specs.Cases.{by_bool, by_lt}
-use Rattle.laws.specs.Filter.{filter_by, filter_yes, filter_no}
+use Rattle.std.specs.Prelude.{◌≡◌, ℕ, get_or, Float}
+use mathlib.Core.List.{List, [], ◌∷◌}
+use Rattle.laws.specs.Filter.{filter_by}
 use Rattle.laws.specs.Best.{FirstLeast}
-use Rattle.laws.specs.Run as Run
-use Rattle.laws.proofs.Run.{run_least}
-use Rattle.laws.specs.Zip.{zip_by, zip_at, take_zip}
-use Rattle.laws.specs.Joined.{filter_flat, flat_same, flat_filter}
-use Rattle.laws.specs.Places.{filter_some, filter_only, At, find}
 use Rattle.shape.specs.declared.«V».{«V»}
 use Rattle.shape.specs.declared.Curve.{Curve}
 use Rattle.shape.specs.Curves.{end}
 use Rattle.bend.specs.declared.Routed.{Routed}
-use Rattle.bend.specs.declared.Shape.{Shape}
-use Rattle.bend.specs.declared.Shape.TheVariants as Shape
 use Rattle.label_spots.specs.declared.Geometry.{Geometry}
-use Rattle.label_spots.specs.Spots.{spot_count, spot-count}
-use Rattle.label_spots.specs.Labels.{labelled}
-use Rattle.scene.specs.Scene.{Scene}
-use Rattle.directions.specs.Lengths.{directions_some}
-use Rattle.routing.specs.Routing.{numbered_at, is_turn, item_for, Frame, is_loop, joined, route_of, numbered, is_kept_in, drawn_for, Numbered, records, BlockSize, no_size, Item, loop, label, edge_of, Route, Step, step_of, order, steps, listed_by, rim, more, cost, drawn_step, drawn_by, scene_after, first_scene, places_taken, scene_at, drawing, no_item}
-use Rattle.routing_laws.specs.Numbers.{is_number, number_one}
+use Rattle.routing.specs.Routing.{Frame, records, BlockSize, no_size, Item, edge_of, Step, step_of, order, steps, listed_by, cost, drawn_by, places_taken, scene_at, no_item}
 use Rattle.routing_laws.specs.Slots.{is_edge}
 
 -- ---- (1) at every turn none of the listed costs less and none before it costs the same

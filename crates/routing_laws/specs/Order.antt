@@ -1,14 +1,8 @@
 -- The order of the turns is the three passes over all arrows, and the first scene has each arrow's own trace. Assumes nothing.
-use Rattle.std.specs.Prelude.{◌≡◌, refl, Bool, true, false, not, cond, ◌&&◌, eqb}
-use Rattle.std.proofs.Common.{ap, ap₂, ◌∙◌}
-use mathlib.Core.List.{List, [], ◌∷◌, ◌++◌, map, flat_map}
-use Rattle.laws.specs.Cases.{by_bool}
-use Rattle.laws.specs.Filter.{filter_by}
-use Rattle.laws.specs.Joined.{map_flat_one, flat_filter, filter_flat, flat_same, map_flat}
-use Rattle.trace.specs.Traces.{Trace}
-use Rattle.scene.specs.Scene.{scene_of}
-use Rattle.routing.specs.Routing.{Frame, Numbered, numbered, is_kept_in, is_loop, kept, loops, crossing, Route, route_of, routes, start_traces, route_trace, first_scene, Item, loop, label, is_arc, order}
-use Rattle.routing_laws.specs.Passes.{is_crossing, turn_kind, items_of, traces_of}
+use Rattle.std.specs.Prelude.{cond}
+use mathlib.Core.List.{List, [], ◌∷◌}
+use Rattle.routing.specs.Routing.{Frame, Numbered, Route, route_of}
+use Rattle.routing_laws.specs.Passes.{is_crossing}
 
 -- ---- the routes, arrow by arrow
 

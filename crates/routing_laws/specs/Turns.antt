@@ -1,15 +1,11 @@
 -- One turn as the code runs it: the turn of a loop is `looped`, that of a label `placed_arrow`. Assumes nothing.
-use Rattle.std.specs.Prelude.{◌≡◌, List, ℕ, suc, ◌-◌, ◌<◌, get_or}
-use Rattle.std.proofs.Common.{ap, ◌∙◌, arith, ne_eqb, eq-eqb}
-use Rattle.laws.specs.Best.{best}
-use Rattle.laws.specs.Loops.{over}
+use Rattle.std.specs.Prelude.{List, ℕ, get_or}
 use Rattle.label_spots.specs.declared.Geometry.{Geometry}
 use Rattle.scene.specs.Scene.{Scene, with_box, with_trace}
 use Rattle.scene.specs.Turn as Place
-use Rattle.self_loop.specs.Looped.{trace_by, direction_cost, loop_taken, looped}
-use Rattle.routing.specs.Routing.{Frame, BlockSize, no_size, Numbered, Route, route_of, Item, loop, label, Step, step_of, loop_turn, label_turn, listed_by, drawn_step}
-use Rattle.routing_laws.specs.Demand.{step_with}
-use Rattle.routing_laws.specs.Passes.{turn_kind, item_of, items_of, Drawn, drawn_with, store, taken_in, played, turned}
+use Rattle.self_loop.specs.Looped.{trace_by, looped}
+use Rattle.routing.specs.Routing.{Frame, BlockSize, no_size, Numbered, Route, Step, loop_turn, label_turn, drawn_step}
+use Rattle.routing_laws.specs.Passes.{Drawn, drawn_with, store, taken_in}
 
 -- the size of the label of arrow k
 abbrev pub size_for : List BlockSize → ℕ → BlockSize

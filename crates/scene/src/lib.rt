@@ -1,6 +1,7 @@
 // The scene while labels are placed, in lent slices: centres as two slices, boxes of four numbers, traces of forty.
 // What a label costs in it, and the search for the label's place.
 #![tactic(auto)]
+
 ghost use Rattle.std.specs.Prelude.{◌≡◌, cond, [], ◌∷◌, ◌++◌, map, ◌+◌, ◌*◌, ◌≤◌, ◌<◌, ltb, length};
 ghost use Rattle.laws.specs.Best.{cut_total};
 ghost use Rattle.laws.specs.Counting.{how_many, worth};

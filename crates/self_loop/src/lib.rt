@@ -1,5 +1,6 @@
 // The turn of a self-loop: what each direction costs in the scene, the search for the direction, and the drawing.
 #![tactic(auto)]
+
 ghost use Rattle.std.specs.Prelude.{◌≡◌, cond, ◌+◌, ◌*◌, ◌≤◌, ◌<◌, eqb, length};
 ghost use Rattle.laws.specs.Counting.{how_many, worth};
 ghost use Rattle.laws.specs.Flat.{part};

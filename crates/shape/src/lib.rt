@@ -1,5 +1,6 @@
 // Points, boxes and curves of f64 by value; clipping and crossing. Each operation rounds once, in the order written.
 #![tactic(auto)]
+
 ghost use Rattle.std.specs.Prelude.{◌≡◌, cond, ◌≤◌, ◌<◌, length};
 ghost use Rattle.float.specs.Ops.{lt, le};
 ghost use Rattle.shape.specs.Plane as S;

@@ -1,5 +1,6 @@
 // A method sheet: its fields, and the bytes of its records.
 #![tactic(auto)]
+
 ghost use Rattle.std.specs.Prelude.{◌≡◌, ◌+◌, ◌*◌, ◌<◌};
 ghost use Rattle.laws.specs.Loops.{any_up};
 ghost use Rattle.sheet.specs.Sheet as S;

@@ -1,5 +1,6 @@
 // The check of a sheet: a walk over all chains that marks each record met, and the refusals in their order.
 #![tactic(auto)]
+
 ghost use Rattle.std.specs.Prelude.{◌≡◌, ◌+◌, ◌*◌, ◌<◌};
 ghost use mathlib.Core.List.{flat_map};
 ghost use Rattle.laws.specs.Loops.{any_up};

@@ -1,5 +1,6 @@
 // Cases of the stand-ins for the library's float functions: arguments and answer, eight bytes each.
 #![tactic(auto)]
+
 ghost use Rattle.std.specs.Prelude.{◌≡◌};
 ghost use Rattle.standin_cases.specs.Cases as S;
 

@@ -1,6 +1,7 @@
 // Path text of curves and arrowheads, and whether their coordinates may be written.
 // A writer stores what fits and always advances: on an empty slice it measures.
 #![tactic(auto)]
+
 ghost use Rattle.std.specs.Prelude.{◌≡◌, ◌&&◌, [], ◌∷◌, ◌++◌};
 ghost use Rattle.laws.specs.Writers.{Wrote};
 ghost use Rattle.text.specs.Ascii.{ascii};

@@ -1,6 +1,7 @@
 // Text in bytes: well-formed UTF-8, a byte at a time; bytes and digits put into a lent slice.
 // A writer stores what fits and always advances: on an empty slice it measures.
 #![tactic(auto)]
+
 ghost use Rattle.std.specs.Prelude.{◌≡◌, [], ◌∷◌, ◌+◌, ◌<◌, take, drop};
 ghost use Rattle.laws.specs.Writers.{Wrote};
 ghost use Rattle.text.specs.Utf8 as U;

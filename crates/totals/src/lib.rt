@@ -1,5 +1,6 @@
 // The numbers of the listing's last line, counted over the records of a drawing and the arrows of its sheet.
 #![tactic(auto)]
+
 ghost use Rattle.std.specs.Prelude.{◌≡◌, ◌+◌, ◌*◌, ◌≤◌, ◌<◌, length};
 ghost use Rattle.laws.specs.Counting.{how_many, worth};
 ghost use Rattle.laws.specs.Flat.{part};

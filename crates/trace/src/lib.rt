@@ -1,6 +1,7 @@
 // Curves sampled as lines from point to point, for collision tests. A trace is forty numbers of a lent slice:
 // the owner (0 for nobody, n + 1 for arrow n), the number of points, the bounds, and up to 17 points.
 #![tactic(auto)]
+
 ghost use Rattle.std.specs.Prelude.{◌≡◌, ◌+◌, ◌*◌, ◌<◌, ◌≤◌, [], ◌∷◌, ◌++◌, length};
 ghost use Rattle.laws.specs.Flat.{part, table};
 ghost use Rattle.laws.specs.Put.{put};

@@ -1,6 +1,7 @@
 // The turns of `geometry` in three passes over all arrows: loops, then arcs, then straight arrows, each at the
 // cheapest listed place or direction in the scene so far; then the records.
 #![tactic(auto)]
+
 ghost use Rattle.std.specs.Prelude.{◌≡◌, ◌+◌, ◌*◌, ◌≤◌, ◌<◌, length, get_or};
 ghost use Rattle.laws.specs.Put.{put};
 ghost use Rattle.shape.specs.Centres.{centres};

@@ -1,5 +1,6 @@
 // A line written as records of a sheet: its own record, and its text in pieces of 12 bytes.
 #![tactic(auto)]
+
 ghost use Rattle.std.specs.Prelude.{◌≡◌, ◌+◌, ◌-◌, ◌*◌, ◌<◌, ◌≤◌, length, take, drop};
 ghost use Rattle.laws.specs.Put.{put};
 ghost use Rattle.sheet.specs.Sheet as S;

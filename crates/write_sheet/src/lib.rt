@@ -1,5 +1,6 @@
 // A sheet written afresh: its states, then its arrows, each followed by its lines and each line by its pieces.
 #![tactic(auto)]
+
 ghost use Rattle.std.specs.Prelude.{◌≡◌, false, ◌+◌, ◌*◌, ◌<◌, ◌≤◌, length};
 ghost use Rattle.laws.specs.Any.{any_of};
 ghost use Rattle.laws.specs.Put.{put};

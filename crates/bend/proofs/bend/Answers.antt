@@ -6,7 +6,6 @@ use lib.Seq.{length-take-le}
 use Rattle.free.specs.declared.Span.{Span}
 use Rattle.shape.specs.Centres.{centres}
 use Rattle.bend.specs.Bend.{bend_past, bend}
-use borrow.Author.Rules.{rules}
 use Rattle.bend.proofs.bend.Goals as goal
 
 pub slice_bounds-bend_past-end : goal.slice_bounds-bend_past-end

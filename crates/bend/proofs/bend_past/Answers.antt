@@ -1,5 +1,4 @@
 -- `bend::bend_past` meets its contract.
-use borrow.Author.Rules.{rules}
 use Rattle.bend.proofs.bend_past.Goals as goal
 
 pub returns-then-both_ways : goal.returns-then-both_ways

@@ -4,7 +4,6 @@ use lib.Ieee.{Float}
 use Rattle.float.specs.Ops.{◌⊖◌}
 use Rattle.float.specs.Constants.{node_radius}
 use Rattle.bend.specs.Farther.{step_end, step-far, step-near, step_same}
-use borrow.Author.Rules.{rules}
 use Rattle.bend.proofs.beside.Goals as goal
 
 pub returns-then-is_end : goal.returns-then-is_end

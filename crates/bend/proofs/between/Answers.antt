@@ -4,7 +4,6 @@ use Rattle.free.specs.declared.Chord.{Chord}
 use Rattle.shape.specs.Centres.{centres}
 use Rattle.bend.specs.Bend.{bend}
 use Rattle.bend.specs.Between.{with_bow, between}
-use borrow.Author.Rules.{rules}
 use Rattle.bend.proofs.between.Goals as goal
 
 pub returns : goal.returns

@@ -1,6 +1,5 @@
 -- `bend::bowed` meets its contract.
 use Rattle.bend.specs.Between.{bowed}
-use borrow.Author.Rules.{rules}
 use Rattle.bend.proofs.bowed.Goals as goal
 
 pub returns : goal.returns

@@ -1,5 +1,4 @@
 -- `bend::capped` meets its contract.
-use borrow.Author.Rules.{rules}
 use Rattle.bend.proofs.capped.Goals as goal
 
 pub returns-then-abs-cap : goal.returns-then-abs-cap

@@ -1,31 +1,30 @@
 -- `bend::clearance` meets its contract. The invariant: the points to come, from the clearance so far, give the whole clearance.
-use mathlib.Core.Path.{◌≡◌, sym, ap, ap₂, ◌∙◌}
-use Prim.Native.Nat.{◌-◌, ◌≤◌}
+use mathlib.Core.Path.{sym, ap, ap₂, ◌∙◌}
+use Prim.Native.Nat.{◌-◌}
 use native.Mathlib.Omega.{arith}
 use lib.Ieee.{Float}
-use borrow.Author.Rules.{rules}
 use Rattle.laws.specs.Loops.{up, up_step, up_done}
 use Rattle.shape.specs.declared.«V».{«V»}
 use Rattle.shape.specs.declared.Curve.TheVariants.{Quad}
 use Rattle.shape.specs.Centres.{centres}
 use Rattle.free.specs.Chords.{other_states}
 use Rattle.bend.specs.Clear.{nearest, sampled, clearance}
-use Rattle.bend.specs.Farther.{GoodNear, start-near}
+use Rattle.bend.specs.Farther.{start-near}
 use Rattle.bend.proofs.clearance.Goals as goal
 
 pub loop-k-init : goal.loop-k-init
 unfolding clearance
 loop-k-init c = let a = c.args in (
-      omega arith,
-      start-near c.infinity-most.result c.infinity-most.ensures,
-      ap₂ (λ (v : «V») (m : Float). up (sampled (other_states a.c (centres a.xs.now a.ys.now)) (Quad a.c.a v a.c.b)) 1 16 m) c.control.ensures c.infinity-most.ensures,
-    )
+  omega arith,
+  start-near c.infinity-most.result c.infinity-most.ensures,
+  ap₂ (λ (v : «V») (m : Float). up (sampled (other_states a.c (centres a.xs.now a.ys.now)) (Quad a.c.a v a.c.b)) 1 16 m) c.control.ensures c.infinity-most.ensures,
+)
 
 pub nearest-r-requires : goal.nearest-r-requires
 nearest-r-requires c = record {
-      ys_len = c.requires;
-      good_near = c.loop-k.invariant.1;
-    }
+  ys_len = c.requires;
+  good_near = c.loop-k.invariant.1;
+}
 
 pub loop-k-preserved : goal.loop-k-preserved
 loop-k-preserved c = let a = c.args in

@@ -1,15 +1,11 @@
 -- `bend::clearance` meets its contract. The invariant: the points to come, from the clearance so far, give the whole clearance.
-use mathlib.Core.Path.{◌≡◌, sym, ap, ap₂, ◌∙◌}
+use mathlib.Core.Path.{◌≡◌}
 use Prim.Native.Nat.{◌-◌, ◌≤◌}
-use native.Mathlib.Omega.{arith}
-use lib.Ieee.{Float}
-use Rattle.laws.specs.Loops.{up, up_step, up_done}
-use Rattle.shape.specs.declared.«V».{«V»}
-use Rattle.shape.specs.declared.Curve.TheVariants.{Quad}
+use Rattle.laws.specs.Loops.{up}
 use Rattle.shape.specs.Centres.{centres}
 use Rattle.free.specs.Chords.{other_states}
-use Rattle.bend.specs.Clear.{nearest, sampled, clearance}
-use Rattle.bend.specs.Farther.{GoodNear, start-near}
+use Rattle.bend.specs.Clear.{sampled, clearance}
+use Rattle.bend.specs.Farther.{GoodNear}
 use Rattle.bend.proofs.clearance.Given as goal
 
 abbrev pub invariant-loop-k : goal.invariant-loop-k

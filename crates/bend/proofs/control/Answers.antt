@@ -1,5 +1,4 @@
 -- `bend::control` meets its contract.
-use borrow.Author.Rules.{rules}
 use Rattle.bend.proofs.control.Goals as goal
 
 pub returns : goal.returns

@@ -3,10 +3,9 @@ use mathlib.Core.Path.{refl}
 use Prim.Native.Nat.{◌+◌, ◌-◌}
 use native.Mathlib.Omega.{arith}
 use lib.ListN.{length}
-use borrow.Author.Rules.{rules}
 use Rattle.laws.specs.Sorting.{place-le}
 use Rattle.bend.specs.Steps.{leaves_state}
-use Rattle.bend.proofs.Laws.{SoFar, searched-next, searched_hit, searched_miss, searched-end}
+use Rattle.bend.proofs.Laws.{searched-next, searched_hit, searched_miss, searched-end}
 use Rattle.bend.proofs.leads.Goals as goal
 
 pub loop-k-init : goal.loop-k-init

@@ -1,11 +1,7 @@
 -- `bend::leads` meets its contract.
-use mathlib.Core.Path.{refl}
-use Prim.Native.Nat.{◌+◌, ◌-◌}
-use native.Mathlib.Omega.{arith}
+use Prim.Native.Nat.{◌-◌}
 use lib.ListN.{length}
-use Rattle.laws.specs.Sorting.{place-le}
-use Rattle.bend.specs.Steps.{leaves_state}
-use Rattle.bend.proofs.Laws.{SoFar, searched-next, searched_hit, searched_miss, searched-end}
+use Rattle.bend.proofs.Laws.{SoFar}
 use Rattle.bend.proofs.leads.Given as goal
 
 abbrev pub invariant-loop-k : goal.invariant-loop-k

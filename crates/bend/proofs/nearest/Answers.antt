@@ -10,9 +10,8 @@ use Rattle.laws.specs.Zip.{zip_length}
 use Rattle.shape.specs.declared.«V».{«V»}
 use Rattle.shape.specs.Plane.{vec}
 use Rattle.shape.specs.Centres.{centres}
-use Rattle.free.specs.Chords.{other_states, others_from}
+use Rattle.free.specs.Chords.{others_from}
 use Rattle.bend.specs.Clear.{beside, nearer, nearest}
-use Rattle.bend.specs.Farther.{GoodNear}
 use Rattle.bend.specs.Steps.{beside-step, beside_end}
 use Rattle.bend.proofs.nearest.Goals as goal
 

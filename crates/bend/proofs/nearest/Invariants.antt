@@ -1,18 +1,12 @@
 -- `bend::nearest` meets its contract. The invariant: the fold over the states to come, from here, is the whole fold.
-use mathlib.Core.Path.{◌≡◌, refl, ap, ◌∙◌}
-use Prim.Native.Nat.{◌+◌, ◌-◌, ◌≤◌, ◌<◌}
-use native.Mathlib.Omega.{arith}
+use mathlib.Core.Path.{◌≡◌}
+use Prim.Native.Nat.{◌-◌, ◌≤◌}
 use lib.ListN.{length, drop}
-use lib.Ieee.{Float}
 use Rattle.laws.specs.Loops.{over}
-use Rattle.laws.specs.Zip.{zip_length}
-use Rattle.shape.specs.declared.«V».{«V»}
-use Rattle.shape.specs.Plane.{vec}
 use Rattle.shape.specs.Centres.{centres}
 use Rattle.free.specs.Chords.{other_states, others_from}
-use Rattle.bend.specs.Clear.{beside, nearer, nearest}
+use Rattle.bend.specs.Clear.{nearer, nearest}
 use Rattle.bend.specs.Farther.{GoodNear}
-use Rattle.bend.specs.Steps.{beside-step, beside_end}
 use Rattle.bend.proofs.nearest.Given as goal
 
 abbrev pub invariant-loop-k : goal.invariant-loop-k

@@ -1,10 +1,9 @@
 -- `bend::next_from` meets its contract. The invariant: the first arrow from i on that leaves a is the first from k on; two arrows remain for each step to
 use mathlib.Core.Path.{◌≡◌, refl, ap₂, ◌∙◌}
-use Prim.Native.Nat.{◌+◌, ◌-◌, ◌*◌, ◌≤◌}
+use Prim.Native.Nat.{◌+◌, ◌-◌}
 use native.Mathlib.Omega.{arith}
 use borrow.Author.Tests.{eq-eqb, ne_eqb}
 use lib.ListN.{length}
-use borrow.Author.Rules.{rules}
 use Rattle.laws.specs.Sort.{place_from}
 use Rattle.laws.specs.Sorting.{place_hit, place_miss, place_end}
 use Rattle.bend.specs.Steps.{leaves_state}

@@ -1,10 +1,8 @@
 -- `bend::next_from` meets its contract. The invariant: the first arrow from i on that leaves a is the first from k on; two arrows remain for each step to
-use mathlib.Core.Path.{◌≡◌, refl, ap₂, ◌∙◌}
+use mathlib.Core.Path.{◌≡◌}
 use Prim.Native.Nat.{◌+◌, ◌-◌, ◌*◌, ◌≤◌}
-use native.Mathlib.Omega.{arith}
 use lib.ListN.{length}
 use Rattle.laws.specs.Sort.{place_from}
-use Rattle.laws.specs.Sorting.{place_hit, place_miss, place_end}
 use Rattle.bend.specs.Steps.{leaves_state}
 use Rattle.bend.proofs.next_from.Given as goal
 

@@ -2,7 +2,6 @@
 use Rattle.shape.specs.Centres.{centres}
 use Rattle.free.specs.Free.{spans}
 use Rattle.bend.proofs.Laws.{pair_is}
-use borrow.Author.Rules.{rules}
 use Rattle.bend.proofs.pair_bow.Goals as goal
 
 pub returns : goal.returns

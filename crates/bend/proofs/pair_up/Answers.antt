@@ -2,7 +2,6 @@
 use mathlib.Core.Path.{ap, ◌∙◌}
 use Rattle.float.specs.Constants.{f1}
 use Rattle.free.specs.Free.{spans, first_free}
-use borrow.Author.Rules.{rules}
 use Rattle.bend.proofs.pair_up.Goals as goal
 
 pub returns : goal.returns

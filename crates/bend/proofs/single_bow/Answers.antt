@@ -2,7 +2,6 @@
 use Rattle.shape.specs.Centres.{centres}
 use Rattle.free.specs.Free.{spans}
 use Rattle.bend.proofs.Laws.{down-first, up_first}
-use borrow.Author.Rules.{rules}
 use Rattle.bend.proofs.single_bow.Goals as goal
 
 pub returns-then-abs : goal.returns-then-abs

@@ -1,6 +1,5 @@
 -- `bend::straight` meets its contract.
 use Rattle.bend.specs.Between.{straight}
-use borrow.Author.Rules.{rules}
 use Rattle.bend.proofs.straight.Goals as goal
 
 pub returns : goal.returns

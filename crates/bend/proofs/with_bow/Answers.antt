@@ -1,6 +1,5 @@
 -- `bend::with_bow` meets its contract.
 use Rattle.bend.specs.Between.{with_bow}
-use borrow.Author.Rules.{rules}
 use Rattle.bend.proofs.with_bow.Goals as goal
 
 pub returns-then-h : goal.returns-then-h

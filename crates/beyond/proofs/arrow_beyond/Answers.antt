@@ -4,7 +4,6 @@ use native.Mathlib.Omega.{arith}
 use lib.ListN.{length, get_or}
 use Rattle.directions.specs.Steps.{apart_ends}
 use Rattle.beyond.specs.Laws.{crossing-refused, other-refused}
-use borrow.Author.Rules.{rules}
 use Rattle.beyond.proofs.arrow_beyond.Goals as goal
 
 pub ends_beyond-requires : goal.ends_beyond-requires

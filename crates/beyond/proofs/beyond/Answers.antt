@@ -3,7 +3,6 @@ use mathlib.Core.Path.{sym}
 use native.Mathlib.Omega.{arith}
 use lib.ListN.{length-take}
 use lib.Seq.{length-take-le}
-use borrow.Author.Rules.{rules}
 use Rattle.beyond.proofs.beyond.Goals as goal
 
 pub slice_bounds-beyond_at-end : goal.slice_bounds-beyond_at-end

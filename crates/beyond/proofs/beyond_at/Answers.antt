@@ -3,7 +3,6 @@ use mathlib.Core.Path.{sym, ◌∙◌}
 use native.Mathlib.Omega.{arith}
 use lib.ListN.{length}
 use Rattle.beyond.specs.Laws.{beyond-centred}
-use borrow.Author.Rules.{rules}
 use Rattle.beyond.proofs.beyond_at.Goals as goal
 
 pub some_beyond-requires : goal.some_beyond-requires

@@ -3,7 +3,6 @@ use mathlib.Core.Path.{ap, ◌∙◌}
 use Rattle.free.specs.declared.Chord.{Chord}
 use Rattle.shape.specs.Centres.{centres}
 use Rattle.beyond.specs.Beyond.{pair_beyond}
-use borrow.Author.Rules.{rules}
 use Rattle.beyond.proofs.ends_beyond.Goals as goal
 
 pub returns-then-leads : goal.returns-then-leads

@@ -5,7 +5,6 @@ use lib.Seq.{length-take-le}
 use Rattle.float.specs.Ops.{lt}
 use Rattle.float.specs.Constants.{f1e9}
 use Rattle.bend.specs.Bend.{pair_up}
-use borrow.Author.Rules.{rules}
 use Rattle.beyond.proofs.pair_beyond.Goals as goal
 
 pub slice_bounds-pair_up-end : goal.slice_bounds-pair_up-end

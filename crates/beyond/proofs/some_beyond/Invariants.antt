@@ -1,15 +1,12 @@
 -- `beyond::some_beyond` meets its contract.
-use mathlib.Core.Path.{◌≡◌, sym, ap, ◌∙◌}
-use Prim.Native.Nat.{◌-◌, ◌≤◌, ◌<◌}
-use native.Mathlib.Omega.{arith}
+use mathlib.Core.Path.{◌≡◌}
+use Prim.Native.Nat.{◌-◌, ◌≤◌}
 use lib.ListN.{length, drop}
 use Rattle.shape.specs.Centres.{centres}
 use Rattle.laws.specs.Any.{any_of}
-use Rattle.routing.specs.Routing.{Frame, numbered}
+use Rattle.routing.specs.Routing.{numbered}
 use Rattle.routing.specs.Sheets.{frame_by}
-use Rattle.curves.specs.Numbers.{many-arrows, arrow_is}
 use Rattle.beyond.specs.Beyond.{beyond, is_refused}
-use Rattle.beyond.specs.Laws.{beyond-each, refused-here, refused-later, refused_end}
 use Rattle.beyond.proofs.some_beyond.Given as goal
 
 abbrev pub invariant-loop-i : goal.invariant-loop-i

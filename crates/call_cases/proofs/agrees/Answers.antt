@@ -4,7 +4,6 @@ use borrow.Author.Tests.{le-leb, lt-leb}
 use Rattle.cases.specs.Laws.{part-tail}
 use Rattle.call_cases.specs.Cases.{called_under, call_agrees}
 use Rattle.call_cases.specs.Laws.{of_three}
-use borrow.Author.Rules.{rules}
 use Rattle.call_cases.proofs.agrees.Goals as goal
 
 pub returns-then-p-at : goal.returns-then-p-at

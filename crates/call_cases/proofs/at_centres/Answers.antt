@@ -7,7 +7,6 @@ use borrow.Author.Tests.{le-leb, lt-leb}
 use Rattle.cases.specs.Laws.{part-tail}
 use Rattle.call_cases.specs.Cases.{drawn_agrees, at_centres}
 use Rattle.call_cases.specs.Laws.{first_floats, of_three}
-use borrow.Author.Rules.{rules}
 use Rattle.call_cases.proofs.at_centres.Goals as goal
 
 pub index-nx-requires : goal.index-nx-requires

@@ -3,7 +3,6 @@ use mathlib.Core.Path.{sym}
 use lib.ListN.{get_or-eq_default}
 use native.Mathlib.Omega.{arith}
 use Rattle.laws.specs.Lists.{get_d_any}
-use borrow.Author.Rules.{rules}
 use Rattle.call_cases.proofs.byte_in.Goals as goal
 
 pub returns-then-i-text : goal.returns-then-i-text

@@ -7,7 +7,6 @@ use lib.ListN.{take, drop}
 use borrow.Author.Tests.{le-leb, lt-leb}
 use Rattle.cases.specs.Laws.{part-tail}
 use Rattle.call_cases.specs.Cases.{called, called_under}
-use borrow.Author.Rules.{rules}
 use Rattle.call_cases.proofs.called_under.Goals as goal
 
 pub length_at-end-requires : goal.length_at-end-requires

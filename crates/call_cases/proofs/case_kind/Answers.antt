@@ -1,7 +1,6 @@
 -- `call_cases::case_kind` meets its contract. Assumes nothing.
 use borrow.Author.Tests.{eq-eqb, ne_eqb}
 use Rattle.call_cases.specs.Cases.{case_kind}
-use borrow.Author.Rules.{rules}
 use Rattle.call_cases.proofs.case_kind.Goals as goal
 
 pub returns-then-kind-eq68 : goal.returns-then-kind-eq68

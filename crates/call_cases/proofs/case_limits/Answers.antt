@@ -1,7 +1,6 @@
 -- `call_cases::case_limits` meets its contract. Assumes nothing.
 use borrow.Author.Tests.{eq-eqb, ne_eqb}
 use Rattle.call_cases.specs.Cases.{case_limits}
-use borrow.Author.Rules.{rules}
 use Rattle.call_cases.proofs.case_limits.Goals as goal
 
 pub returns-then-kind-eq68 : goal.returns-then-kind-eq68

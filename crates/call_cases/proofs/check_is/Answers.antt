@@ -1,6 +1,5 @@
 -- `call_cases::check_is` meets its contract. Assumes nothing.
 use Rattle.call_cases.specs.Cases.{check_is}
-use borrow.Author.Rules.{rules}
 use Rattle.call_cases.proofs.check_is.Goals as goal
 
 pub check-c-requires : goal.check-c-requires

@@ -1,7 +1,6 @@
 -- `call_cases::clutter_agrees` meets its contract. Assumes nothing.
 use borrow.Author.Tests.{eq-eqb, ne_eqb}
 use Rattle.call_cases.specs.Cases.{clutter_agrees}
-use borrow.Author.Rules.{rules}
 use Rattle.call_cases.proofs.clutter_agrees.Goals as goal
 
 pub clutter-c-requires : goal.clutter-c-requires

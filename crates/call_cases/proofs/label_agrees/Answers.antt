@@ -11,7 +11,6 @@ use Rattle.calls.specs.Calls.{Outcome, label_size}
 use Rattle.cases.specs.Payload.{bits_at}
 use Rattle.cases.specs.Laws.{each_first}
 use Rattle.call_cases.specs.Cases.{outcome_right, size_is, label_agrees}
-use borrow.Author.Rules.{rules}
 use Rattle.call_cases.proofs.label_agrees.Goals as goal
 
 pub index-lines-requires : goal.index-lines-requires

@@ -1,5 +1,4 @@
 -- `call_cases::laid_out_is` meets its contract. Assumes nothing.
-use borrow.Author.Rules.{rules}
 use Rattle.call_cases.proofs.laid_out_is.Goals as goal
 
 pub laid_is-requires : goal.laid_is-requires

@@ -1,7 +1,6 @@
 -- `call_cases::layout_agrees` meets its contract. Assumes nothing.
 use borrow.Author.Tests.{le-leb, lt-leb}
 use Rattle.call_cases.specs.Cases.{layout_agrees}
-use borrow.Author.Rules.{rules}
 use Rattle.call_cases.proofs.layout_agrees.Goals as goal
 
 pub index-requires : goal.index-requires

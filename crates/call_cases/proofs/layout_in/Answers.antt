@@ -7,7 +7,6 @@ use lib.ListN.{take, drop}
 use lib.Ieee.{Float}
 use Rattle.calls.specs.Calls.{layout, xs_after, ys_after}
 use Rattle.call_cases.specs.Laws.{lent-many, middle_back}
-use borrow.Author.Rules.{rules}
 use Rattle.call_cases.proofs.layout_in.Goals as goal
 
 pub layout-requires : goal.layout-requires

@@ -7,7 +7,6 @@ use borrow.Author.Tests.{not-true, not-false}
 use Rattle.calls.specs.Calls.{Outcome}
 use Rattle.call_cases.specs.Cases.{outcome_right, numbers_stand_in, laid_is, layout_is}
 use Rattle.call_cases.specs.Laws.{tested}
-use borrow.Author.Rules.{rules}
 use mathlib.Core.Bool.{not}
 use Rattle.call_cases.proofs.layout_is.Goals as goal
 

@@ -1,6 +1,5 @@
 -- `call_cases::limits_at` meets its contract. Assumes nothing.
 use Rattle.call_cases.specs.Cases.{limits_at}
-use borrow.Author.Rules.{rules}
 use Rattle.call_cases.proofs.limits_at.Goals as goal
 
 pub returns : goal.returns

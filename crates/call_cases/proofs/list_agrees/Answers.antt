@@ -6,7 +6,6 @@ use lib.ListN.{replicate}
 use borrow.Author.Tests.{le-leb, lt-leb}
 use Rattle.cases.specs.Laws.{part-tail}
 use Rattle.call_cases.specs.Cases.{list_is, list_agrees}
-use borrow.Author.Rules.{rules}
 use Rattle.call_cases.proofs.list_agrees.Goals as goal
 
 pub index-room-requires : goal.index-room-requires

@@ -5,7 +5,6 @@ use native.Mathlib.Omega.{arith}
 use lib.ListN.{take, drop}
 use Rattle.calls.specs.Calls.{list, list_after}
 use Rattle.call_cases.specs.Laws.{lent-many, middle_back}
-use borrow.Author.Rules.{rules}
 use Rattle.call_cases.proofs.list_in.Goals as goal
 
 pub list-requires : goal.list-requires

@@ -8,7 +8,6 @@ use borrow.Author.Tests.{not-true, not-false}
 use Rattle.calls.specs.Calls.{Outcome}
 use Rattle.call_cases.specs.Cases.{outcome_right, text_stands, list_is}
 use Rattle.call_cases.specs.Laws.{tested}
-use borrow.Author.Rules.{rules}
 use mathlib.Core.Bool.{not}
 use Rattle.call_cases.proofs.list_is.Goals as goal
 

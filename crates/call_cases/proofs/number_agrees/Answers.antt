@@ -7,7 +7,6 @@ use lib.Ieee.{Float}
 use borrow.Author.Tests.{le-leb, lt-leb}
 use Rattle.cases.specs.Laws.{part-tail}
 use Rattle.call_cases.specs.Cases.{number_is, number_agrees}
-use borrow.Author.Rules.{rules}
 use Rattle.call_cases.proofs.number_agrees.Goals as goal
 
 pub index-room-requires : goal.index-room-requires

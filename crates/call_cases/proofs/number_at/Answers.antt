@@ -5,7 +5,6 @@ use lib.ListN.{get_or-eq_default}
 use lib.Ieee.{nan}
 use Rattle.laws.specs.Lists.{get_d_any}
 use Rattle.call_cases.specs.Cases.{unset}
-use borrow.Author.Rules.{rules}
 use Rattle.call_cases.proofs.number_at.Goals as goal
 
 pub returns-then-i-l : goal.returns-then-i-l

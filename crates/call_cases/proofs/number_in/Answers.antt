@@ -5,7 +5,6 @@ use native.Mathlib.Omega.{arith}
 use lib.ListN.{take, drop}
 use Rattle.calls.specs.Calls.{write_num, write_num_after}
 use Rattle.call_cases.specs.Laws.{middle_back}
-use borrow.Author.Rules.{rules}
 use Rattle.call_cases.proofs.number_in.Goals as goal
 
 pub write_num-requires : goal.write_num-requires

@@ -1,10 +1,10 @@
 -- `call_cases::numbers_hold` meets its contract. Assumes nothing.
-use mathlib.Core.Path.{◌≡◌, refl, sym, ◌∙◌}
-use Prim.Native.Nat.{◌-◌, ◌≤◌}
+use mathlib.Core.Path.{refl, sym, ◌∙◌}
+use Prim.Native.Nat.{◌-◌}
 use native.Mathlib.Omega.{arith}
 use lib.ListN.{length}
 use borrow.Author.Tests.{le-leb, lt-leb}
-use Rattle.laws.specs.Loops.{any_up, any_hit, any_miss, any_done}
+use Rattle.laws.specs.Loops.{any_hit, any_miss, any_done}
 use Rattle.call_cases.specs.Cases.{differs, numbers_hold}
 use borrow.Author.Rules.{rules}
 use mathlib.Core.Path.{ap}

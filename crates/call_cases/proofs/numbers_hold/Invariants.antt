@@ -1,10 +1,9 @@
 -- `call_cases::numbers_hold` meets its contract. Assumes nothing.
-use mathlib.Core.Path.{◌≡◌, refl, sym, ◌∙◌}
+use mathlib.Core.Path.{◌≡◌}
 use Prim.Native.Nat.{◌-◌, ◌≤◌}
-use native.Mathlib.Omega.{arith}
 use lib.ListN.{length}
-use Rattle.laws.specs.Loops.{any_up, any_hit, any_miss, any_done}
-use Rattle.call_cases.specs.Cases.{differs, numbers_hold}
+use Rattle.laws.specs.Loops.{any_up}
+use Rattle.call_cases.specs.Cases.{differs}
 use Rattle.call_cases.proofs.numbers_hold.Given as goal
 
 abbrev pub invariant-loop-i : goal.invariant-loop-i

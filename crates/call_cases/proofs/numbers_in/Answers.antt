@@ -5,7 +5,6 @@ use lib.Seq.{length-take-le}
 use borrow.Author.Tests.{le-leb, lt-leb}
 use Rattle.call_cases.specs.Cases.{numbers_stand, numbers_stand_in}
 use Rattle.call_cases.specs.Laws.{first_floats}
-use borrow.Author.Rules.{rules}
 use Rattle.call_cases.proofs.numbers_in.Goals as goal
 
 pub returns-then-n-gt5120 : goal.returns-then-n-gt5120

@@ -7,7 +7,6 @@ use lib.Ieee.{Float}
 use borrow.Author.Tests.{le-leb, lt-leb, not-true, not-false}
 use Rattle.cases.specs.Laws.{part-tail}
 use Rattle.call_cases.specs.Cases.{numbers_hold, numbers_stand}
-use borrow.Author.Rules.{rules}
 use mathlib.Core.Bool.{not}
 use Rattle.call_cases.proofs.numbers_stand.Goals as goal
 

@@ -6,7 +6,6 @@ use lib.ListN.{replicate}
 use borrow.Author.Tests.{le-leb, lt-leb}
 use Rattle.cases.specs.Laws.{part-tail}
 use Rattle.call_cases.specs.Cases.{unset, route_is, route_agrees}
-use borrow.Author.Rules.{rules}
 use Rattle.call_cases.proofs.route_agrees.Goals as goal
 
 pub index-requires : goal.index-requires

@@ -7,7 +7,6 @@ use lib.ListN.{take, drop}
 use lib.Ieee.{Float}
 use Rattle.calls.specs.Calls.{route, records_after, text_after}
 use Rattle.call_cases.specs.Laws.{lent-many, middle_back}
-use borrow.Author.Rules.{rules}
 use Rattle.call_cases.proofs.route_in.Goals as goal
 
 pub route-requires : goal.route-requires

@@ -7,7 +7,6 @@ use borrow.Author.Tests.{not-true, not-false}
 use Rattle.calls.specs.Calls.{Outcome}
 use Rattle.call_cases.specs.Cases.{outcome_right, text_stands, numbers_stand_in, lengths_are, route_is}
 use Rattle.call_cases.specs.Laws.{tested}
-use borrow.Author.Rules.{rules}
 use mathlib.Core.Bool.{not}
 use Rattle.call_cases.proofs.route_is.Goals as goal
 

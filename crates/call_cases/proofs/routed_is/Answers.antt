@@ -1,5 +1,4 @@
 -- `call_cases::routed_is` meets its contract. Assumes nothing.
-use borrow.Author.Rules.{rules}
 use Rattle.call_cases.proofs.routed_is.Goals as goal
 
 pub lengths_are-requires : goal.lengths_are-requires

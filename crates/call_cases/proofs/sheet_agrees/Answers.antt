@@ -6,7 +6,6 @@ use lib.ListN.{replicate}
 use borrow.Author.Tests.{le-leb, lt-leb}
 use Rattle.cases.specs.Laws.{part-tail}
 use Rattle.call_cases.specs.Cases.{sheet_is, sheet_agrees}
-use borrow.Author.Rules.{rules}
 use Rattle.call_cases.proofs.sheet_agrees.Goals as goal
 
 pub length_at-room-requires : goal.length_at-room-requires

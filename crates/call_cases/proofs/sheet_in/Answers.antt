@@ -5,7 +5,6 @@ use native.Mathlib.Omega.{arith}
 use lib.ListN.{take, drop}
 use Rattle.calls.specs.Calls.{write_sheet, write_sheet_after}
 use Rattle.call_cases.specs.Laws.{lent-many, middle_back}
-use borrow.Author.Rules.{rules}
 use Rattle.call_cases.proofs.sheet_in.Goals as goal
 
 pub write_sheet-requires : goal.write_sheet-requires

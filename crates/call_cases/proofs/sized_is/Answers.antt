@@ -1,5 +1,4 @@
 -- `call_cases::sized_is` meets its contract. Assumes nothing.
-use borrow.Author.Rules.{rules}
 use Rattle.call_cases.proofs.sized_is.Goals as goal
 
 pub size_is-requires : goal.size_is-requires

@@ -1,10 +1,10 @@
 -- `call_cases::text_holds` meets its contract. Assumes nothing.
-use mathlib.Core.Path.{◌≡◌, refl, sym, ◌∙◌}
-use Prim.Native.Nat.{◌-◌, ◌≤◌}
+use mathlib.Core.Path.{refl, sym, ◌∙◌}
+use Prim.Native.Nat.{◌-◌}
 use native.Mathlib.Omega.{arith}
 use lib.ListN.{length}
 use borrow.Author.Tests.{eq-eqb, ne_eqb, le-leb, lt-leb}
-use Rattle.laws.specs.Loops.{any_up, any_hit, any_miss, any_done}
+use Rattle.laws.specs.Loops.{any_hit, any_miss, any_done}
 use Rattle.call_cases.specs.Cases.{text_holds, byte_differs}
 use borrow.Author.Rules.{rules}
 use Rattle.call_cases.proofs.text_holds.Goals as goal

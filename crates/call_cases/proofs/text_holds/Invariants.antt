@@ -1,10 +1,9 @@
 -- `call_cases::text_holds` meets its contract. Assumes nothing.
-use mathlib.Core.Path.{◌≡◌, refl, sym, ◌∙◌}
+use mathlib.Core.Path.{◌≡◌}
 use Prim.Native.Nat.{◌-◌, ◌≤◌}
-use native.Mathlib.Omega.{arith}
 use lib.ListN.{length}
-use Rattle.laws.specs.Loops.{any_up, any_hit, any_miss, any_done}
-use Rattle.call_cases.specs.Cases.{text_holds, byte_differs}
+use Rattle.laws.specs.Loops.{any_up}
+use Rattle.call_cases.specs.Cases.{byte_differs}
 use Rattle.call_cases.proofs.text_holds.Given as goal
 
 abbrev pub invariant-loop-i : goal.invariant-loop-i

@@ -1,6 +1,5 @@
 -- `call_cases::written_is` meets its contract. Assumes nothing.
 use borrow.Author.Tests.{eq-eqb, ne_eqb}
-use borrow.Author.Rules.{rules}
 use Rattle.call_cases.proofs.written_is.Goals as goal
 
 pub returns-then-n-length : goal.returns-then-n-length

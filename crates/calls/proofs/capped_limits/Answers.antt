@@ -1,6 +1,5 @@
 -- `calls::capped_limits` meets its contract.
 use Rattle.calls.specs.Laws.{capped_by}
-use borrow.Author.Rules.{rules}
 use Rattle.calls.proofs.capped_limits.Goals as goal
 
 pub returns : goal.returns

@@ -2,7 +2,6 @@
 use mathlib.Core.Path.{ap, ◌∙◌}
 use Rattle.calls.specs.Calls.{checked_as}
 use Rattle.calls.specs.Laws.{check_is_lem}
-use borrow.Author.Rules.{rules}
 use Rattle.calls.proofs.check.Goals as goal
 
 pub returns : goal.returns

@@ -4,7 +4,6 @@ use Rattle.records.specs.Back.{Small}
 use native.Mathlib.Omega.{arith}
 use Rattle.calls.proofs.Held.{DrawingHeld, held}
 use Rattle.calls.proofs.Routes.{clutter-refused, clutter-drawn}
-use borrow.Author.Rules.{rules}
 use Rattle.calls.proofs.clutter.Goals as goal
 
 pub clutter_at-requires : goal.clutter_at-requires

@@ -2,7 +2,6 @@
 use mathlib.Core.Path.{ap, ◌∙◌}
 use Rattle.calls.specs.Calls.{sized_as}
 use Rattle.calls.specs.Laws.{label_is}
-use borrow.Author.Rules.{rules}
 use Rattle.calls.proofs.label_size.Goals as goal
 
 pub returns : goal.returns

@@ -3,7 +3,6 @@ use mathlib.Core.Path.{sym, ◌∙◌}
 use native.Mathlib.Omega.{arith}
 use lib.Seq.{length-take-le}
 use Rattle.calls.proofs.Lists.{few_states, laid, list-refused, list_laid}
-use borrow.Author.Rules.{rules}
 use Rattle.calls.proofs.list.Goals as goal
 
 pub slice_bounds-xs-end : goal.slice_bounds-xs-end

@@ -6,7 +6,6 @@ use Rattle.laws.specs.Filled.{put_whole}
 use Rattle.sheet.specs.Sheet.{states_of, meaning, flags_of}
 use Rattle.calls.proofs.Held.{held}
 use Rattle.calls.proofs.Lists.{at-refused, at-drawn}
-use borrow.Author.Rules.{rules}
 use Rattle.calls.proofs.list_by.Goals as goal
 
 pub totals_of-totals-requires : goal.totals_of-totals-requires

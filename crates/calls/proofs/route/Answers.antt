@@ -3,7 +3,6 @@ use mathlib.Core.Path.{sym, ◌∙◌}
 use native.Mathlib.Omega.{arith}
 use Rattle.calls.proofs.Held.{held}
 use Rattle.calls.proofs.Routes.{ready, call_refused, call_drawn}
-use borrow.Author.Rules.{rules}
 use Rattle.calls.proofs.route.Goals as goal
 
 pub write_route-requires : goal.write_route-requires

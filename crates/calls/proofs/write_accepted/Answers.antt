@@ -1,6 +1,5 @@
 -- `calls::write_accepted` meets its contract.
 use Rattle.calls.proofs.Writes.{write_short, write_done}
-use borrow.Author.Rules.{rules}
 use Rattle.calls.proofs.write_accepted.Goals as goal
 
 pub arrows_size-arrows-requires : goal.arrows_size-arrows-requires

@@ -2,7 +2,6 @@
 use mathlib.Core.Path.{ap, ◌∙◌}
 use Rattle.calls.specs.Calls.{written_as}
 use Rattle.calls.specs.Laws.{num_is}
-use borrow.Author.Rules.{rules}
 use Rattle.calls.proofs.write_num.Goals as goal
 
 pub returns : goal.returns

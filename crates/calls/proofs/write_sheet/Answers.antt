@@ -1,7 +1,6 @@
 -- `calls::write_sheet` meets its contract.
 use mathlib.Core.Path.{sym, ◌∙◌}
 use Rattle.calls.proofs.Writes.{accepted_savable, write_refused, write_saved}
-use borrow.Author.Rules.{rules}
 use Rattle.calls.proofs.write_sheet.Goals as goal
 
 pub write_accepted-requires : goal.write_accepted-requires

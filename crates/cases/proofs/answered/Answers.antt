@@ -1,5 +1,5 @@
 -- `cases::answered` meets its contract. Assumes nothing.
-use Rattle.std.proofs.Common.{rules, eq-eqb, ne_eqb}
+use Rattle.std.proofs.Common.{eq-eqb, ne_eqb}
 use Rattle.cases.specs.Payload.{answer_stands}
 use Rattle.cases.proofs.answered.Goals as goal
 

@@ -1,6 +1,5 @@
 -- `cases::bits` meets its contract. Assumes nothing.
 use Rattle.cases.specs.Payload.{bits_at}
-use Rattle.std.proofs.Common.{rules}
 use Rattle.cases.proofs.bits.Goals as goal
 
 pub returns : goal.returns

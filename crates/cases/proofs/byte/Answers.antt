@@ -1,5 +1,5 @@
 -- `cases::byte` meets its contract. Assumes nothing.
-use Rattle.std.proofs.Common.{sym, arith, rules}
+use Rattle.std.proofs.Common.{sym, arith}
 use lib.ListN.{get_or-eq_default}
 use Rattle.cases.proofs.byte.Goals as goal
 

@@ -1,6 +1,6 @@
 -- `cases::fill_floats` meets its contract. Assumes nothing.
-use Rattle.std.proofs.Common.{◌≡◌, ◌-◌, ◌≤◌, ◌++◌, length, take, sym, ◌∙◌, arith, length-set, rules}
-use Rattle.cases.specs.Payload.{float_at, each}
+use Rattle.std.proofs.Common.{◌-◌, length, sym, ◌∙◌, arith, length-set, rules}
+use Rattle.cases.specs.Payload.{float_at}
 use Rattle.cases.specs.Laws.{each_start, each_fill_step, each_fill_end}
 use Rattle.cases.proofs.fill_floats.Goals as goal
 

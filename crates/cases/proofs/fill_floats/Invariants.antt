@@ -1,7 +1,6 @@
 -- `cases::fill_floats` meets its contract. Assumes nothing.
-use Rattle.std.proofs.Common.{◌≡◌, ◌-◌, ◌≤◌, ◌++◌, length, take, sym, ◌∙◌, arith, length-set, rules}
+use Rattle.std.proofs.Common.{◌≡◌, ◌-◌, ◌≤◌, ◌++◌, length, take}
 use Rattle.cases.specs.Payload.{float_at, each}
-use Rattle.cases.specs.Laws.{each_start, each_fill_step, each_fill_end}
 use Rattle.cases.proofs.fill_floats.Given as goal
 
 abbrev pub invariant-loop-k : goal.invariant-loop-k

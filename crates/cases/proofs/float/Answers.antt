@@ -1,5 +1,5 @@
 -- `cases::float` meets its contract. Assumes nothing.
-use Rattle.std.proofs.Common.{ap, ◌∙◌, rules}
+use Rattle.std.proofs.Common.{ap, ◌∙◌}
 use lib.Ieee.{binary64, of_bits}
 use Rattle.cases.specs.Payload.{float_at}
 use Rattle.cases.proofs.float.Goals as goal

@@ -1,5 +1,5 @@
 -- `cases::index` meets its contract. Assumes nothing.
-use Rattle.std.proofs.Common.{arith, rules}
+use Rattle.std.proofs.Common.{arith}
 use Rattle.cases.specs.Payload.{word_at}
 use Rattle.cases.proofs.index.Goals as goal
 

@@ -1,5 +1,5 @@
 -- `cases::long` meets its contract. Assumes nothing.
-use Rattle.std.proofs.Common.{arith, rules}
+use Rattle.std.proofs.Common.{arith}
 use Rattle.cases.specs.Payload.{long_at}
 use Rattle.cases.proofs.long.Goals as goal
 

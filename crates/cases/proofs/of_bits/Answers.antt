@@ -1,5 +1,5 @@
 -- `cases::of_bits` meets its contract. Assumes nothing.
-use Rattle.std.proofs.Common.{sym, arith, rules}
+use Rattle.std.proofs.Common.{sym, arith}
 use lib.Ieee.{of_bits, div}
 use Rattle.cases.specs.Laws.{pattern_nan, pattern_number}
 use Rattle.cases.proofs.of_bits.Goals as goal

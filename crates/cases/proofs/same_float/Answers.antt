@@ -1,6 +1,5 @@
 -- `cases::same_float` meets its contract. Assumes nothing.
 use Rattle.cases.specs.Payload.{same_float}
-use Rattle.std.proofs.Common.{rules}
 use Rattle.cases.proofs.same_float.Goals as goal
 
 pub returns : goal.returns

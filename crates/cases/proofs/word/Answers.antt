@@ -1,5 +1,5 @@
 -- `cases::word` meets its contract. Assumes nothing.
-use Rattle.std.proofs.Common.{arith, rules}
+use Rattle.std.proofs.Common.{arith}
 use Rattle.cases.specs.Payload.{word_at}
 use Rattle.cases.proofs.word.Goals as goal
 

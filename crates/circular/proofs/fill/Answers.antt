@@ -1,8 +1,8 @@
 -- `circular::fill` meets its contract.
 use mathlib.Core.Path.{◌≡◌, refl, ap, ◌∙◌}
-use Prim.Native.Nat.{ℕ, ◌-◌, ◌≤◌}
+use Prim.Native.Nat.{ℕ, ◌-◌}
 use native.Mathlib.Omega.{arith}
-use lib.ListN.{length, take, length-set}
+use lib.ListN.{length, length-set}
 use lib.Ieee.{Float}
 use Rattle.laws.specs.Flat.{table}
 use Rattle.laws.specs.Filled.{table-fill, table_full}

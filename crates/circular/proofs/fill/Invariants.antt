@@ -1,14 +1,10 @@
 -- `circular::fill` meets its contract.
-use mathlib.Core.Path.{◌≡◌, refl, ap, ◌∙◌}
-use Prim.Native.Nat.{ℕ, ◌-◌, ◌≤◌}
-use native.Mathlib.Omega.{arith}
-use lib.ListN.{length, take, length-set}
-use lib.Ieee.{Float}
+use mathlib.Core.Path.{◌≡◌}
+use Prim.Native.Nat.{◌-◌, ◌≤◌}
+use lib.ListN.{length, take}
 use Rattle.laws.specs.Flat.{table}
-use Rattle.laws.specs.Filled.{table-fill, table_full}
 use Rattle.float.specs.Ops.{◌⊗◌}
-use Rattle.float.specs.Standins.{sin, cos}
-use Rattle.circular.specs.Ring.{ring_place, place_angle, cos_at, sin_at, around_ring}
+use Rattle.circular.specs.Ring.{ring_place, cos_at, sin_at}
 use Rattle.circular.proofs.fill.Given as goal
 
 abbrev pub invariant-loop-i : goal.invariant-loop-i

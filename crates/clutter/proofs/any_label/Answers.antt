@@ -1,9 +1,9 @@
 -- `clutter::any_label` meets its contract.
-use mathlib.Core.Path.{◌≡◌, refl, ◌∙◌}
+use mathlib.Core.Path.{refl, ◌∙◌}
 use Prim.Native.Nat.{◌+◌, ◌-◌}
 use native.Mathlib.Omega.{arith}
 use Rattle.laws.specs.Flat.{part}
-use Rattle.laws.specs.Any.{any_of, some_hit, some_miss, some_none}
+use Rattle.laws.specs.Any.{some_hit, some_miss, some_none}
 use Rattle.laws.specs.Tables.{table-first, table_none}
 use Rattle.records.specs.Records.{decode_geometry}
 use Rattle.clutter.specs.Clutter.{label_over, records_from}

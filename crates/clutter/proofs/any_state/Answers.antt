@@ -1,15 +1,14 @@
 -- `clutter::any_state` meets its contract.
-use mathlib.Core.Path.{◌≡◌, refl, ◌∙◌}
-use Prim.Native.Nat.{◌+◌, ◌-◌, ◌≤◌}
+use mathlib.Core.Path.{refl, ◌∙◌}
+use Prim.Native.Nat.{◌+◌, ◌-◌}
 use native.Mathlib.Omega.{arith}
-use lib.ListN.{length, drop}
+use lib.ListN.{drop}
 use Rattle.laws.specs.Zip.{zip_past}
-use Rattle.laws.specs.Any.{any_of, some_hit, some_miss, some_none}
+use Rattle.laws.specs.Any.{some_hit, some_miss, some_none}
 use Rattle.shape.specs.Plane.{vec}
 use Rattle.shape.specs.Centres.{centres}
 use Rattle.shape.specs.CentresFrom.{centres_from}
 use Rattle.clutter.specs.Clutter.{near24}
-use borrow.Author.Rules.{rules}
 use Rattle.clutter.proofs.any_state.Goals as goal
 
 pub loop-k-init : goal.loop-k-init

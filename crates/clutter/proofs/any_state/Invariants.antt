@@ -1,13 +1,9 @@
 -- `clutter::any_state` meets its contract.
-use mathlib.Core.Path.{◌≡◌, refl, ◌∙◌}
-use Prim.Native.Nat.{◌+◌, ◌-◌, ◌≤◌}
-use native.Mathlib.Omega.{arith}
+use mathlib.Core.Path.{◌≡◌}
+use Prim.Native.Nat.{◌-◌, ◌≤◌}
 use lib.ListN.{length, drop}
-use Rattle.laws.specs.Zip.{zip_past}
-use Rattle.laws.specs.Any.{any_of, some_hit, some_miss, some_none}
-use Rattle.shape.specs.Plane.{vec}
+use Rattle.laws.specs.Any.{any_of}
 use Rattle.shape.specs.Centres.{centres}
-use Rattle.shape.specs.CentresFrom.{centres_from}
 use Rattle.clutter.specs.Clutter.{near24}
 use Rattle.clutter.proofs.any_state.Given as goal
 

@@ -1,12 +1,9 @@
 -- `clutter::any_trace` meets its contract.
-use mathlib.Core.Path.{◌≡◌, refl, ◌∙◌}
+use mathlib.Core.Path.{◌≡◌}
 use Prim.Native.Nat.{◌+◌, ◌-◌}
-use native.Mathlib.Omega.{arith}
-use Rattle.laws.specs.Flat.{part}
-use Rattle.laws.specs.Any.{any_of, some_hit, some_miss, some_none}
-use Rattle.laws.specs.Tables.{table-first, table_none}
+use Rattle.laws.specs.Any.{any_of}
 use Rattle.trace.specs.Traces.{struck}
-use Rattle.trace.specs.Form.{decode_trace, decode_traces}
+use Rattle.trace.specs.Form.{decode_traces}
 use Rattle.clutter.specs.Clutter.{traces_from}
 use Rattle.clutter.proofs.any_trace.Given as goal
 

@@ -2,7 +2,6 @@
 use Rattle.shape.specs.Centres.{centres}
 use Rattle.records.specs.Records.{decode_records}
 use Rattle.clutter.proofs.Laws.{clutter_is}
-use borrow.Author.Rules.{rules}
 use Rattle.clutter.proofs.clutter.Goals as goal
 
 pub returns : goal.returns

@@ -1,13 +1,11 @@
 -- `clutter::collisions` meets its contract.
-use mathlib.Core.Path.{◌≡◌, ◌∙◌}
-use mathlib.Core.List.{[]}
-use Prim.Native.Nat.{◌+◌, ◌-◌, ◌≤◌}
+use mathlib.Core.Path.{◌∙◌}
+use Prim.Native.Nat.{◌-◌}
 use native.Mathlib.Omega.{arith}
 use Rattle.laws.specs.Flat.{part}
 use Rattle.shape.specs.Centres.{centres}
 use Rattle.trace.specs.Form.{decode_traces}
-use Rattle.records.specs.Records.{decode_geometry, decode_records}
-use Rattle.clutter.specs.Clutter.{collisions, records_from}
+use Rattle.records.specs.Records.{decode_geometry}
 use Rattle.clutter.specs.Steps.{collisions-start, collisions-step, collisions-end}
 use Rattle.clutter.proofs.collisions.Goals as goal
 

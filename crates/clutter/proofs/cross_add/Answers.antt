@@ -6,7 +6,6 @@ use Rattle.laws.specs.Flat.{part}
 use Rattle.laws.specs.Counting.{worth_of}
 use Rattle.trace.specs.Traces.{crosses}
 use Rattle.trace.specs.Form.{decode_trace}
-use borrow.Author.Rules.{rules}
 use Rattle.clutter.proofs.cross_add.Goals as goal
 
 pub returns-then-crosses_at : goal.returns-then-crosses_at

@@ -1,10 +1,8 @@
 -- `clutter::crossed` meets its contract.
 use mathlib.Core.Path.{◌≡◌}
 use Prim.Native.Nat.{◌+◌, ◌-◌, ◌≤◌}
-use native.Mathlib.Omega.{arith}
 use Rattle.laws.specs.Flat.{part}
-use Rattle.laws.specs.Counting.{how_many, how_many-step, how_many_none}
-use Rattle.laws.specs.Tables.{table-first, table_none}
+use Rattle.laws.specs.Counting.{how_many}
 use Rattle.trace.specs.Traces.{crosses}
 use Rattle.trace.specs.Form.{decode_trace}
 use Rattle.clutter.specs.Clutter.{traces_from}

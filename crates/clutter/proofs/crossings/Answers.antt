@@ -1,10 +1,8 @@
 -- `clutter::crossings` meets its contract.
-use mathlib.Core.Path.{◌≡◌, ◌∙◌}
-use Prim.Native.Nat.{◌+◌, ◌*◌, ◌≤◌}
+use mathlib.Core.Path.{◌∙◌}
 use native.Mathlib.Omega.{arith}
 use Rattle.laws.specs.Flat.{part}
-use Rattle.trace.specs.Form.{decode_trace, decode_traces}
-use Rattle.clutter.specs.Clutter.{crossings, traces_from}
+use Rattle.trace.specs.Form.{decode_trace}
 use Rattle.clutter.specs.Steps.{crossings-step, crossings-end}
 use Rattle.clutter.proofs.crossings.Goals as goal
 
@@ -34,10 +32,10 @@ loop-left-smaller c = omega arith
 
 pub loop-left-preserved : goal.loop-left-preserved
 loop-left-preserved c = let l = c.loop-left in (
-      crossings-step (λ k. decode_trace (part 40 k c.args.traces.now)) l.sum c.crossed-sum.result l.i l.left c.loop-left-test.true c.crossed-sum.ensures.0 ∙ l.invariant.0,
-      omega arith,
-      omega arith,
-    )
+  crossings-step (λ k. decode_trace (part 40 k c.args.traces.now)) l.sum c.crossed-sum.result l.i l.left c.loop-left-test.true c.crossed-sum.ensures.0 ∙ l.invariant.0,
+  omega arith,
+  omega arith,
+)
 
 pub returns : goal.returns
 returns c = let l = c.loop-left in

@@ -1,11 +1,8 @@
 -- `clutter::crossings` meets its contract.
-use mathlib.Core.Path.{◌≡◌, ◌∙◌}
+use mathlib.Core.Path.{◌≡◌}
 use Prim.Native.Nat.{◌+◌, ◌*◌, ◌≤◌}
-use native.Mathlib.Omega.{arith}
-use Rattle.laws.specs.Flat.{part}
-use Rattle.trace.specs.Form.{decode_trace, decode_traces}
+use Rattle.trace.specs.Form.{decode_traces}
 use Rattle.clutter.specs.Clutter.{crossings, traces_from}
-use Rattle.clutter.specs.Steps.{crossings-step, crossings-end}
 use Rattle.clutter.proofs.crossings.Given as goal
 
 abbrev pub invariant-loop-left : goal.invariant-loop-left

@@ -1,8 +1,7 @@
 -- `clutter::fill_traces` meets its contract.
 use mathlib.Core.Path.{◌≡◌, refl, sym, ap, ◌∙◌}
-use Prim.Native.Nat.{ℕ, ◌-◌, ◌≤◌}
+use Prim.Native.Nat.{ℕ, ◌-◌}
 use native.Mathlib.Omega.{arith}
-use lib.ListN.{length}
 use Rattle.laws.specs.Flat.{table, part}
 use Rattle.laws.specs.Tables.{map-table}
 use Rattle.trace.specs.Form.{decode_traces}

@@ -1,14 +1,11 @@
 -- `clutter::fill_traces` meets its contract.
-use mathlib.Core.Path.{◌≡◌, refl, sym, ap, ◌∙◌}
-use Prim.Native.Nat.{ℕ, ◌-◌, ◌≤◌}
-use native.Mathlib.Omega.{arith}
+use mathlib.Core.Path.{◌≡◌}
+use Prim.Native.Nat.{◌-◌, ◌≤◌}
 use lib.ListN.{length}
 use Rattle.laws.specs.Flat.{table, part}
-use Rattle.laws.specs.Tables.{map-table}
 use Rattle.trace.specs.Form.{decode_traces}
 use Rattle.records.specs.Records.{decode_geometry}
 use Rattle.clutter.specs.Clutter.{record_trace}
-use Rattle.clutter.proofs.Laws.{small_of, drawn-more}
 use Rattle.clutter.proofs.fill_traces.Given as goal
 
 abbrev pub invariant-loop-k : goal.invariant-loop-k

@@ -8,7 +8,6 @@ use Rattle.trace.specs.Form.{decode_traces}
 use Rattle.records.specs.Records.{decode_geometry}
 use Rattle.clutter.specs.Clutter.{records_from}
 use Rattle.clutter.proofs.Laws.{by_state, by_before, by_behind, by_trace}
-use borrow.Author.Rules.{rules}
 use Rattle.clutter.proofs.label_add.Goals as goal
 
 pub returns-then-any_state : goal.returns-then-any_state

@@ -2,7 +2,6 @@
 use mathlib.Core.Path.{◌∙◌, ap}
 use Rattle.shape.specs.declared.Rect.{Rect}
 use Rattle.shape.specs.Plane.{overlaps}
-use borrow.Author.Rules.{rules}
 use Rattle.clutter.proofs.label_over.Goals as goal
 
 pub returns : goal.returns

@@ -1,6 +1,5 @@
 -- `clutter::near24` meets its contract.
 use Rattle.clutter.specs.Near.{near_by_squares}
-use borrow.Author.Rules.{rules}
 use Rattle.clutter.proofs.near24.Goals as goal
 
 pub returns : goal.returns

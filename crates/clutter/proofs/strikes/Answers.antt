@@ -2,7 +2,6 @@
 use mathlib.Core.Path.{sym, ◌∙◌}
 use Rattle.laws.specs.Flat.{part}
 use Rattle.trace.specs.Reach.{struck_none}
-use borrow.Author.Rules.{rules}
 use Rattle.clutter.proofs.strikes.Goals as goal
 
 pub returns-then-reaches_at : goal.returns-then-reaches_at

@@ -1,9 +1,7 @@
 -- `columns::contains` meets its contract.
-use mathlib.Core.Path.{◌≡◌, refl, sym, ◌∙◌}
-use Prim.Native.Nat.{◌-◌, ◌≤◌}
+use mathlib.Core.Path.{refl, sym, ◌∙◌}
+use Prim.Native.Nat.{◌-◌}
 use native.Mathlib.Omega.{arith}
-use lib.ListN.{length, drop}
-use Rattle.columns.specs.Columns.{elem}
 use Rattle.columns.proofs.Laws.{elem_hit, elem_miss, elem_end}
 use borrow.Author.Rules.{rules}
 use Rattle.columns.proofs.contains.Goals as goal

@@ -1,10 +1,8 @@
 -- `columns::contains` meets its contract.
-use mathlib.Core.Path.{◌≡◌, refl, sym, ◌∙◌}
+use mathlib.Core.Path.{◌≡◌}
 use Prim.Native.Nat.{◌-◌, ◌≤◌}
-use native.Mathlib.Omega.{arith}
 use lib.ListN.{length, drop}
 use Rattle.columns.specs.Columns.{elem}
-use Rattle.columns.proofs.Laws.{elem_hit, elem_miss, elem_end}
 use Rattle.columns.proofs.contains.Given as goal
 
 abbrev pub invariant-loop-i : goal.invariant-loop-i

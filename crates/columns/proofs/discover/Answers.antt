@@ -8,7 +8,6 @@ use lib.Seq.{length-take-le}
 use Rattle.columns.specs.Columns.{elem}
 use Rattle.columns.specs.Found.{discover_old, fair_room}
 use Rattle.columns.proofs.Laws.{push}
-use borrow.Author.Rules.{rules}
 use Rattle.columns.proofs.discover.Goals as goal
 
 pub slice_bounds-contains-end-2 : goal.slice_bounds-contains-end-2

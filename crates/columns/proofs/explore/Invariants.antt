@@ -1,13 +1,9 @@
 -- `columns::explore` meets its contract.
-use mathlib.Core.Path.{◌≡◌, refl, sym, ap, subst, ◌∙◌}
-use mathlib.Core.List.{List}
-use Prim.Native.Nat.{ℕ, ◌+◌, ◌-◌, ◌≤◌}
-use native.Mathlib.Omega.{arith}
-use lib.ListN.{length, take, drop, get_or}
-use Rattle.laws.specs.Loops.{over}
-use Rattle.columns.specs.Columns.{end_pairs, discover, successors, explore}
-use Rattle.columns.specs.Found.{Fair, visit_fair, front_kept}
-use Rattle.columns.proofs.Laws.{explore-step, explore_stop}
+use mathlib.Core.Path.{◌≡◌}
+use Prim.Native.Nat.{◌-◌, ◌≤◌}
+use lib.ListN.{length, take, drop}
+use Rattle.columns.specs.Columns.{end_pairs, explore}
+use Rattle.columns.specs.Found.{Fair}
 use Rattle.columns.proofs.explore.Given as goal
 
 abbrev pub invariant-loop-i : goal.invariant-loop-i

@@ -6,7 +6,6 @@ use lib.ListN.{length, take}
 use Rattle.laws.specs.Split.{split, sum_all}
 use Rattle.columns.specs.Columns.{end_pairs, columns}
 use Rattle.columns.proofs.Laws.{fill-all, fill-rest}
-use borrow.Author.Rules.{rules}
 use Rattle.columns.proofs.fill_columns.Goals as goal
 
 pub put_unreached-requires : goal.put_unreached-requires

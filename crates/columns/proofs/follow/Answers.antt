@@ -4,7 +4,6 @@ use native.Mathlib.Omega.{arith}
 use lib.ListN.{length, take}
 use Rattle.columns.specs.Columns.{leaves, end_pair}
 use Rattle.columns.specs.Found.{target_in, follow_yes, follow_no}
-use borrow.Author.Rules.{rules}
 use Rattle.columns.proofs.follow.Goals as goal
 
 pub discover-requires : goal.discover-requires

@@ -1,7 +1,6 @@
 -- `columns::leaves` meets its contract.
 use mathlib.Core.Path.{◌∙◌}
 use Rattle.columns.proofs.Laws.{leaves_from, leaves-not}
-use borrow.Author.Rules.{rules}
 use Rattle.columns.proofs.leaves.Goals as goal
 
 pub returns-then-a-v : goal.returns-then-a-v

@@ -7,7 +7,6 @@ use lib.ListN.{length, take}
 use lib.Seq.{length-take-le}
 use Rattle.columns.specs.Columns.{elem}
 use Rattle.columns.proofs.Laws.{kept_none, kept_one}
-use borrow.Author.Rules.{rules}
 use Rattle.columns.proofs.put_new.Goals as goal
 
 pub slice_bounds-contains-end-2 : goal.slice_bounds-contains-end-2

@@ -1,12 +1,10 @@
 -- `columns::put_unreached` meets its contract.
-use mathlib.Core.Path.{◌≡◌, refl, sym, ap, subst, ◌∙◌}
-use mathlib.Core.List.{List, [], ◌∷◌, ◌++◌}
-use Prim.Native.Nat.{ℕ, ◌+◌, ◌-◌, ◌≤◌, ◌<◌}
-use native.Mathlib.Omega.{arith}
+use mathlib.Core.Path.{◌≡◌}
+use mathlib.Core.List.{◌++◌}
+use Prim.Native.Nat.{◌+◌, ◌-◌, ◌≤◌}
 use lib.ListN.{length, take}
-use Rattle.laws.specs.Filter.{filter_by}
-use Rattle.columns.specs.Columns.{elem, is_new, unreached}
-use Rattle.columns.proofs.Laws.{rest_from, rest-begin, rest-room, rest-step, rest_end}
+use Rattle.columns.specs.Columns.{unreached}
+use Rattle.columns.proofs.Laws.{rest_from}
 use Rattle.columns.proofs.put_unreached.Given as goal
 
 abbrev pub invariant-loop-v : goal.invariant-loop-v

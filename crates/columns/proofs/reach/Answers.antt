@@ -1,10 +1,9 @@
 -- `columns::reach` meets its contract.
-use mathlib.Core.Path.{◌≡◌, refl, ◌∙◌}
+use mathlib.Core.Path.{refl, ◌∙◌}
 use Prim.Native.Nat.{◌-◌, ◌<◌}
 use native.Mathlib.Omega.{arith}
 use lib.ListN.{length, length-set}
-use Rattle.columns.proofs.Laws.{Searching, search_begin, search_grown, search_stop, search_step, search_reached}
-use borrow.Author.Rules.{rules}
+use Rattle.columns.proofs.Laws.{search_begin, search_grown, search_stop, search_step, search_reached}
 use Rattle.columns.proofs.reach.Goals as goal
 
 pub loop-left-init : goal.loop-left-init

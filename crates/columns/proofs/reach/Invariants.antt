@@ -1,9 +1,8 @@
 -- `columns::reach` meets its contract.
-use mathlib.Core.Path.{◌≡◌, refl, ◌∙◌}
-use Prim.Native.Nat.{◌-◌, ◌<◌}
-use native.Mathlib.Omega.{arith}
-use lib.ListN.{length, length-set}
-use Rattle.columns.proofs.Laws.{Searching, search_begin, search_grown, search_stop, search_step, search_reached}
+use mathlib.Core.Path.{◌≡◌}
+use Prim.Native.Nat.{◌-◌}
+use lib.ListN.{length}
+use Rattle.columns.proofs.Laws.{Searching}
 use Rattle.columns.proofs.reach.Given as goal
 
 abbrev pub invariant-loop-left : goal.invariant-loop-left

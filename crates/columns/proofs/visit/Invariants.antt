@@ -1,13 +1,10 @@
 -- `columns::visit` meets its contract.
-use mathlib.Core.Path.{◌≡◌, refl, sym, ap, subst, ◌∙◌}
-use mathlib.Core.List.{List}
-use Prim.Native.Nat.{ℕ, ◌+◌, ◌-◌, ◌≤◌}
-use native.Mathlib.Omega.{arith}
-use lib.ListN.{length, take, drop, get_or}
+use mathlib.Core.Path.{◌≡◌}
+use Prim.Native.Nat.{◌-◌, ◌≤◌}
+use lib.ListN.{length, take, drop}
 use Rattle.laws.specs.Loops.{over}
-use Rattle.laws.specs.Zip.{zip_over_step, zip_over_end}
-use Rattle.columns.specs.Columns.{end_pair, end_pairs, discover, successors}
-use Rattle.columns.specs.Found.{Fair, follow, follow_fair, follows}
+use Rattle.columns.specs.Columns.{end_pairs, discover, successors}
+use Rattle.columns.specs.Found.{Fair, follow}
 use Rattle.columns.proofs.visit.Given as goal
 
 abbrev pub invariant-loop-i : goal.invariant-loop-i

@@ -1,8 +1,8 @@
 -- `curves::centred` meets its contract.
 use mathlib.Core.Path.{◌≡◌, refl, sym, ap, ◌∙◌}
-use Prim.Native.Nat.{◌-◌, ◌≤◌}
+use Prim.Native.Nat.{◌-◌}
 use native.Mathlib.Omega.{arith}
-use lib.ListN.{length, get_or, take, length-set}
+use lib.ListN.{length, get_or, length-set}
 use lib.Seq.{take_all}
 use Rattle.laws.specs.Flat.{table}
 use Rattle.laws.specs.Filled.{table-fill}

@@ -1,11 +1,8 @@
 -- `curves::centred` meets its contract.
-use mathlib.Core.Path.{◌≡◌, refl, sym, ap, ◌∙◌}
+use mathlib.Core.Path.{◌≡◌}
 use Prim.Native.Nat.{◌-◌, ◌≤◌}
-use native.Mathlib.Omega.{arith}
-use lib.ListN.{length, get_or, take, length-set}
-use lib.Seq.{take_all}
+use lib.ListN.{length, get_or, take}
 use Rattle.laws.specs.Flat.{table}
-use Rattle.laws.specs.Filled.{table-fill}
 use Rattle.float.specs.Constants.{f0}
 use Rattle.routing.specs.Sheets.{or_zero}
 use Rattle.curves.proofs.centred.Given as goal

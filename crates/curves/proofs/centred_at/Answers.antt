@@ -7,7 +7,6 @@ use Rattle.laws.specs.Lists.{get_d_any}
 use Rattle.float.specs.Constants.{f0}
 use Rattle.routing.specs.Sheets.{or_zero}
 use Rattle.curves.proofs.Laws.{missing}
-use borrow.Author.Rules.{rules}
 use Rattle.curves.proofs.centred_at.Goals as goal
 
 pub returns-then-k-v : goal.returns-then-k-v

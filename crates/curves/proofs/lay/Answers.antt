@@ -10,9 +10,9 @@ use Rattle.curves.proofs.lay.Goals as goal
 
 pub lay_arrows-nt-requires : goal.lay_arrows-nt-requires
 lay_arrows-nt-requires c = let p = c.requires in record {
-      ready = p.fact;
-      wide = (p.fact_2.0, p.fact_2.1, p.fact_2.2, p.fact_2.3, omega (arith, p.fact_2.4));
-    }
+  ready = p.fact;
+  wide = (p.fact_2.0, p.fact_2.1, p.fact_2.2, p.fact_2.3, omega (arith, p.fact_2.4));
+}
 
 pub push_starts-requires : goal.push_starts-requires
 push_starts-requires c = let a = c.args in

@@ -9,7 +9,6 @@ use Rattle.routing.specs.Sheets.{frame_by}
 use Rattle.curves.specs.Lay.{Slices, slices}
 use Rattle.curves.specs.Steps.{arrow_by}
 use Rattle.curves.proofs.Laws.{crossing_one, other_one}
-use borrow.Author.Rules.{rules}
 use Rattle.curves.proofs.lay_arrow.Goals as goal
 
 pub bounds-sources-i : goal.bounds-sources-i

@@ -1,8 +1,7 @@
 -- `curves::lay_arrows` meets its contract.
-use mathlib.Core.Path.{◌≡◌, refl, ◌∙◌}
-use Prim.Native.Nat.{◌-◌, ◌≤◌}
+use mathlib.Core.Path.{refl, ◌∙◌}
+use Prim.Native.Nat.{◌-◌}
 use native.Mathlib.Omega.{arith}
-use lib.ListN.{length}
 use Rattle.shape.specs.Centres.{centres}
 use Rattle.routing.specs.Routing.{Frame, numbered_at}
 use Rattle.routing.specs.Sheets.{frame_by}
@@ -10,8 +9,7 @@ use Rattle.curves.specs.Lay.{slices}
 use Rattle.curves.specs.Steps.{arrow_by}
 use Rattle.curves.specs.Numbers.{many-arrows, arrow_is}
 use Rattle.curves.proofs.Laws.{one_of}
-use Rattle.curves.proofs.Steps.{Sofar, sofar_none, sofar_step, sofar_end}
-use borrow.Author.Rules.{rules}
+use Rattle.curves.proofs.Steps.{sofar_none, sofar_step, sofar_end}
 use Rattle.curves.proofs.lay_arrows.Goals as goal
 
 pub loop-i-init : goal.loop-i-init
@@ -20,10 +18,10 @@ loop-i-init c = let a = c.args in
 
 pub lay_arrow-nt-requires : goal.lay_arrow-nt-requires
 lay_arrow-nt-requires c = record {
-      ready = c.requires.ready;
-      i_in_bounds = omega arith;
-      room = (omega arith, omega arith, omega arith, omega arith, omega arith, omega arith);
-    }
+  ready = c.requires.ready;
+  i_in_bounds = omega arith;
+  room = (omega arith, omega arith, omega arith, omega arith, omega arith, omega arith);
+}
 
 pub loop-i-preserved : goal.loop-i-preserved
 loop-i-preserved c = let a = c.args in

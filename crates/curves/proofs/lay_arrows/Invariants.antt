@@ -1,16 +1,11 @@
 -- `curves::lay_arrows` meets its contract.
-use mathlib.Core.Path.{◌≡◌, refl, ◌∙◌}
+use mathlib.Core.Path.{◌≡◌}
 use Prim.Native.Nat.{◌-◌, ◌≤◌}
-use native.Mathlib.Omega.{arith}
 use lib.ListN.{length}
 use Rattle.shape.specs.Centres.{centres}
-use Rattle.routing.specs.Routing.{Frame, numbered_at}
 use Rattle.routing.specs.Sheets.{frame_by}
 use Rattle.curves.specs.Lay.{slices}
-use Rattle.curves.specs.Steps.{arrow_by}
-use Rattle.curves.specs.Numbers.{many-arrows, arrow_is}
-use Rattle.curves.proofs.Laws.{one_of}
-use Rattle.curves.proofs.Steps.{Sofar, sofar_none, sofar_step, sofar_end}
+use Rattle.curves.proofs.Steps.{Sofar}
 use Rattle.curves.proofs.lay_arrows.Given as goal
 
 abbrev pub invariant-loop-i : goal.invariant-loop-i

@@ -4,22 +4,21 @@ use Rattle.bend.specs.Between.{between}
 use mathlib.Core.Path.{ap, ◌∙◌}
 use Rattle.bend.specs.Leads.{leads, arrows_by}
 use Rattle.curves.proofs.Laws.{along_by}
-use borrow.Author.Rules.{rules}
 use Rattle.curves.proofs.lay_crossing.Goals as goal
 
 pub between-r-requires : goal.between-r-requires
 between-r-requires c = let p = c.requires in record {
-      ys_len = p.fact.0;
-      xs_len_bound = p.fact.1;
-      from_in_bounds = p.fact.3;
-      to_in_bounds = p.fact.4;
-    }
+  ys_len = p.fact.0;
+  xs_len_bound = p.fact.1;
+  from_in_bounds = p.fact.3;
+  to_in_bounds = p.fact.4;
+}
 
 pub lay_routed-requires : goal.lay_routed-requires
 lay_routed-requires c = let p = c.requires in record {
-      ys_len = (p.fact.0, p.fact.3, p.fact.4);
-      room = p.room;
-    }
+  ys_len = (p.fact.0, p.fact.3, p.fact.4);
+  room = p.room;
+}
 
 pub shape_of-kinds : goal.shape_of-kinds
 shape_of-kinds c = c.lay_routed.auto.kinds

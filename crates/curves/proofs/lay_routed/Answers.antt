@@ -7,7 +7,6 @@ use lib.ListN.{set, length-set}
 use Rattle.directions.specs.Rims.{leave_angle, reach_angle}
 use Rattle.trace.specs.Traces.{trace_of, owner_of}
 use Rattle.trace.specs.Form.{decode_traces}
-use borrow.Author.Rules.{rules}
 use Rattle.curves.proofs.lay_routed.Goals as goal
 
 pub bounds-kinds-i : goal.bounds-kinds-i
@@ -15,18 +14,18 @@ bounds-kinds-i c = c.requires.room.1
 
 pub centre-requires : goal.centre-requires
 centre-requires c = let p = c.requires in record {
-      ys_len = p.ys_len.0;
-      k_in_bounds = p.ys_len.1;
-    }
+  ys_len = p.ys_len.0;
+  k_in_bounds = p.ys_len.1;
+}
 
 pub bounds-leaves-i : goal.bounds-leaves-i
 bounds-leaves-i c = c.requires.room.2
 
 pub centre-requires-2 : goal.centre-requires-2
 centre-requires-2 c = let p = c.requires in record {
-      ys_len = p.ys_len.0;
-      k_in_bounds = p.ys_len.2;
-    }
+  ys_len = p.ys_len.0;
+  k_in_bounds = p.ys_len.2;
+}
 
 pub bounds-reaches-i : goal.bounds-reaches-i
 bounds-reaches-i c = c.requires.room.3

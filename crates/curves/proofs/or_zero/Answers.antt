@@ -1,7 +1,6 @@
 -- `curves::or_zero` meets its contract.
 use mathlib.Core.Path.{sym, ◌∙◌}
 use Rattle.curves.proofs.Laws.{finite_yes, finite_no}
-use borrow.Author.Rules.{rules}
 use Rattle.curves.proofs.or_zero.Goals as goal
 
 pub returns-then-is_finite : goal.returns-then-is_finite

@@ -1,18 +1,11 @@
 -- `curves::push_starts` meets its contract.
-use mathlib.Core.Path.{◌≡◌, refl, sym, ap, ◌∙◌}
-use mathlib.Core.List.{List, [], ◌∷◌, ◌++◌, append-nil}
+use mathlib.Core.Path.{◌≡◌}
+use mathlib.Core.List.{◌++◌}
 use Prim.Native.Nat.{◌+◌, ◌-◌, ◌≤◌}
-use native.Mathlib.Omega.{arith}
-use lib.ListN.{length, get_or, drop}
-use Rattle.laws.specs.Zip.{zip_length}
-use Rattle.shape.specs.declared.«V».{«V»}
-use Rattle.shape.specs.Plane.{vec}
-use Rattle.trace.specs.Traces.{Trace}
+use lib.ListN.{length, drop}
 use Rattle.trace.specs.Form.{decode_traces}
 use Rattle.shape.specs.Centres.{centres}
 use Rattle.routing.specs.Routing.{start_traces}
-use Rattle.curves.specs.Traces.{starts-past}
-use Rattle.curves.proofs.Laws.{starts_more}
 use Rattle.curves.proofs.push_starts.Given as goal
 
 abbrev pub invariant-loop-k : goal.invariant-loop-k

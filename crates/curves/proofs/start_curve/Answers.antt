@@ -3,7 +3,6 @@ use mathlib.Core.Path.{ap, ap₂, ◌∙◌}
 use Rattle.shape.specs.declared.«V».{«V»}
 use Rattle.shape.specs.declared.Curve.TheVariants.{Line}
 use Rattle.shape.specs.Plane.{sub}
-use borrow.Author.Rules.{rules}
 use Rattle.curves.proofs.start_curve.Goals as goal
 
 pub returns : goal.returns

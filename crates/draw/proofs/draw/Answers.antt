@@ -15,7 +15,6 @@ use Rattle.draw.specs.Drawn.{centre_refusals}
 use Rattle.draw.specs.declared.Drawing.TheVariants.{Records, Refused}
 use Rattle.sheet.specs.Accepted.{within-limits}
 use Rattle.sheet.specs.Order.{check-refused, check_accepted}
-use borrow.Author.Rules.{rules}
 use Rattle.draw.proofs.draw.Goals as goal
 
 pub draw_accepted-requires : goal.draw_accepted-requires

@@ -13,7 +13,6 @@ use Rattle.routing.specs.Sheets.{records_of}
 use Rattle.draw.specs.Drawn.{far_centre, bow_refusals}
 use Rattle.draw.specs.declared.Drawing.TheVariants.{Records, Refused}
 use Rattle.laws.specs.Refusals.{decide-first, decide-rest}
-use borrow.Author.Rules.{rules}
 use Rattle.draw.proofs.draw_accepted.Goals as goal
 
 pub returns-then-far_centre : goal.returns-then-far_centre

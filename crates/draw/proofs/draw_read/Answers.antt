@@ -4,7 +4,6 @@ use Rattle.sheet.specs.Sheet.{Graph, meaning}
 use mathlib.Core.Path.{sym, ◌∙◌}
 use native.Mathlib.Omega.{arith}
 use Rattle.draw.proofs.Laws.{route-refused, route-drawn}
-use borrow.Author.Rules.{rules}
 use Rattle.draw.proofs.draw_read.Goals as goal
 
 pub shape_of-flags-then-beyond : goal.shape_of-flags-then-beyond

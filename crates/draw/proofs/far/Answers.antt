@@ -1,6 +1,5 @@
 -- `draw::far` meets its contract.
 use mathlib.Core.Path.{sym, ◌∙◌}
-use borrow.Author.Rules.{rules}
 use Rattle.draw.proofs.far.Goals as goal
 
 pub returns-then-is_finite : goal.returns-then-is_finite

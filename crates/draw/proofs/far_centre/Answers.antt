@@ -2,7 +2,6 @@
 use mathlib.Core.Path.{sym, ◌∙◌}
 use Rattle.laws.specs.Bools.{or-first}
 use Rattle.draw.specs.Drawn.{some_far, far_centre}
-use borrow.Author.Rules.{rules}
 use Rattle.draw.proofs.far_centre.Goals as goal
 
 pub returns-then-some_far : goal.returns-then-some_far

@@ -1,12 +1,9 @@
 -- `draw::some_far` meets its contract.
-use mathlib.Core.Path.{◌≡◌, refl, sym, ◌∙◌}
-use Prim.Native.Nat.{◌+◌}
+use mathlib.Core.Path.{refl, sym, ◌∙◌}
 use native.Mathlib.Omega.{arith}
-use lib.ListN.{take, drop}
 use lib.Ieee.{nan}
-use Rattle.laws.specs.Any.{any_of, any_step, any_found, any_end, any_past}
-use Rattle.draw.specs.Drawn.{far, some_far}
-use borrow.Author.Rules.{rules}
+use Rattle.laws.specs.Any.{any_step, any_found, any_end, any_past}
+use Rattle.draw.specs.Drawn.{far}
 use Rattle.draw.proofs.some_far.Goals as goal
 
 pub loop-left-init : goal.loop-left-init

@@ -1,10 +1,8 @@
 -- `draw::some_far` meets its contract.
-use mathlib.Core.Path.{◌≡◌, refl, sym, ◌∙◌}
+use mathlib.Core.Path.{◌≡◌}
 use Prim.Native.Nat.{◌+◌}
-use native.Mathlib.Omega.{arith}
 use lib.ListN.{take, drop}
-use lib.Ieee.{nan}
-use Rattle.laws.specs.Any.{any_of, any_step, any_found, any_end, any_past}
+use Rattle.laws.specs.Any.{any_of}
 use Rattle.draw.specs.Drawn.{far, some_far}
 use Rattle.draw.proofs.some_far.Given as goal
 

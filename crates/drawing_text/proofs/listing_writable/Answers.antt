@@ -2,7 +2,6 @@
 use mathlib.Core.Path.{sym, ◌∙◌}
 use Rattle.drawing_text.specs.Lines.{line_writable}
 use Rattle.drawing_text.proofs.Laws.{and-passed, and_stopped, list_tests}
-use borrow.Author.Rules.{rules}
 use mathlib.Core.Path.{ap}
 use mathlib.Core.Bool.{not}
 use Rattle.drawing_text.proofs.listing_writable.Goals as goal

@@ -1,14 +1,12 @@
 -- `drawing_text::paths_writable` meets its contract. The invariant: the test of the records still to come decides.
-use mathlib.Core.Path.{◌≡◌, sym, ap, ◌∙◌}
+use mathlib.Core.Path.{◌≡◌}
 use Prim.Native.Nat.{◌-◌, ◌≤◌}
-use native.Mathlib.Omega.{arith}
 use Rattle.laws.specs.Flat.{part, table}
-use Rattle.laws.specs.Every.{every, every_stop, every-step, every-end, every_map}
-use Rattle.laws.specs.Tables.{table_from, table_front, table-past}
+use Rattle.laws.specs.Every.{every}
 use Rattle.records.specs.Records.{decode_geometry, decode_records}
 use Rattle.svg.specs.Paths.{curve_path, path_writable}
 use Rattle.label_spots.specs.declared.Geometry.{Geometry}
-use Rattle.drawing_text.specs.Lines.{paths_of, paths_writable}
+use Rattle.drawing_text.specs.Lines.{paths_writable}
 use Rattle.drawing_text.proofs.paths_writable.Given as goal
 
 abbrev pub invariant-loop-k : goal.invariant-loop-k

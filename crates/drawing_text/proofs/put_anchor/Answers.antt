@@ -1,10 +1,9 @@
 -- `drawing_text::put_anchor` meets its contract.
-use mathlib.Core.Path.{sym, ap, refl}
+use mathlib.Core.Path.{sym, ap}
 use mathlib.Core.List.{[], ◌∷◌, flat_map}
 use Rattle.laws.specs.Writers.{wrote_as}
 use Rattle.label_spots.specs.declared.Anchor.{Anchor}
 use Rattle.drawing_text.specs.Lines.{word_field, field_text, fields_text, anchor_word}
-use borrow.Author.Rules.{rules}
 use Rattle.drawing_text.proofs.put_anchor.Goals as goal
 
 pub put_bytes-requires : goal.put_bytes-requires

@@ -2,7 +2,6 @@
 use mathlib.Core.Path.{◌∙◌}
 use Rattle.drawing_text.specs.Lines.{list_lines, list_text}
 use Rattle.drawing_text.proofs.Laws.{wrote-last, wrote_lines, wrote-both}
-use borrow.Author.Rules.{rules}
 use Rattle.drawing_text.proofs.put_listing.Goals as goal
 
 pub put_size_line-states-requires : goal.put_size_line-states-requires

@@ -1,13 +1,12 @@
 -- `drawing_text::put_paths` meets its contract. The invariant: what is written, with the paths of the records still to come, is the whole text.
-use mathlib.Core.Path.{◌≡◌, refl, sym, ap, ◌∙◌}
+use mathlib.Core.Path.{refl, sym, ap, ◌∙◌}
 use mathlib.Core.List.{flat_map}
-use Prim.Native.Nat.{◌-◌, ◌≤◌}
+use Prim.Native.Nat.{◌-◌}
 use native.Mathlib.Omega.{arith}
-use lib.ListN.{length}
-use Rattle.laws.specs.Flat.{part, table}
-use Rattle.records.specs.Records.{decode_geometry, decode_records}
+use Rattle.laws.specs.Flat.{part}
+use Rattle.records.specs.Records.{decode_geometry}
 use Rattle.laws.specs.Writers.{wrote_as}
-use Rattle.laws.specs.Continues.{Continues, continues_whole, texts_step, texts_end}
+use Rattle.laws.specs.Continues.{continues_whole, texts_step, texts_end}
 use Rattle.laws.specs.Joined.{flat_map_lem}
 use Rattle.laws.specs.Tables.{table_from, table_front, table-past}
 use Rattle.svg.specs.Paths.{curve_path}

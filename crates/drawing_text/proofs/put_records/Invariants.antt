@@ -1,17 +1,13 @@
 -- `drawing_text::put_records` meets its contract. The invariant: what is written, with the lines of the records still to come, is the whole text.
-use mathlib.Core.Path.{◌≡◌, refl, sym, ap, ◌∙◌}
+use mathlib.Core.Path.{◌≡◌}
 use mathlib.Core.List.{flat_map}
 use Prim.Native.Nat.{◌-◌, ◌≤◌}
-use native.Mathlib.Omega.{arith}
 use lib.ListN.{length}
 use Rattle.laws.specs.Flat.{part, table}
 use Rattle.records.specs.Records.{decode_geometry, decode_records}
-use Rattle.laws.specs.Writers.{wrote_as}
-use Rattle.laws.specs.Continues.{Continues, continues_whole, texts_step, texts_end}
-use Rattle.laws.specs.Joined.{flat_flat}
-use Rattle.laws.specs.Tables.{table_from, table_front, table-past}
+use Rattle.laws.specs.Continues.{Continues}
 use Rattle.label_spots.specs.declared.Geometry.{Geometry}
-use Rattle.drawing_text.specs.Lines.{record_lines, line_text, lines_text}
+use Rattle.drawing_text.specs.Lines.{record_lines, lines_text}
 use Rattle.drawing_text.proofs.put_records.Given as goal
 
 abbrev pub invariant-loop-k : goal.invariant-loop-k

@@ -1,5 +1,5 @@
 -- `drawing_text::put_size_line` meets its contract.
-use mathlib.Core.Path.{refl, ◌∙◌}
+use mathlib.Core.Path.{◌∙◌}
 use Rattle.drawing_text.proofs.Laws.{wrote-fields, wrote-name, wrote-line}
 use Rattle.drawing_text.proofs.put_size_line.Goals as goal
 

@@ -1,5 +1,5 @@
 -- `drawing_text::put_start_line` meets its contract.
-use mathlib.Core.Path.{ap, refl, ◌∙◌}
+use mathlib.Core.Path.{ap, ◌∙◌}
 use mathlib.Core.List.{[], ◌∷◌}
 use Rattle.float.specs.Constants.{f0}
 use Rattle.shape.specs.declared.«V».{«V»}

@@ -1,16 +1,13 @@
 -- `drawing_text::put_starts` meets its contract. The invariant: what is written, with the lines of the starts still to come, is the whole text.
-use mathlib.Core.Path.{◌≡◌, refl, sym, ◌∙◌}
+use mathlib.Core.Path.{◌≡◌}
 use mathlib.Core.Bool.{cond}
 use mathlib.Core.List.{[], map, flat_map}
 use Prim.Native.Nat.{◌-◌, ◌≤◌}
-use native.Mathlib.Omega.{arith}
 use lib.ListN.{length, drop}
-use Rattle.laws.specs.Continues.{Continues, continues_whole, texts_step, texts_end}
-use Rattle.laws.specs.Joined.{flat_chosen}
+use Rattle.laws.specs.Continues.{Continues}
 use Rattle.shape.specs.Centres.{centres}
 use Rattle.sheet.specs.Meaning.{is_start}
-use Rattle.drawing_text.specs.Lines.{ListedState, flag_of, start_line, listed_state, states_from, starts, line_text, lines_text}
-use Rattle.drawing_text.proofs.Laws.{states_front, states_none}
+use Rattle.drawing_text.specs.Lines.{ListedState, flag_of, start_line, states_from, starts, line_text, lines_text}
 use Rattle.drawing_text.proofs.put_starts.Given as goal
 
 abbrev pub invariant-loop-k : goal.invariant-loop-k

@@ -1,15 +1,11 @@
 -- `drawing_text::put_states` meets its contract. The invariant: what is written, with the lines of the states still to come, is the whole text.
-use mathlib.Core.Path.{◌≡◌, refl, sym, ◌∙◌}
-use mathlib.Core.List.{map, flat_map}
-use Prim.Native.Nat.{◌-◌, ◌≤◌}
+use mathlib.Core.Path.{refl, sym, ◌∙◌}
+use Prim.Native.Nat.{◌-◌}
 use native.Mathlib.Omega.{arith}
-use lib.ListN.{length, drop}
-use Rattle.laws.specs.Continues.{Continues, continues_whole, texts_step, texts_end}
+use Rattle.laws.specs.Continues.{continues_whole, texts_step, texts_end}
 use Rattle.laws.specs.Joined.{flat_map_lem}
-use Rattle.shape.specs.Centres.{centres}
-use Rattle.drawing_text.specs.Lines.{ListedState, state_line, states_from, line_text, lines_text}
+use Rattle.drawing_text.specs.Lines.{ListedState, state_line, line_text, lines_text}
 use Rattle.drawing_text.proofs.Laws.{states_front, states_none}
-use borrow.Author.Rules.{rules}
 use Rattle.drawing_text.proofs.put_states.Goals as goal
 
 pub loop-k-init : goal.loop-k-init

@@ -1,5 +1,5 @@
 -- `drawing_text::put_tip_line` meets its contract.
-use mathlib.Core.Path.{refl, ◌∙◌}
+use mathlib.Core.Path.{◌∙◌}
 use Rattle.drawing_text.proofs.Laws.{wrote_body, wrote-line}
 use Rattle.drawing_text.proofs.put_tip_line.Goals as goal
 

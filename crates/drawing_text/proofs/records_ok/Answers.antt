@@ -1,13 +1,12 @@
 -- `drawing_text::records_ok` meets its contract. The invariant: the test of the records still to come decides.
-use mathlib.Core.Path.{◌≡◌, sym, ap, ◌∙◌}
-use Prim.Native.Nat.{◌-◌, ◌≤◌}
+use mathlib.Core.Path.{sym, ap, ◌∙◌}
+use Prim.Native.Nat.{◌-◌}
 use native.Mathlib.Omega.{arith}
-use Rattle.laws.specs.Flat.{part, table}
+use Rattle.laws.specs.Flat.{part}
 use Rattle.laws.specs.Every.{every, every_stop, every-step, every-end, every-all}
 use Rattle.laws.specs.Tables.{table_from, table_front, table-past}
-use Rattle.records.specs.Records.{decode_geometry, decode_records}
+use Rattle.records.specs.Records.{decode_geometry}
 use borrow.Author.Tests.{not-true, not-false}
-use mathlib.Core.List.{flat_map}
 use Rattle.label_spots.specs.declared.Geometry.{Geometry}
 use Rattle.drawing_text.specs.Lines.{record_lines, line_writable, lines_writable}
 use mathlib.Core.Bool.{not}

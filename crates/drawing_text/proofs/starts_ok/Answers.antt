@@ -1,17 +1,13 @@
 -- `drawing_text::starts_ok` meets its contract. The invariant: the test of the states still to come decides.
-use mathlib.Core.Path.{◌≡◌, refl, sym, ◌∙◌}
-use Prim.Native.Nat.{◌-◌, ◌≤◌}
+use mathlib.Core.Path.{refl, sym, ◌∙◌}
+use Prim.Native.Nat.{◌-◌}
 use native.Mathlib.Omega.{arith}
-use lib.ListN.{length, drop}
 use mathlib.Core.Bool.{Bool, true, cond}
 use borrow.Author.Tests.{not-true, not-false}
-use Rattle.laws.specs.Every.{every, every_stop, every-step, every-end, every-chosen}
-use Rattle.shape.specs.Centres.{centres}
-use mathlib.Core.List.{map}
+use Rattle.laws.specs.Every.{every_stop, every-step, every-end, every-chosen}
 use Rattle.sheet.specs.Meaning.{is_start}
-use Rattle.drawing_text.specs.Lines.{ListedState, flag_of, start_line, listed_state, states_from, starts, line_writable, lines_writable}
+use Rattle.drawing_text.specs.Lines.{ListedState, flag_of, start_line, listed_state, starts, line_writable, lines_writable}
 use Rattle.drawing_text.proofs.Laws.{states_front, states_none}
-use borrow.Author.Rules.{rules}
 use mathlib.Core.Path.{ap}
 use mathlib.Core.Bool.{not}
 use Rattle.drawing_text.proofs.starts_ok.Goals as goal

@@ -1,15 +1,13 @@
 -- `drawing_text::starts_ok` meets its contract. The invariant: the test of the states still to come decides.
-use mathlib.Core.Path.{◌≡◌, refl, sym, ◌∙◌}
+use mathlib.Core.Path.{◌≡◌}
 use Prim.Native.Nat.{◌-◌, ◌≤◌}
-use native.Mathlib.Omega.{arith}
 use lib.ListN.{length, drop}
-use mathlib.Core.Bool.{Bool, true, cond}
-use Rattle.laws.specs.Every.{every, every_stop, every-step, every-end, every-chosen}
+use mathlib.Core.Bool.{true, cond}
+use Rattle.laws.specs.Every.{every}
 use Rattle.shape.specs.Centres.{centres}
 use mathlib.Core.List.{map}
 use Rattle.sheet.specs.Meaning.{is_start}
-use Rattle.drawing_text.specs.Lines.{ListedState, flag_of, start_line, listed_state, states_from, starts, line_writable, lines_writable}
-use Rattle.drawing_text.proofs.Laws.{states_front, states_none}
+use Rattle.drawing_text.specs.Lines.{ListedState, flag_of, start_line, states_from, starts, line_writable, lines_writable}
 use Rattle.drawing_text.proofs.starts_ok.Given as goal
 
 abbrev pub invariant-loop-k : goal.invariant-loop-k

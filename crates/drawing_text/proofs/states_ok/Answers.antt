@@ -1,15 +1,11 @@
 -- `drawing_text::states_ok` meets its contract. The invariant: the test of the states still to come decides.
-use mathlib.Core.Path.{◌≡◌, refl, sym, ◌∙◌}
-use Prim.Native.Nat.{◌-◌, ◌≤◌}
+use mathlib.Core.Path.{refl, sym, ◌∙◌}
+use Prim.Native.Nat.{◌-◌}
 use native.Mathlib.Omega.{arith}
-use lib.ListN.{length, drop}
 use borrow.Author.Tests.{not-true, not-false}
 use Rattle.laws.specs.Every.{every, every_stop, every-step, every-end, every_map}
-use Rattle.shape.specs.Centres.{centres}
-use mathlib.Core.List.{map}
-use Rattle.drawing_text.specs.Lines.{ListedState, state_line, states_from, field_writable, fields_writable, line_writable, lines_writable}
+use Rattle.drawing_text.specs.Lines.{ListedState, state_line, field_writable, fields_writable, line_writable, lines_writable}
 use Rattle.drawing_text.proofs.Laws.{states_front, states_none}
-use borrow.Author.Rules.{rules}
 use mathlib.Core.Path.{ap}
 use mathlib.Core.Bool.{not}
 use Rattle.drawing_text.proofs.states_ok.Goals as goal

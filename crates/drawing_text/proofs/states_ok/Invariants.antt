@@ -1,13 +1,11 @@
 -- `drawing_text::states_ok` meets its contract. The invariant: the test of the states still to come decides.
-use mathlib.Core.Path.{◌≡◌, refl, sym, ◌∙◌}
+use mathlib.Core.Path.{◌≡◌}
 use Prim.Native.Nat.{◌-◌, ◌≤◌}
-use native.Mathlib.Omega.{arith}
 use lib.ListN.{length, drop}
-use Rattle.laws.specs.Every.{every, every_stop, every-step, every-end, every_map}
+use Rattle.laws.specs.Every.{every}
 use Rattle.shape.specs.Centres.{centres}
 use mathlib.Core.List.{map}
-use Rattle.drawing_text.specs.Lines.{ListedState, state_line, states_from, field_writable, fields_writable, line_writable, lines_writable}
-use Rattle.drawing_text.proofs.Laws.{states_front, states_none}
+use Rattle.drawing_text.specs.Lines.{ListedState, state_line, states_from, line_writable, lines_writable}
 use Rattle.drawing_text.proofs.states_ok.Given as goal
 
 abbrev pub invariant-loop-k : goal.invariant-loop-k

@@ -1,14 +1,10 @@
 -- `fit::cover_curve` meets its contract.
-use mathlib.Core.Path.{◌≡◌, refl, ap, ◌∙◌}
-use Prim.Native.Nat.{◌+◌}
+use mathlib.Core.Path.{refl, ap, ◌∙◌}
 use native.Mathlib.Omega.{arith}
-use Rattle.laws.specs.Loops.{over}
-use Rattle.laws.specs.Flat.{table}
 use Rattle.laws.specs.Tables.{table_step, table-end}
 use Rattle.trace.specs.Traces.{sample}
 use Rattle.shape.specs.Plane.{extended}
 use Rattle.shape.specs.Plane.{extended}
-use borrow.Author.Rules.{rules}
 use Rattle.fit.proofs.cover_curve.Goals as goal
 
 pub loop-left-init : goal.loop-left-init

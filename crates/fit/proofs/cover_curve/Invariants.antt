@@ -1,10 +1,8 @@
 -- `fit::cover_curve` meets its contract.
-use mathlib.Core.Path.{◌≡◌, refl, ap, ◌∙◌}
+use mathlib.Core.Path.{◌≡◌}
 use Prim.Native.Nat.{◌+◌}
-use native.Mathlib.Omega.{arith}
 use Rattle.laws.specs.Loops.{over}
 use Rattle.laws.specs.Flat.{table}
-use Rattle.laws.specs.Tables.{table_step, table-end}
 use Rattle.trace.specs.Traces.{sample}
 use Rattle.shape.specs.Plane.{extended}
 use Rattle.shape.specs.Plane.{extended}

@@ -1,7 +1,6 @@
 -- `fit::cover_drawn` meets its contract.
 use Rattle.shape.specs.Plane.{extended}
 use Rattle.fit.proofs.Laws.{drawn-covered}
-use borrow.Author.Rules.{rules}
 use Rattle.fit.proofs.cover_drawn.Goals as goal
 
 pub returns : goal.returns

@@ -1,18 +1,17 @@
 -- `fit::cover_records` meets its contract.
-use mathlib.Core.Path.{◌≡◌, refl, ap, ◌∙◌}
-use mathlib.Core.List.{List, flat_map}
-use Prim.Native.Nat.{ℕ, ◌+◌}
+use mathlib.Core.Path.{refl, ap, ◌∙◌}
+use mathlib.Core.List.{List}
+use Prim.Native.Nat.{ℕ}
 use native.Mathlib.Omega.{arith}
 use lib.Ieee.{Float}
 use Rattle.laws.specs.Loops.{over}
-use Rattle.laws.specs.Flat.{part, table}
+use Rattle.laws.specs.Flat.{part}
 use Rattle.laws.specs.Tables.{flat_step, flat_end}
 use Rattle.shape.specs.Plane.{extended}
 use Rattle.shape.specs.Plane.{extended}
 use Rattle.label_spots.specs.declared.Geometry.{Geometry}
-use Rattle.records.specs.Records.{decode_geometry, decode_records}
+use Rattle.records.specs.Records.{decode_geometry}
 use Rattle.fit.specs.Fit.{drawn_points}
-use borrow.Author.Rules.{rules}
 use Rattle.fit.proofs.cover_records.Goals as goal
 
 pub loop-left-init : goal.loop-left-init

@@ -2,7 +2,6 @@
 use mathlib.Core.Path.{sym, ◌∙◌}
 use Rattle.shape.specs.Plane.{extended}
 use Rattle.fit.proofs.Laws.{state_start, state_other}
-use borrow.Author.Rules.{rules}
 use Rattle.fit.proofs.cover_state.Goals as goal
 
 pub returns-then-is_start : goal.returns-then-is_start

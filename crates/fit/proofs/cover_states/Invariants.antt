@@ -1,13 +1,11 @@
 -- `fit::cover_states` meets its contract.
-use mathlib.Core.Path.{◌≡◌, refl, ◌∙◌}
+use mathlib.Core.Path.{◌≡◌}
 use Prim.Native.Nat.{◌-◌, ◌≤◌}
-use native.Mathlib.Omega.{arith}
 use lib.ListN.{length, drop}
 use Rattle.laws.specs.Loops.{over}
 use Rattle.shape.specs.Plane.{extended}
 use Rattle.shape.specs.Centres.{centres}
 use Rattle.fit.specs.Fit.{states_points}
-use Rattle.fit.proofs.Laws.{states-step, states-end}
 use Rattle.fit.proofs.cover_states.Given as goal
 
 abbrev pub invariant-loop-i : goal.invariant-loop-i

@@ -9,7 +9,6 @@ use Rattle.label_spots.specs.declared.Geometry.{Geometry}
 use Rattle.records.specs.Records.{decode_records}
 use Rattle.fit.specs.Fit.{drawing_bounds, shifted, rect_size}
 use Rattle.fit.proofs.Laws.{all-covered}
-use borrow.Author.Rules.{rules}
 use Rattle.fit.proofs.fit.Goals as goal
 
 pub returns : goal.returns

@@ -1,9 +1,8 @@
 -- `fit::to_margin` meets its contract.
-use mathlib.Core.Path.{◌≡◌, refl, ◌∙◌}
-use mathlib.Core.List.{◌++◌, map}
-use Prim.Native.Nat.{◌-◌, ◌≤◌}
+use mathlib.Core.Path.{refl, ◌∙◌}
+use Prim.Native.Nat.{◌-◌}
 use native.Mathlib.Omega.{arith}
-use lib.ListN.{length, get_or, take, drop, length-set}
+use lib.ListN.{get_or, length-set}
 use lib.Ieee.{Float, nan}
 use Rattle.laws.specs.Filled.{map-step, map-end}
 use Rattle.float.specs.Constants.{margin}

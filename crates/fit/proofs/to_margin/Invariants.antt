@@ -1,11 +1,8 @@
 -- `fit::to_margin` meets its contract.
-use mathlib.Core.Path.{◌≡◌, refl, ◌∙◌}
+use mathlib.Core.Path.{◌≡◌}
 use mathlib.Core.List.{◌++◌, map}
 use Prim.Native.Nat.{◌-◌, ◌≤◌}
-use native.Mathlib.Omega.{arith}
-use lib.ListN.{length, get_or, take, drop, length-set}
-use lib.Ieee.{Float, nan}
-use Rattle.laws.specs.Filled.{map-step, map-end}
+use lib.ListN.{length, take, drop}
 use Rattle.float.specs.Constants.{margin}
 use Rattle.float.specs.Ops.{◌⊕◌, ◌⊖◌}
 use Rattle.fit.specs.Fit.{shifted}

@@ -1,7 +1,6 @@
 -- `float::abs` meets its contract.
 use mathlib.Core.Path.{◌∙◌, sym}
 use Rattle.float.specs.Signs.{abs-negative, abs-other}
-use borrow.Author.Rules.{rules}
 use Rattle.float.proofs.abs.Goals as goal
 
 pub returns-then-negative : goal.returns-then-negative

@@ -1,9 +1,8 @@
 -- `float::arc_series` meets its contract.
-use mathlib.Core.Path.{◌≡◌, refl, sym, ◌∙◌}
-use Prim.Native.Nat.{◌≤◌}
+use mathlib.Core.Path.{refl, sym, ◌∙◌}
 use native.Mathlib.Omega.{arith}
-use Rattle.laws.specs.Loops.{down, down_step, down_done}
-use Rattle.float.specs.Standins.{arc_series, arc_term}
+use Rattle.laws.specs.Loops.{down_step, down_done}
+use Rattle.float.specs.Standins.{arc_series}
 use borrow.Author.Rules.{rules}
 use Rattle.float.proofs.arc_series.Goals as goal
 

@@ -1,8 +1,7 @@
 -- `float::arc_series` meets its contract.
-use mathlib.Core.Path.{◌≡◌, refl, sym, ◌∙◌}
+use mathlib.Core.Path.{◌≡◌}
 use Prim.Native.Nat.{◌≤◌}
-use native.Mathlib.Omega.{arith}
-use Rattle.laws.specs.Loops.{down, down_step, down_done}
+use Rattle.laws.specs.Loops.{down}
 use Rattle.float.specs.Standins.{arc_series, arc_term}
 use Rattle.float.proofs.arc_series.Given as goal
 

@@ -1,6 +1,5 @@
 -- `float::arctangent_of` meets its contract.
-use Rattle.float.specs.Standins.{arctangent_of, halved}
-use borrow.Author.Rules.{rules}
+use Rattle.float.specs.Standins.{arctangent_of}
 use Rattle.float.proofs.arctangent_of.Goals as goal
 
 pub returns : goal.returns

@@ -1,6 +1,5 @@
 -- `float::atan2` meets its contract.
 use Rattle.float.specs.Standins.{atan2}
-use borrow.Author.Rules.{rules}
 use Rattle.float.proofs.atan2.Goals as goal
 
 pub returns-then-negative : goal.returns-then-negative

@@ -1,5 +1,4 @@
 -- `float::copysign` meets its contract.
-use borrow.Author.Rules.{rules}
 use Rattle.float.proofs.copysign.Goals as goal
 
 pub returns-then-negative : goal.returns-then-negative

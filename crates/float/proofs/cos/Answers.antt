@@ -1,6 +1,5 @@
 -- `float::cos` meets its contract.
 use Rattle.float.specs.Standins.{cos}
-use borrow.Author.Rules.{rules}
 use Rattle.float.proofs.cos.Goals as goal
 
 pub returns : goal.returns

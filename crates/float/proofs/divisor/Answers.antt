@@ -2,7 +2,6 @@
 use Prim.Native.Nat.{◌+◌, ◌-◌, ◌*◌}
 use native.Mathlib.Nat.{mul-le-mul}
 use native.Mathlib.Omega.{arith}
-use borrow.Author.Rules.{rules}
 use Rattle.float.proofs.divisor.Goals as goal
 
 pub overflow_mul-result-then-sine-2 : goal.overflow_mul-result-then-sine-2

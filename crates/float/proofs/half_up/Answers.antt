@@ -5,7 +5,6 @@ use native.Mathlib.Omega.{arith}
 use lib.Bits.{bit_and, and_mask}
 use lib.Pow.{shr_le}
 use Rattle.float.specs.Rounding.{half_none, half_shifted, half_small}
-use borrow.Author.Rules.{rules}
 use Rattle.float.proofs.half_up.Goals as goal
 
 pub returns-then-field-lt1022 : goal.returns-then-field-lt1022

@@ -1,5 +1,4 @@
 -- `float::halved` meets its contract.
-use borrow.Author.Rules.{rules}
 use Rattle.float.proofs.halved.Goals as goal
 
 pub returns : goal.returns

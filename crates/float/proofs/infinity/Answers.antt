@@ -1,6 +1,5 @@
 -- `float::infinity` meets its contract.
 use lib.Ieee.{nan_bits}
-use borrow.Author.Rules.{rules}
 use Rattle.float.proofs.infinity.Goals as goal
 
 pub float_from_bits-result : goal.float_from_bits-result

@@ -1,6 +1,5 @@
 -- `float::is_finite` meets its contract.
 use Rattle.float.specs.Signs.{finite_test}
-use borrow.Author.Rules.{rules}
 use Rattle.float.proofs.is_finite.Goals as goal
 
 pub returns : goal.returns

@@ -1,7 +1,6 @@
 -- `float::precedes` meets its contract.
 use Rattle.float.specs.Standins.{precedes}
 use Rattle.laws.specs.Nan.{nan_test}
-use borrow.Author.Rules.{rules}
 use Rattle.float.proofs.precedes.Goals as goal
 
 pub returns-then-a-b : goal.returns-then-a-b

@@ -3,7 +3,6 @@ use mathlib.Core.Path.{◌≡◌}
 use mathlib.Core.Bool.{true, false}
 use Rattle.float.specs.Ops.{lt}
 use Rattle.float.specs.Standins.{quarter}
-use borrow.Author.Rules.{rules}
 use Rattle.float.proofs.quarter.Goals as goal
 
 pub returns-then-x-y : goal.returns-then-x-y

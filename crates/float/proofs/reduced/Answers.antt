@@ -1,5 +1,4 @@
 -- `float::reduced` meets its contract.
-use borrow.Author.Rules.{rules}
 use Rattle.float.specs.Standins.{reduced}
 use Rattle.float.proofs.reduced.Goals as goal
 

@@ -1,5 +1,4 @@
 -- `float::rem_euclid` meets its contract.
-use borrow.Author.Rules.{rules}
 use Rattle.float.proofs.rem_euclid.Goals as goal
 
 pub returns-then-r : goal.returns-then-r

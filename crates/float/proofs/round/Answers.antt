@@ -9,7 +9,6 @@ use Rattle.laws.specs.Nan.{is_nan_lem, no_nan}
 use Rattle.float.specs.Signs.{abs_num}
 use Rattle.float.specs.Standins.{round}
 use Rattle.float.specs.Rounding.{round-minus, round_plus, round-itself}
-use borrow.Author.Rules.{rules}
 use Rattle.float.proofs.round.Goals as goal
 
 pub returns-then-v : goal.returns-then-v

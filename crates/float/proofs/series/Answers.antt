@@ -1,9 +1,8 @@
 -- `float::series` meets its contract.
-use mathlib.Core.Path.{◌≡◌, refl, sym, ◌∙◌}
-use Prim.Native.Nat.{◌≤◌, ◌-◌}
+use mathlib.Core.Path.{refl, sym, ◌∙◌}
 use native.Mathlib.Omega.{arith}
-use Rattle.laws.specs.Loops.{down, down_step, down_done}
-use Rattle.float.specs.Standins.{series, divisor, term}
+use Rattle.laws.specs.Loops.{down_step, down_done}
+use Rattle.float.specs.Standins.{series}
 use borrow.Author.Rules.{rules}
 use Rattle.float.proofs.series.Goals as goal
 

@@ -1,8 +1,7 @@
 -- `float::series` meets its contract.
-use mathlib.Core.Path.{◌≡◌, refl, sym, ◌∙◌}
-use Prim.Native.Nat.{◌≤◌, ◌-◌}
-use native.Mathlib.Omega.{arith}
-use Rattle.laws.specs.Loops.{down, down_step, down_done}
+use mathlib.Core.Path.{◌≡◌}
+use Prim.Native.Nat.{◌≤◌}
+use Rattle.laws.specs.Loops.{down}
 use Rattle.float.specs.Standins.{series, divisor, term}
 use Rattle.float.proofs.series.Given as goal
 

@@ -1,7 +1,6 @@
 -- `float::signum` meets its contract.
 use Rattle.laws.specs.Nan.{is_nan_lem, is_num}
 use lib.Ieee.{is_nan}
-use borrow.Author.Rules.{rules}
 use Rattle.float.proofs.signum.Goals as goal
 
 pub returns-then-v : goal.returns-then-v

@@ -1,6 +1,5 @@
 -- `float::sin` meets its contract.
 use Rattle.float.specs.Standins.{sin}
-use borrow.Author.Rules.{rules}
 use Rattle.float.proofs.sin.Goals as goal
 
 pub returns : goal.returns

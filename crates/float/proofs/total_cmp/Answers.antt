@@ -1,5 +1,4 @@
 -- `float::total_cmp` meets its contract.
-use borrow.Author.Rules.{rules}
 use Rattle.float.proofs.total_cmp.Goals as goal
 
 pub returns-then-precedes : goal.returns-then-precedes

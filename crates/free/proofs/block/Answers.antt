@@ -1,7 +1,6 @@
 -- `free::block` meets its contract.
 use mathlib.Core.Path.{sym, ◌∙◌}
 use Rattle.free.proofs.Laws.{grown-end, grown-passed, grown-more}
-use borrow.Author.Rules.{rules}
 use Rattle.free.proofs.block.Goals as goal
 
 pub returns-then-is_end : goal.returns-then-is_end

@@ -1,18 +1,12 @@
 -- `free::blocked` meets its contract. The invariant: the intervals stored, and those of the states to come, are all.
-use mathlib.Core.Path.{◌≡◌, refl, sym, ap, ◌∙◌}
-use mathlib.Core.List.{List, ◌++◌, append-nil}
-use Prim.Native.Nat.{◌-◌, ◌≤◌, ◌<◌}
-use native.Mathlib.Omega.{arith}
+use mathlib.Core.Path.{◌≡◌}
+use mathlib.Core.List.{◌++◌}
+use Prim.Native.Nat.{◌-◌, ◌≤◌}
 use lib.ListN.{length, drop, take}
-use Rattle.laws.specs.Zip.{zip_by, zip_length}
-use Rattle.shape.specs.Plane.{vec}
-use Rattle.free.specs.declared.Span.{Span}
 use Rattle.shape.specs.Centres.{centres}
 use Rattle.free.specs.Chords.{others_from}
 use Rattle.free.specs.Blocked.{intervals, blocked}
 use Rattle.free.specs.Free.{spans}
-use Rattle.free.specs.Steps.{intervals-end}
-use Rattle.free.proofs.Laws.{blocked-step}
 use Rattle.free.proofs.blocked.Given as goal
 
 abbrev pub invariant-loop-k : goal.invariant-loop-k

@@ -1,6 +1,5 @@
 -- `free::chord_of` meets its contract.
 use Rattle.free.specs.Chords.{chord}
-use borrow.Author.Rules.{rules}
 use Rattle.free.proofs.chord_of.Goals as goal
 
 pub returns : goal.returns

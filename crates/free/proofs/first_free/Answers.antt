@@ -1,17 +1,15 @@
 -- `free::first_free` meets its contract. The outer invariant: the search from here is the search from the start; the ends ahead fall. The inner: the pass continued is the pass.
 use mathlib.Core.Path.{◌≡◌, refl, sym, ap, ◌∙◌}
 use mathlib.Core.Bool.{true, false}
-use Prim.Native.Nat.{◌-◌, ◌≤◌}
+use Prim.Native.Nat.{◌-◌}
 use native.Mathlib.Omega.{arith}
-use lib.ListN.{length, drop}
 use lib.Ieee.{nan}
 use borrow.Author.Rules.{rules}
 use borrow.Author.Tests.{not-true, not-false}
-use Rattle.laws.specs.Loops.{over}
 use Rattle.laws.specs.Zip.{zip_over_step, zip_over_end}
 use Rattle.free.specs.declared.Pass.{Pass}
-use Rattle.free.specs.Free.{span_from, spans, visit, pass, first_free}
-use Rattle.free.specs.Moves.{spans_ahead, pass_falls, free_still, free_moved}
+use Rattle.free.specs.Free.{span_from, spans, visit, pass}
+use Rattle.free.specs.Moves.{pass_falls, free_still, free_moved}
 use Rattle.free.proofs.first_free.Goals as goal
 
 pub loop-i-init : goal.loop-i-init

@@ -1,15 +1,10 @@
 -- `free::first_free` meets its contract. The outer invariant: the search from here is the search from the start; the ends ahead fall. The inner: the pass continued is the pass.
-use mathlib.Core.Path.{◌≡◌, refl, sym, ap, ◌∙◌}
-use mathlib.Core.Bool.{true, false}
+use mathlib.Core.Path.{◌≡◌}
 use Prim.Native.Nat.{◌-◌, ◌≤◌}
-use native.Mathlib.Omega.{arith}
 use lib.ListN.{length, drop}
-use lib.Ieee.{nan}
 use Rattle.laws.specs.Loops.{over}
-use Rattle.laws.specs.Zip.{zip_over_step, zip_over_end}
-use Rattle.free.specs.declared.Pass.{Pass}
-use Rattle.free.specs.Free.{span_from, spans, visit, pass, first_free}
-use Rattle.free.specs.Moves.{spans_ahead, pass_falls, free_still, free_moved}
+use Rattle.free.specs.Free.{spans, visit, pass, first_free}
+use Rattle.free.specs.Moves.{spans_ahead}
 use Rattle.free.proofs.first_free.Given as goal
 
 abbrev pub invariant-loop-i-2 : goal.invariant-loop-i-2

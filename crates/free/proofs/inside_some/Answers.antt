@@ -1,12 +1,11 @@
 -- `free::inside_some` meets its contract. The invariant: the intervals to come hold h exactly when all do.
-use mathlib.Core.Path.{◌≡◌, refl, sym, ◌∙◌}
-use Prim.Native.Nat.{◌-◌, ◌≤◌}
+use mathlib.Core.Path.{refl, sym, ◌∙◌}
+use Prim.Native.Nat.{◌-◌}
 use native.Mathlib.Omega.{arith}
-use lib.ListN.{length, drop}
 use lib.Ieee.{nan}
 use borrow.Author.Rules.{rules}
 use Rattle.laws.specs.Zip.{zip_drop, zip_past}
-use Rattle.free.specs.Free.{span_from, spans, inside_some}
+use Rattle.free.specs.Free.{span_from}
 use Rattle.free.specs.Steps.{holds_hit, holds_miss, holds_none}
 use Rattle.free.proofs.inside_some.Goals as goal
 

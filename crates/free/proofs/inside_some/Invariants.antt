@@ -1,12 +1,8 @@
 -- `free::inside_some` meets its contract. The invariant: the intervals to come hold h exactly when all do.
-use mathlib.Core.Path.{◌≡◌, refl, sym, ◌∙◌}
+use mathlib.Core.Path.{◌≡◌}
 use Prim.Native.Nat.{◌-◌, ◌≤◌}
-use native.Mathlib.Omega.{arith}
 use lib.ListN.{length, drop}
-use lib.Ieee.{nan}
-use Rattle.laws.specs.Zip.{zip_drop, zip_past}
-use Rattle.free.specs.Free.{span_from, spans, inside_some}
-use Rattle.free.specs.Steps.{holds_hit, holds_miss, holds_none}
+use Rattle.free.specs.Free.{spans, inside_some}
 use Rattle.free.proofs.inside_some.Given as goal
 
 abbrev pub invariant-loop-i : goal.invariant-loop-i

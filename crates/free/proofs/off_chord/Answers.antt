@@ -3,7 +3,6 @@ use mathlib.Core.Path.{ap, ◌∙◌}
 use Rattle.shape.specs.declared.«V».{«V»}
 use Rattle.shape.specs.Plane.{dot}
 use Rattle.free.proofs.Laws.{before_start, after-start}
-use borrow.Author.Rules.{rules}
 use Rattle.free.proofs.off_chord.Goals as goal
 
 pub returns-then-distance : goal.returns-then-distance

@@ -1,5 +1,4 @@
 -- `free::span_of` meets its contract.
-use borrow.Author.Rules.{rules}
 use Rattle.free.proofs.span_of.Goals as goal
 
 pub returns : goal.returns

@@ -1,7 +1,6 @@
 -- `free::visit` meets its contract.
 use mathlib.Core.Path.{refl}
 use Rattle.free.specs.Free.{visit}
-use borrow.Author.Rules.{rules}
 use Rattle.free.proofs.visit.Goals as goal
 
 pub returns-then-dir : goal.returns-then-dir

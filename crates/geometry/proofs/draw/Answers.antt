@@ -4,7 +4,6 @@ use native.Mathlib.Omega.{arith}
 use Rattle.routing.specs.Sheets.{sizes_by}
 use Rattle.curves.specs.Numbers.{many-arrows}
 use Rattle.geometry.proofs.Laws.{loops_in, drawn_of_lem}
-use borrow.Author.Rules.{rules}
 use Rattle.geometry.proofs.draw.Goals as goal
 
 pub run-requires : goal.run-requires

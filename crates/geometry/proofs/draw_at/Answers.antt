@@ -8,7 +8,6 @@ use Rattle.routing.specs.Routing.{Frame, BlockSize}
 use Rattle.routing.specs.Sheets.{sizes_by}
 use Rattle.geometry.specs.Geometry.{record_count, numbers}
 use Rattle.geometry.proofs.Laws.{centred-frame}
-use borrow.Author.Rules.{rules}
 use Rattle.geometry.proofs.draw_at.Goals as goal
 
 pub draw-requires : goal.draw-requires

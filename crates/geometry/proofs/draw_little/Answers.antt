@@ -1,5 +1,4 @@
 -- `geometry::draw_little` meets its contract.
-use borrow.Author.Rules.{rules}
 use Rattle.geometry.proofs.draw_little.Goals as goal
 
 pub shape_of-cx : goal.shape_of-cx

@@ -1,5 +1,4 @@
 -- `geometry::draw_sized` meets its contract.
-use borrow.Author.Rules.{rules}
 use Rattle.geometry.proofs.draw_sized.Goals as goal
 
 pub shape_of-cx-then-sources-le-FEW : goal.shape_of-cx-then-sources-le-FEW

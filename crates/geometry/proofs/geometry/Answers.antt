@@ -4,7 +4,6 @@ use native.Mathlib.Omega.{arith}
 use lib.ListN.{length}
 use lib.Seq.{length-take-le}
 use Rattle.geometry.proofs.Laws.{taken-same, taken_few}
-use borrow.Author.Rules.{rules}
 use Rattle.geometry.proofs.geometry.Goals as goal
 
 pub slice_bounds-draw_sized-end : goal.slice_bounds-draw_sized-end

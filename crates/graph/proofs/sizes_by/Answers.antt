@@ -5,7 +5,6 @@ use Prim.Native.Nat.{ℕ}
 use Rattle.laws.specs.Filled.{put_whole}
 use Rattle.meaning.specs.Read.{first_lines, heads_length}
 use Rattle.graph.specs.Sizes.{width_from, height_from, widths_are, heights_are}
-use borrow.Author.Rules.{rules}
 use Rattle.graph.proofs.sizes_by.Goals as goal
 
 pub returns : goal.returns

@@ -1,12 +1,8 @@
 -- `graph::sizes_from` meets its contract.
-use mathlib.Core.Path.{◌≡◌, refl, ap, ◌∙◌}
-use mathlib.Core.List.{List, ◌++◌, map}
-use Prim.Native.Nat.{ℕ, ◌-◌, ◌≤◌}
-use native.Mathlib.Omega.{arith}
-use lib.ListN.{length, take, drop, length-set}
-use lib.Ieee.{Float}
-use Rattle.laws.specs.Filled.{into_step, into_end}
-use Rattle.label.specs.declared.Block.{Block}
+use mathlib.Core.Path.{◌≡◌}
+use mathlib.Core.List.{◌++◌, map}
+use Prim.Native.Nat.{◌-◌, ◌≤◌}
+use lib.ListN.{length, take, drop}
 use Rattle.graph.specs.Sizes.{width_from, height_from}
 use Rattle.graph.proofs.sizes_from.Given as goal
 

@@ -2,7 +2,6 @@
 use mathlib.Core.Path.{sym, ◌∙◌}
 use native.Mathlib.Omega.{arith}
 use lib.Seq.{length-take-le}
-use borrow.Author.Rules.{rules}
 use Rattle.graph.proofs.sizes_into.Goals as goal
 
 pub slice_bounds-sizes_by-end : goal.slice_bounds-sizes_by-end

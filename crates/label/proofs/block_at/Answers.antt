@@ -1,6 +1,5 @@
 -- `label::block_at` meets its contract.
 use Rattle.label.proofs.Laws.{block_is}
-use Rattle.std.proofs.Common.{rules}
 use Rattle.label.proofs.block_at.Goals as goal
 
 pub returns : goal.returns

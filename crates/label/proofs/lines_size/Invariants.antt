@@ -1,12 +1,8 @@
 -- `label::lines_size` meets its contract. The invariant: the size continued from this line is the size of all lines.
-use Rattle.std.proofs.Common.{◌≡◌, ◌+◌, ◌-◌, ◌≤◌, length, get_or, take, drop, refl, ap, ◌∙◌, arith, rules}
-use lib.Ieee.{Float}
+use Rattle.std.proofs.Common.{◌≡◌, ◌+◌, ◌-◌, ◌≤◌, length, drop}
 use Rattle.float.specs.Constants.{f0}
-use Rattle.label.specs.declared.Measure.{Measure}
-use Rattle.label.specs.declared.Sized.TheVariants.{Size}
 use Rattle.label.specs.Label.{block_height, cut, total_length}
-use Rattle.label.specs.Measuring.{measure_all, lines_size}
-use Rattle.label.proofs.Laws.{line_ill, line_well, lines_end, total-at}
+use Rattle.label.specs.Measuring.{lines_size}
 use Rattle.label.proofs.lines_size.Given as goal
 
 abbrev pub invariant-loop-i : goal.invariant-loop-i

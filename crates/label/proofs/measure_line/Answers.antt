@@ -1,8 +1,8 @@
 -- `label::measure_line` meets its contract. The invariant: the measure continued from this piece is the measure of the line.
-use Rattle.std.proofs.Common.{◌≡◌, ℕ, ◌+◌, ◌-◌, ◌*◌, ◌<◌, take, drop, ap, ◌∙◌, arith, rules}
+use Rattle.std.proofs.Common.{ℕ, ◌+◌, ◌-◌, ◌*◌, take, drop, ap, ◌∙◌, arith}
 use mathlib.Core.List.{flat_map}
-use Rattle.sheet.specs.Sheet.{chain_by, piece, line_of}
-use Rattle.label.specs.Measuring.{measure_of, measure_all, measure_start}
+use Rattle.sheet.specs.Sheet.{chain_by, piece}
+use Rattle.label.specs.Measuring.{measure_of, measure_all}
 use Rattle.label.proofs.Laws.{chain_over_end, chain_over_cut, chain_over_step, line_measure_start}
 use Rattle.reader.specs.declared.Record.{Record}
 use Rattle.label.proofs.measure_line.Goals as goal
@@ -21,12 +21,12 @@ measure_part-m-requires c = tt
 
 pub loop-i-preserved : goal.loop-i-preserved
 loop-i-preserved c = let s = c.args.s.now in (
-      ap (λ (j : ℕ). measure_all c.measure_part-m.result (flat_map (piece s) (chain_by s (c.loop-i.left - 1) j))) c.next_of-i.ensures.0
-          ∙ chain_over_step measure_of s (piece s) c.loop-i.left c.loop-i.i c.loop-i.m c.measure_part-m.result
-          (c.measure_part-m.ensures ∙ ap (λ (b : ℕ). measure_all c.loop-i.m (take b (drop (16 * c.loop-i.i + 4) s))) (ap (λ (x : Record). x.one) c.record_of-d-in-loop-i.ensures.0)) c.if-left-eq0.false c.loop-i-test.true
-          ∙ c.loop-i.invariant.0,
-      omega arith,
-    )
+  ap (λ (j : ℕ). measure_all c.measure_part-m.result (flat_map (piece s) (chain_by s (c.loop-i.left - 1) j))) c.next_of-i.ensures.0
+      ∙ chain_over_step measure_of s (piece s) c.loop-i.left c.loop-i.i c.loop-i.m c.measure_part-m.result
+      (c.measure_part-m.ensures ∙ ap (λ (b : ℕ). measure_all c.loop-i.m (take b (drop (16 * c.loop-i.i + 4) s))) (ap (λ (x : Record). x.one) c.record_of-d-in-loop-i.ensures.0)) c.if-left-eq0.false c.loop-i-test.true
+      ∙ c.loop-i.invariant.0,
+  omega arith,
+)
 
 pub returns : goal.returns
 returns c = chain_over_end measure_of c.args.s.now (piece c.args.s.now) c.loop-i.left c.loop-i.i c.loop-i.m c.loop-i-test.false ∙ c.loop-i.invariant.0

@@ -1,10 +1,8 @@
 -- `label::measure_line` meets its contract. The invariant: the measure continued from this piece is the measure of the line.
-use Rattle.std.proofs.Common.{◌≡◌, ℕ, ◌+◌, ◌-◌, ◌*◌, ◌<◌, take, drop, ap, ◌∙◌, arith, rules}
+use Rattle.std.proofs.Common.{◌≡◌, ◌-◌, ◌<◌}
 use mathlib.Core.List.{flat_map}
 use Rattle.sheet.specs.Sheet.{chain_by, piece, line_of}
-use Rattle.label.specs.Measuring.{measure_of, measure_all, measure_start}
-use Rattle.label.proofs.Laws.{chain_over_end, chain_over_cut, chain_over_step, line_measure_start}
-use Rattle.reader.specs.declared.Record.{Record}
+use Rattle.label.specs.Measuring.{measure_all, measure_start}
 use Rattle.label.proofs.measure_line.Given as goal
 
 abbrev pub invariant-loop-i : goal.invariant-loop-i

@@ -1,7 +1,6 @@
 -- `label::measure_part` meets its contract. The invariant: the measure continued from here is the measure from the start.
-use Rattle.std.proofs.Common.{take, drop, refl, arith}
-use Rattle.laws.specs.Loops.{Folds, folds_step, folds_none, folds_past}
-use Rattle.label.specs.Measuring.{measure_all, measure_of}
+use Rattle.std.proofs.Common.{refl, arith}
+use Rattle.laws.specs.Loops.{folds_step, folds_none, folds_past}
 use Rattle.label.proofs.measure_part.Goals as goal
 
 pub loop-left-init : goal.loop-left-init

@@ -1,10 +1,8 @@
 -- `label::widest` meets its contract. The invariant: the width continued from this line is the width of the block.
-use Rattle.std.proofs.Common.{◌≡◌, ℕ, ◌-◌, ◌<◌, map, ap, ◌∙◌, arith, rules}
+use Rattle.std.proofs.Common.{◌≡◌, ◌-◌, ◌<◌, map}
 use Rattle.laws.specs.Loops.{over}
 use Rattle.sheet.specs.Sheet.{chain_by, line_of, lines_from}
 use Rattle.label.specs.Label.{wider_line, block_width}
-use Rattle.sheet.specs.Chains.{things_end, things_cut, things_step}
-use Rattle.label.proofs.Laws.{block_start, wider-measured}
 use Rattle.label.proofs.widest.Given as goal
 
 abbrev pub invariant-loop-i : goal.invariant-loop-i

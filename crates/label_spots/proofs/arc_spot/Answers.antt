@@ -3,7 +3,6 @@ use mathlib.Core.Path.{refl}
 use mathlib.Core.Bool.{true, false}
 use Rattle.float.specs.Ops.{neg}
 use Rattle.label_spots.proofs.Laws.{arc_is}
-use borrow.Author.Rules.{rules}
 use Rattle.label_spots.proofs.arc_spot.Goals as goal
 
 pub returns-then-j : goal.returns-then-j

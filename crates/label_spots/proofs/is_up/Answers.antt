@@ -1,6 +1,5 @@
 -- `label_spots::is_up` meets its contract.
 use Rattle.label_spots.specs.Spots.{is_up}
-use borrow.Author.Rules.{rules}
 use Rattle.label_spots.proofs.is_up.Goals as goal
 
 pub returns-then-v : goal.returns-then-v

@@ -1,6 +1,5 @@
 -- `label_spots::labelled` meets its contract.
 use Rattle.label_spots.specs.Labels.{labelled}
-use borrow.Author.Rules.{rules}
 use Rattle.label_spots.proofs.labelled.Goals as goal
 
 pub returns : goal.returns

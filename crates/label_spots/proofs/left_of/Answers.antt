@@ -1,5 +1,4 @@
 -- `label_spots::left_of` meets its contract.
-use borrow.Author.Rules.{rules}
 use Rattle.label_spots.proofs.left_of.Goals as goal
 
 pub returns-in-Middle : goal.returns-in-Middle

@@ -2,7 +2,6 @@
 use mathlib.Core.Path.{refl}
 use mathlib.Core.Bool.{true, false}
 use Rattle.label_spots.proofs.Laws.{line_spot_is}
-use borrow.Author.Rules.{rules}
 use Rattle.label_spots.proofs.line_spot.Goals as goal
 
 pub returns-then-j : goal.returns-then-j

@@ -1,6 +1,5 @@
 -- `label_spots::normal` meets its contract.
 use Rattle.label_spots.specs.Spots.{normal}
-use borrow.Author.Rules.{rules}
 use Rattle.label_spots.proofs.normal.Goals as goal
 
 pub returns : goal.returns

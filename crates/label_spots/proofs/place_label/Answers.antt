@@ -1,6 +1,5 @@
 -- `label_spots::place_label` meets its contract.
 use Rattle.label_spots.specs.Labels.{place_label}
-use borrow.Author.Rules.{rules}
 use Rattle.label_spots.proofs.place_label.Goals as goal
 
 pub returns-then-across : goal.returns-then-across

@@ -1,6 +1,5 @@
 -- `label_spots::spot_at` meets its contract.
 use Rattle.label_spots.proofs.Laws.{below-line, below-arc, at-line, at-arc, at_loop}
-use borrow.Author.Rules.{rules}
 use Rattle.label_spots.proofs.spot_at.Goals as goal
 
 pub line_spot-requires : goal.line_spot-requires

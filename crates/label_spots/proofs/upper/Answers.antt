@@ -1,6 +1,5 @@
 -- `label_spots::upper` meets its contract.
 use Rattle.label_spots.specs.Spots.{upper}
-use borrow.Author.Rules.{rules}
 use Rattle.label_spots.proofs.upper.Goals as goal
 
 pub returns-then-is_up : goal.returns-then-is_up

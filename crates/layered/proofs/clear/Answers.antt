@@ -1,8 +1,8 @@
 -- `layered::clear` meets its contract.
-use mathlib.Core.Path.{◌≡◌, refl, sym, ◌∙◌}
-use Prim.Native.Nat.{◌-◌, ◌≤◌}
+use mathlib.Core.Path.{refl, sym, ◌∙◌}
+use Prim.Native.Nat.{◌-◌}
 use native.Mathlib.Omega.{arith}
-use lib.ListN.{length, take, replicate, length-replicate, get_or-replicate, length-set}
+use lib.ListN.{length, replicate, length-replicate, get_or-replicate, length-set}
 use Rattle.laws.specs.Filled.{fill_more, fill_end}
 use Rattle.float.specs.Constants.{f0}
 use borrow.Author.Rules.{rules}

@@ -1,9 +1,7 @@
 -- `layered::clear` meets its contract.
-use mathlib.Core.Path.{◌≡◌, refl, sym, ◌∙◌}
+use mathlib.Core.Path.{◌≡◌}
 use Prim.Native.Nat.{◌-◌, ◌≤◌}
-use native.Mathlib.Omega.{arith}
-use lib.ListN.{length, take, replicate, length-replicate, get_or-replicate, length-set}
-use Rattle.laws.specs.Filled.{fill_more, fill_end}
+use lib.ListN.{length, take, replicate}
 use Rattle.float.specs.Constants.{f0}
 use Rattle.layered.proofs.clear.Given as goal
 

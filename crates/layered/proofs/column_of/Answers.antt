@@ -1,10 +1,9 @@
 -- `layered::column_of` meets its contract.
-use mathlib.Core.Path.{◌≡◌, refl, sym, ap, ◌∙◌}
-use Prim.Native.Nat.{ℕ, ◌+◌, ◌-◌, ◌≤◌}
+use mathlib.Core.Path.{refl, sym, ap, ◌∙◌}
+use Prim.Native.Nat.{ℕ, ◌+◌, ◌-◌}
 use native.Mathlib.Omega.{arith}
-use lib.ListN.{length, get_or, take, drop}
-use Rattle.laws.specs.Split.{split, sum_all, sum_next, sum_fits}
-use Rattle.layered.specs.Layered.{column_of}
+use lib.ListN.{get_or, drop}
+use Rattle.laws.specs.Split.{sum_all, sum_next, sum_fits}
 use Rattle.layered.proofs.Laws.{column_hit, column_miss, column_none}
 use borrow.Author.Rules.{rules}
 use Rattle.layered.proofs.column_of.Goals as goal

@@ -1,11 +1,9 @@
 -- `layered::column_of` meets its contract.
-use mathlib.Core.Path.{◌≡◌, refl, sym, ap, ◌∙◌}
-use Prim.Native.Nat.{ℕ, ◌+◌, ◌-◌, ◌≤◌}
-use native.Mathlib.Omega.{arith}
-use lib.ListN.{length, get_or, take, drop}
-use Rattle.laws.specs.Split.{split, sum_all, sum_next, sum_fits}
+use mathlib.Core.Path.{◌≡◌}
+use Prim.Native.Nat.{◌+◌, ◌-◌, ◌≤◌}
+use lib.ListN.{length, take, drop}
+use Rattle.laws.specs.Split.{split, sum_all}
 use Rattle.layered.specs.Layered.{column_of}
-use Rattle.layered.proofs.Laws.{column_hit, column_miss, column_none}
 use Rattle.layered.proofs.column_of.Given as goal
 
 abbrev pub invariant-loop-l : goal.invariant-loop-l

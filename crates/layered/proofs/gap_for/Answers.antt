@@ -1,6 +1,5 @@
 -- `layered::gap_for` meets its contract.
 use Rattle.layered.specs.Layered.{column_gap}
-use borrow.Author.Rules.{rules}
 use Rattle.layered.proofs.gap_for.Goals as goal
 
 pub returns : goal.returns

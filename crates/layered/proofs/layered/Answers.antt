@@ -2,7 +2,6 @@
 use mathlib.Core.Path.{refl, sym}
 use native.Mathlib.Omega.{arith}
 use lib.Seq.{length-take-le}
-use borrow.Author.Rules.{rules}
 use Rattle.layered.proofs.layered.Goals as goal
 
 pub slice_bounds-place-end : goal.slice_bounds-place-end

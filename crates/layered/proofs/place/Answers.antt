@@ -7,7 +7,6 @@ use lib.Seq.{length-take-le}
 use Rattle.laws.specs.Split.{split}
 use Rattle.columns.specs.Columns.{end_pairs, columns}
 use Rattle.layered.proofs.Laws.{xs_are, ys_are}
-use borrow.Author.Rules.{rules}
 use Rattle.layered.proofs.place.Goals as goal
 
 pub slice_bounds-put_xs-end-2 : goal.slice_bounds-put_xs-end-2

@@ -1,11 +1,11 @@
 -- `layered::put_xs` meets its contract.
 use mathlib.Core.Path.{◌≡◌, refl, sym, ap, ◌∙◌}
 use mathlib.Core.List.{map}
-use Prim.Native.Nat.{ℕ, ◌-◌, ◌≤◌, ◌^◌}
+use Prim.Native.Nat.{ℕ, ◌-◌, ◌^◌}
 use native.Mathlib.Nat.{zero-add}
 use native.Mathlib.Omega.{arith}
 use lib.Dec.{le→leb}
-use lib.ListN.{length, take, length-map, length-set}
+use lib.ListN.{length, length-map, length-set}
 use lib.Ieee.{Float, nan, in_float}
 use Rattle.laws.specs.Counting.{table-length}
 use Rattle.laws.specs.Split.{split}

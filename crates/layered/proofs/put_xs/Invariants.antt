@@ -1,17 +1,9 @@
 -- `layered::put_xs` meets its contract.
-use mathlib.Core.Path.{◌≡◌, refl, sym, ap, ◌∙◌}
+use mathlib.Core.Path.{◌≡◌}
 use mathlib.Core.List.{map}
-use Prim.Native.Nat.{ℕ, ◌-◌, ◌≤◌, ◌^◌}
-use native.Mathlib.Nat.{zero-add}
-use native.Mathlib.Omega.{arith}
-use lib.Dec.{le→leb}
-use lib.ListN.{length, take, length-map, length-set}
-use lib.Ieee.{Float, nan, in_float}
-use Rattle.laws.specs.Counting.{table-length}
+use Prim.Native.Nat.{ℕ, ◌-◌, ◌≤◌}
+use lib.ListN.{length, take}
 use Rattle.laws.specs.Split.{split}
-use Rattle.laws.specs.Filled.{fill_more, fill_end}
-use Rattle.laws.specs.Lists.{map_at}
-use Rattle.laws.specs.Tables.{table_at}
 use Rattle.float.specs.Ops.{◌⊗◌, of_nat}
 use Rattle.columns.specs.Columns.{state_numbers}
 use Rattle.layered.specs.Layered.{column_of}

@@ -1,6 +1,5 @@
 -- `layered::row_for` meets its contract.
 use Rattle.layered.specs.Layered.{row}
-use borrow.Author.Rules.{rules}
 use Rattle.layered.proofs.row_for.Goals as goal
 
 pub returns : goal.returns

@@ -1,9 +1,9 @@
 -- `layered::scale` meets its contract.
-use mathlib.Core.Path.{◌≡◌, refl, ap, ◌∙◌}
+use mathlib.Core.Path.{refl, ap, ◌∙◌}
 use mathlib.Core.List.{map}
-use Prim.Native.Nat.{◌-◌, ◌≤◌}
+use Prim.Native.Nat.{◌-◌}
 use native.Mathlib.Omega.{arith}
-use lib.ListN.{length, take, drop, get_or, length-map, length-set}
+use lib.ListN.{get_or, length-map, length-set}
 use lib.Ieee.{Float, nan}
 use Rattle.laws.specs.Filled.{fill_more, fill_end}
 use Rattle.laws.specs.Lists.{map_at}

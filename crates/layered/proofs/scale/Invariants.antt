@@ -1,14 +1,10 @@
 -- `layered::scale` meets its contract.
-use mathlib.Core.Path.{◌≡◌, refl, ap, ◌∙◌}
+use mathlib.Core.Path.{◌≡◌}
 use mathlib.Core.List.{map}
 use Prim.Native.Nat.{◌-◌, ◌≤◌}
-use native.Mathlib.Omega.{arith}
-use lib.ListN.{length, take, drop, get_or, length-map, length-set}
-use lib.Ieee.{Float, nan}
-use Rattle.laws.specs.Filled.{fill_more, fill_end}
-use Rattle.laws.specs.Lists.{map_at}
+use lib.ListN.{length, take, drop}
+use lib.Ieee.{Float}
 use Rattle.float.specs.Ops.{◌⊗◌}
-use Rattle.layered.proofs.Laws.{rest_read, rest-set}
 use Rattle.layered.proofs.scale.Given as goal
 
 abbrev pub invariant-loop-v : goal.invariant-loop-v

@@ -5,7 +5,6 @@ use lib.ListN.{length}
 use Rattle.layout.specs.Layout.{Plan, plan_by}
 use Rattle.layout.specs.Slices.{ring-slices}
 use Rattle.layout.specs.Laws.{auto_ring, auto_layers}
-use borrow.Author.Rules.{rules}
 use Rattle.layout.proofs.auto_at.Goals as goal
 
 pub shape_of-xs-then-takes_ring : goal.shape_of-xs-then-takes_ring

@@ -5,7 +5,6 @@ use mathlib.Core.Path.{◌≡◌, ◌∙◌}
 use lib.ListN.{length}
 use Rattle.layout.specs.Slices.{ring-slices}
 use Rattle.layout.specs.Laws.{kind_auto, kind_layers, kind_ring}
-use borrow.Author.Rules.{rules}
 use Rattle.layout.proofs.choose.Goals as goal
 
 pub shape_of-xs-in-0 : goal.shape_of-xs-in-0

@@ -2,7 +2,6 @@
 use native.Mathlib.Omega.{arith}
 use mathlib.Core.Path.{sym}
 use lib.Seq.{length-take-le}
-use borrow.Author.Rules.{rules}
 use Rattle.layout.proofs.clutter_at.Goals as goal
 
 pub slice_bounds-clutter_by-end : goal.slice_bounds-clutter_by-end

@@ -8,7 +8,6 @@ use Rattle.layout.specs.Layout.{Plan, plan_by, placing, plan_frame}
 use mathlib.Core.Path.{◌≡◌, ap, ◌∙◌}
 use Rattle.layout.specs.Slices.{reads_drawn}
 use Rattle.layout.specs.Laws.{clutter_counted}
-use borrow.Author.Rules.{rules}
 use Rattle.layout.proofs.clutter_by.Goals as goal
 
 pub clutter-requires : goal.clutter-requires

@@ -5,7 +5,6 @@ use Rattle.routing.specs.Sheets.{ends_by}
 use Rattle.layout.specs.Layout.{Plan, plan_by, placing, plan_frame}
 use Rattle.layout.specs.Slices.{reads_drawn}
 use Rattle.layout.specs.Laws.{fitted-left}
-use borrow.Author.Rules.{rules}
 use Rattle.layout.proofs.fit_at.Goals as goal
 
 pub fit-requires : goal.fit-requires

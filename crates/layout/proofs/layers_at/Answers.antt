@@ -4,7 +4,6 @@ use native.Mathlib.Omega.{arith}
 use lib.ListN.{length}
 use Rattle.sheet.specs.Starts.{start-below}
 use Rattle.layout.specs.Slices.{layers_done}
-use borrow.Author.Rules.{rules}
 use Rattle.layout.proofs.layers_at.Goals as goal
 
 pub layered-requires : goal.layered-requires

@@ -1,7 +1,6 @@
 -- `layout::layers_clutter` meets its contract.
 use mathlib.Core.Path.{ap, ◌∙◌}
 use Rattle.layout.specs.Layout.{Plan, plan_by, clutter_at}
-use borrow.Author.Rules.{rules}
 use Rattle.layout.proofs.layers_clutter.Goals as goal
 
 pub shape_of-xs : goal.shape_of-xs

@@ -3,7 +3,6 @@ use native.Mathlib.Omega.{arith}
 use Rattle.layout.specs.Layout.{Plan, plan_by}
 use mathlib.Core.Path.{refl, ◌∙◌}
 use Rattle.layout.specs.Laws.{left_none, left-chosen}
-use borrow.Author.Rules.{rules}
 use Rattle.layout.proofs.layout.Goals as goal
 
 pub returns-then-flags-eq0 : goal.returns-then-flags-eq0

@@ -4,7 +4,6 @@ use native.Mathlib.Omega.{arith}
 use lib.ListN.{length}
 use Rattle.sheet.specs.Starts.{start-below}
 use Rattle.layout.specs.Slices.{ring_done}
-use borrow.Author.Rules.{rules}
 use Rattle.layout.proofs.ring_at.Goals as goal
 
 pub circular-requires : goal.circular-requires

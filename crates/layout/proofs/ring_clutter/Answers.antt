@@ -4,7 +4,6 @@ use native.Mathlib.Omega.{arith}
 use lib.ListN.{length}
 use Rattle.layout.specs.Layout.{Plan, plan_by, clutter_at}
 use Rattle.layout.specs.Slices.{ring-slices}
-use borrow.Author.Rules.{rules}
 use Rattle.layout.proofs.ring_clutter.Goals as goal
 
 pub shape_of-xs : goal.shape_of-xs

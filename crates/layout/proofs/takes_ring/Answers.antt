@@ -8,7 +8,6 @@ use Rattle.routing.specs.Sheets.{ends_by}
 use Rattle.layout.specs.Layout.{Plan, plan_by, ring, clutter_at, is_dense}
 use Rattle.layout.specs.Slices.{dense-slices}
 use Rattle.layout.specs.Laws.{clutter_most, ring-dense, ring_tangled}
-use borrow.Author.Rules.{rules}
 use Rattle.layout.proofs.takes_ring.Goals as goal
 
 pub returns-then-dense : goal.returns-then-dense

@@ -1,5 +1,4 @@
 use Rattle.meaning.proofs.Laws.{count-arrows}
-use borrow.Author.Rules.{rules}
 use Rattle.meaning.proofs.arrow_count.Goals as goal
 
 pub returns : goal.returns

@@ -1,9 +1,7 @@
-use mathlib.Core.Path.{◌≡◌, ◌∙◌, ap}
-use Prim.Native.Nat.{ℕ, ◌+◌, ◌-◌, ◌<◌}
-use native.Mathlib.Omega.{arith}
+use mathlib.Core.Path.{◌≡◌}
+use Prim.Native.Nat.{◌+◌, ◌<◌}
 use lib.ListN.{length}
 use Rattle.sheet.specs.Sheet.{chain, chain_by, count}
-use Rattle.meaning.proofs.Laws.{length-end, length_cut, length-step}
 use Rattle.meaning.proofs.chain_length.Given as goal
 
 abbrev pub invariant-loop-i : goal.invariant-loop-i

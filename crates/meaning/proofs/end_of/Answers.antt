@@ -1,6 +1,5 @@
 use mathlib.Core.Path.{ap}
 use Rattle.reader.specs.declared.Record.{Record}
-use borrow.Author.Rules.{rules}
 use Rattle.meaning.proofs.end_of.Goals as goal
 
 pub returns-then-to : goal.returns-then-to

@@ -1,11 +1,5 @@
-use mathlib.Core.Path.{◌≡◌}
-use mathlib.Core.List.{map}
-use Prim.Native.Nat.{◌+◌, ◌<◌}
 use native.Mathlib.Omega.{arith}
-use Rattle.sheet.specs.Sheet.{count, arrow_chain}
-use Rattle.meaning.specs.Read.{end_of}
-use Rattle.meaning.proofs.Laws.{Fills, fills_start, fills_cut, fills_end, fills_step}
-use borrow.Author.Rules.{rules}
+use Rattle.meaning.proofs.Laws.{fills_start, fills_cut, fills_end, fills_step}
 use Rattle.meaning.proofs.ends_into.Goals as goal
 
 pub loop-i-init : goal.loop-i-init

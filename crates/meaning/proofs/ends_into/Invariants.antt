@@ -1,10 +1,9 @@
 use mathlib.Core.Path.{◌≡◌}
 use mathlib.Core.List.{map}
 use Prim.Native.Nat.{◌+◌, ◌<◌}
-use native.Mathlib.Omega.{arith}
 use Rattle.sheet.specs.Sheet.{count, arrow_chain}
 use Rattle.meaning.specs.Read.{end_of}
-use Rattle.meaning.proofs.Laws.{Fills, fills_start, fills_cut, fills_end, fills_step}
+use Rattle.meaning.proofs.Laws.{Fills}
 use Rattle.meaning.proofs.ends_into.Given as goal
 
 abbrev pub invariant-loop-i : goal.invariant-loop-i

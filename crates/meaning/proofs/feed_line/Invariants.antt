@@ -1,11 +1,8 @@
-use mathlib.Core.Path.{◌≡◌, ◌∙◌, ap}
+use mathlib.Core.Path.{◌≡◌}
 use mathlib.Core.List.{flat_map}
-use Prim.Native.Nat.{ℕ, ◌-◌, ◌<◌}
-use native.Mathlib.Omega.{arith}
+use Prim.Native.Nat.{◌<◌}
 use Rattle.text.specs.Automaton.{feed_all}
 use Rattle.sheet.specs.Sheet.{chain_by, piece, line_of}
-use Rattle.meaning.proofs.Laws.{feed-end, feed-cut, feed-step, feed-start}
-use Rattle.reader.specs.declared.Record.{Record}
 use Rattle.meaning.proofs.feed_line.Given as goal
 
 abbrev pub invariant-loop-i : goal.invariant-loop-i

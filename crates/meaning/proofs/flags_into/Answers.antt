@@ -1,11 +1,7 @@
-use mathlib.Core.Path.{◌≡◌, ap}
-use mathlib.Core.List.{map}
-use Prim.Native.Nat.{◌+◌, ◌<◌}
+use mathlib.Core.Path.{ap}
 use native.Mathlib.Omega.{arith}
-use Rattle.sheet.specs.Sheet.{count, byte_one, state_chain}
 use Rattle.meaning.specs.Read.{flags_are}
-use Rattle.meaning.proofs.Laws.{Fills, fills_start, fills_cut, fills_end, fills_step}
-use borrow.Author.Rules.{rules}
+use Rattle.meaning.proofs.Laws.{fills_start, fills_cut, fills_end, fills_step}
 use Rattle.reader.specs.declared.Record.{Record}
 use Rattle.meaning.proofs.flags_into.Goals as goal
 

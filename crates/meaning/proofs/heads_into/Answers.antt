@@ -1,10 +1,7 @@
-use mathlib.Core.Path.{◌≡◌, ap}
-use Prim.Native.Nat.{◌+◌, ◌<◌}
+use mathlib.Core.Path.{ap}
 use native.Mathlib.Omega.{arith}
-use Rattle.sheet.specs.Sheet.{count, first_line}
 use Rattle.meaning.specs.Read.{first_lines}
-use Rattle.meaning.proofs.Laws.{Fills, fills_start, fills_cut, fills_end, fills_step}
-use borrow.Author.Rules.{rules}
+use Rattle.meaning.proofs.Laws.{fills_start, fills_cut, fills_end, fills_step}
 use Rattle.reader.specs.declared.Record.{Record}
 use Rattle.meaning.proofs.heads_into.Goals as goal
 

@@ -1,10 +1,8 @@
-use mathlib.Core.Path.{◌≡◌, ap}
+use mathlib.Core.Path.{◌≡◌}
 use Prim.Native.Nat.{◌+◌, ◌<◌}
-use native.Mathlib.Omega.{arith}
 use Rattle.sheet.specs.Sheet.{count, first_line}
 use Rattle.meaning.specs.Read.{first_lines}
-use Rattle.meaning.proofs.Laws.{Fills, fills_start, fills_cut, fills_end, fills_step}
-use Rattle.reader.specs.declared.Record.{Record}
+use Rattle.meaning.proofs.Laws.{Fills}
 use Rattle.meaning.proofs.heads_into.Given as goal
 
 abbrev pub invariant-loop-i : goal.invariant-loop-i

@@ -1,13 +1,9 @@
-use mathlib.Core.Path.{◌≡◌, ◌∙◌, ap}
+use mathlib.Core.Path.{◌≡◌}
 use mathlib.Core.List.{map}
-use Prim.Native.Nat.{ℕ, ◌-◌, ◌<◌}
-use native.Mathlib.Omega.{arith}
+use Prim.Native.Nat.{◌<◌}
 use Rattle.laws.specs.Any.{any_of}
 use Rattle.sheet.specs.Sheet.{chain_by, arrow_of, meaning}
 use Rattle.sheet.specs.Refusals.{ill_arrow, ill_formed}
-use Rattle.sheet.specs.Chains.{along_end, along_cut, along_hit, along_miss}
-use Rattle.meaning.proofs.Laws.{arrows-start, ill_arrow_lem}
-use Rattle.reader.specs.declared.Record.{Record}
 use Rattle.meaning.proofs.ill_formed.Given as goal
 
 abbrev pub invariant-loop-i : goal.invariant-loop-i

@@ -1,5 +1,4 @@
 use Rattle.meaning.proofs.Laws.{ill_line_lem}
-use borrow.Author.Rules.{rules}
 use Rattle.meaning.proofs.ill_line.Goals as goal
 
 pub returns : goal.returns

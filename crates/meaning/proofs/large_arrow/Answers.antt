@@ -1,6 +1,5 @@
 use mathlib.Core.Path.{ap}
 use Rattle.meaning.proofs.Laws.{large_lines, large_rest}
-use borrow.Author.Rules.{rules}
 use Rattle.reader.specs.declared.Record.{Record}
 use Rattle.meaning.proofs.large_arrow.Goals as goal
 

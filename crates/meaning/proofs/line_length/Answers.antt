@@ -1,11 +1,10 @@
 use mathlib.Core.Path.{◌≡◌, ◌∙◌, ap}
 use mathlib.Core.List.{flat_map}
-use Prim.Native.Nat.{ℕ, ◌+◌, ◌-◌, ◌*◌, ◌<◌, ◌≤◌}
+use Prim.Native.Nat.{ℕ, ◌+◌, ◌-◌, ◌*◌}
 use native.Mathlib.Omega.{arith}
 use lib.ListN.{length}
-use Rattle.sheet.specs.Sheet.{chain_by, piece, line_of}
+use Rattle.sheet.specs.Sheet.{chain_by, piece}
 use Rattle.meaning.proofs.Laws.{bytes-end, bytes_cut, bytes-step, line-start}
-use borrow.Author.Rules.{rules}
 use Rattle.reader.specs.declared.Record.{Record}
 use Rattle.meaning.proofs.line_length.Goals as goal
 

@@ -1,11 +1,8 @@
-use mathlib.Core.Path.{◌≡◌, ◌∙◌, ap}
+use mathlib.Core.Path.{◌≡◌}
 use mathlib.Core.List.{flat_map}
-use Prim.Native.Nat.{ℕ, ◌+◌, ◌-◌, ◌*◌, ◌<◌, ◌≤◌}
-use native.Mathlib.Omega.{arith}
+use Prim.Native.Nat.{◌+◌, ◌*◌, ◌<◌, ◌≤◌}
 use lib.ListN.{length}
 use Rattle.sheet.specs.Sheet.{chain_by, piece, line_of}
-use Rattle.meaning.proofs.Laws.{bytes-end, bytes_cut, bytes-step, line-start}
-use Rattle.reader.specs.declared.Record.{Record}
 use Rattle.meaning.proofs.line_length.Given as goal
 
 abbrev pub invariant-loop-i : goal.invariant-loop-i

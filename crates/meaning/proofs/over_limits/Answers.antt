@@ -1,7 +1,6 @@
 use mathlib.Core.Path.{sym, ◌∙◌}
 use borrow.Author.Tests.{lt-ltb, le-ltb}
 use Rattle.meaning.proofs.Laws.{states_by, arrows_by_lem, over-states, over-arrows, over-rest}
-use borrow.Author.Rules.{rules}
 use Rattle.meaning.proofs.over_limits.Goals as goal
 
 pub returns-then-m-chain_length : goal.returns-then-m-chain_length

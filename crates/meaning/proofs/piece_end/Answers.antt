@@ -1,7 +1,6 @@
 use mathlib.Core.Path.{ap}
 use native.Mathlib.Omega.{arith}
 use Rattle.meaning.proofs.Laws.{piece_in, piece-over, piece-out}
-use borrow.Author.Rules.{rules}
 use Rattle.reader.specs.declared.Record.{Record}
 use Rattle.meaning.proofs.piece_end.Goals as goal
 

@@ -1,13 +1,12 @@
-use mathlib.Core.Path.{◌≡◌, sym, ◌∙◌, ap}
+use mathlib.Core.Path.{sym, ◌∙◌, ap}
 use mathlib.Core.List.{map}
-use Prim.Native.Nat.{ℕ, ◌-◌, ◌<◌}
+use Prim.Native.Nat.{ℕ, ◌-◌}
 use native.Mathlib.Omega.{arith}
 use Rattle.laws.specs.Any.{any_of}
-use Rattle.sheet.specs.Sheet.{chain_by, arrow_of, arrows_of}
+use Rattle.sheet.specs.Sheet.{chain_by, arrow_of}
 use Rattle.sheet.specs.Refusals.{large_arrow}
 use Rattle.sheet.specs.Chains.{along_end, along_cut, along_hit, along_miss}
 use Rattle.meaning.proofs.Laws.{arrows-start}
-use borrow.Author.Rules.{rules}
 use Rattle.meaning.proofs.some_large.Goals as goal
 
 pub loop-i-init : goal.loop-i-init
@@ -22,11 +21,11 @@ returns-then-large_arrow c = along_hit c.args.s.now (arrow_of c.args.s.now) (lar
 
 pub loop-i-preserved : goal.loop-i-preserved
 loop-i-preserved c = let s = c.args.s.now in (
-      ap (λ (j : ℕ). any_of (large_arrow c.args.m) (map (arrow_of s) (chain_by s (c.loop-i.left - 1) j))) c.next_of-i.ensures.0
-          ∙ along_miss s (arrow_of s) (large_arrow c.args.m) c.loop-i.left c.loop-i.i c.if-left-eq0.false c.loop-i-test.true (sym c.large_arrow.ensures ∙ c.if-large_arrow.false)
-          ∙ c.loop-i.invariant.0,
-      omega arith,
-    )
+  ap (λ (j : ℕ). any_of (large_arrow c.args.m) (map (arrow_of s) (chain_by s (c.loop-i.left - 1) j))) c.next_of-i.ensures.0
+      ∙ along_miss s (arrow_of s) (large_arrow c.args.m) c.loop-i.left c.loop-i.i c.if-left-eq0.false c.loop-i-test.true (sym c.large_arrow.ensures ∙ c.if-large_arrow.false)
+      ∙ c.loop-i.invariant.0,
+  omega arith,
+)
 
 pub returns : goal.returns
 returns c = along_end c.args.s.now (arrow_of c.args.s.now) (large_arrow c.args.m) c.loop-i.left c.loop-i.i c.loop-i-test.false ∙ c.loop-i.invariant.0

@@ -1,15 +1,14 @@
-use mathlib.Core.Path.{◌≡◌, sym, ◌∙◌, ap}
+use mathlib.Core.Path.{sym, ◌∙◌, ap}
 use mathlib.Core.List.{map}
-use Prim.Native.Nat.{ℕ, ◌-◌, ◌<◌}
+use Prim.Native.Nat.{ℕ, ◌-◌}
 use native.Mathlib.Omega.{arith}
 use borrow.Author.Tests.{lt-ltb, le-ltb}
 use lib.Dec.{ltb}
 use Rattle.laws.specs.Any.{any_of}
-use Rattle.sheet.specs.Sheet.{chain_by, line_of, lines_from}
+use Rattle.sheet.specs.Sheet.{chain_by, line_of}
 use Rattle.sheet.specs.Refusals.{long_line}
 use Rattle.sheet.specs.Chains.{along_end, along_cut, along_hit, along_miss}
 use Rattle.meaning.proofs.Laws.{lines_start}
-use borrow.Author.Rules.{rules}
 use Rattle.meaning.proofs.some_long.Goals as goal
 
 pub loop-i-init : goal.loop-i-init
@@ -24,11 +23,11 @@ returns-then-line_length-gt-LONGEST_LINE c = along_hit c.args.s.now (line_of c.a
 
 pub loop-i-preserved : goal.loop-i-preserved
 loop-i-preserved c = let s = c.args.s.now in (
-      ap (λ (j : ℕ). any_of long_line (map (line_of s) (chain_by s (c.loop-i.left - 1) j))) c.next_of-i.ensures.0
-          ∙ along_miss s (line_of s) long_line c.loop-i.left c.loop-i.i c.if-left-eq0.false c.loop-i-test.true (ap (ltb 96) (sym c.line_length.ensures) ∙ le-ltb _ _ c.if-line_length-gt-LONGEST_LINE.false)
-          ∙ c.loop-i.invariant.0,
-      omega arith,
-    )
+  ap (λ (j : ℕ). any_of long_line (map (line_of s) (chain_by s (c.loop-i.left - 1) j))) c.next_of-i.ensures.0
+      ∙ along_miss s (line_of s) long_line c.loop-i.left c.loop-i.i c.if-left-eq0.false c.loop-i-test.true (ap (ltb 96) (sym c.line_length.ensures) ∙ le-ltb _ _ c.if-line_length-gt-LONGEST_LINE.false)
+      ∙ c.loop-i.invariant.0,
+  omega arith,
+)
 
 pub returns : goal.returns
 returns c = along_end c.args.s.now (line_of c.args.s.now) long_line c.loop-i.left c.loop-i.i c.loop-i-test.false ∙ c.loop-i.invariant.0

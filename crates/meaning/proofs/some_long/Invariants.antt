@@ -1,13 +1,9 @@
-use mathlib.Core.Path.{◌≡◌, sym, ◌∙◌, ap}
+use mathlib.Core.Path.{◌≡◌}
 use mathlib.Core.List.{map}
-use Prim.Native.Nat.{ℕ, ◌-◌, ◌<◌}
-use native.Mathlib.Omega.{arith}
-use lib.Dec.{ltb}
+use Prim.Native.Nat.{◌<◌}
 use Rattle.laws.specs.Any.{any_of}
 use Rattle.sheet.specs.Sheet.{chain_by, line_of, lines_from}
 use Rattle.sheet.specs.Refusals.{long_line}
-use Rattle.sheet.specs.Chains.{along_end, along_cut, along_hit, along_miss}
-use Rattle.meaning.proofs.Laws.{lines_start}
 use Rattle.meaning.proofs.some_long.Given as goal
 
 abbrev pub invariant-loop-i : goal.invariant-loop-i

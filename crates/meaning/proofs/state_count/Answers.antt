@@ -1,5 +1,4 @@
 use Rattle.meaning.proofs.Laws.{count-states}
-use borrow.Author.Rules.{rules}
 use Rattle.meaning.proofs.state_count.Goals as goal
 
 pub returns : goal.returns

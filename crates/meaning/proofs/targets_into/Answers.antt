@@ -3,7 +3,6 @@ use mathlib.Core.List.{List}
 use Prim.Native.Nat.{ℕ}
 use Rattle.laws.specs.Put.{put}
 use Rattle.meaning.specs.Read.{targets_are}
-use borrow.Author.Rules.{rules}
 use Rattle.meaning.proofs.targets_into.Goals as goal
 
 pub returns : goal.returns

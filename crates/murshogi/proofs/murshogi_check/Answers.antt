@@ -2,7 +2,6 @@
 use mathlib.Core.Path.{ap, sym, ◌∙◌}
 use Rattle.calls.specs.Calls.{checked_as}
 use Rattle.murshogi.specs.Exports.{returned}
-use borrow.Author.Rules.{rules}
 use Rattle.murshogi.proofs.murshogi_check.Goals as goal
 
 pub returns-in-Accepted : goal.returns-in-Accepted

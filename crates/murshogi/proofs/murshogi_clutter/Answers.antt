@@ -3,7 +3,6 @@ use mathlib.Core.Path.{ap, sym, ◌∙◌}
 use Rattle.calls.specs.Calls.{counted_as}
 use Rattle.murshogi.specs.Exports.{itself}
 use Rattle.murshogi.specs.Laws.{told}
-use borrow.Author.Rules.{rules}
 use Rattle.murshogi.proofs.murshogi_clutter.Goals as goal
 
 pub returns-in-Count : goal.returns-in-Count

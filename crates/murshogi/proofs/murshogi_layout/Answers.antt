@@ -3,7 +3,6 @@ use mathlib.Core.Path.{ap, sym, ◌∙◌}
 use Rattle.calls.specs.Calls.{laid_out_as}
 use Rattle.murshogi.specs.Exports.{layout_size, layout_states}
 use Rattle.murshogi.specs.Laws.{told}
-use borrow.Author.Rules.{rules}
 use Rattle.murshogi.proofs.murshogi_layout.Goals as goal
 
 pub returns-in-Size : goal.returns-in-Size

@@ -3,7 +3,6 @@ use mathlib.Core.Path.{ap, sym, ◌∙◌}
 use Rattle.calls.specs.Calls.{written_as}
 use Rattle.murshogi.specs.Exports.{itself}
 use Rattle.murshogi.specs.Laws.{told}
-use borrow.Author.Rules.{rules}
 use Rattle.murshogi.proofs.murshogi_list.Goals as goal
 
 pub returns-in-Length : goal.returns-in-Length

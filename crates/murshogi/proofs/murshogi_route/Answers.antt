@@ -3,7 +3,6 @@ use mathlib.Core.Path.{ap, sym, ◌∙◌}
 use Rattle.calls.specs.Calls.{routed_as}
 use Rattle.murshogi.specs.Exports.{both}
 use Rattle.murshogi.specs.Laws.{told}
-use borrow.Author.Rules.{rules}
 use Rattle.murshogi.proofs.murshogi_route.Goals as goal
 
 pub returns-in-Lengths : goal.returns-in-Lengths

@@ -1,5 +1,5 @@
 -- `number::has_minus` meets its contract.
-use Rattle.std.proofs.Common.{sym, ◌∙◌, rules}
+use Rattle.std.proofs.Common.{sym, ◌∙◌}
 use Rattle.number.proofs.has_minus.Goals as goal
 
 pub returns-then-negative : goal.returns-then-negative

@@ -1,5 +1,5 @@
 -- `number::put_fraction` meets its contract.
-use Rattle.std.proofs.Common.{arith, rules}
+use Rattle.std.proofs.Common.{arith}
 use Rattle.laws.specs.Writers.{wrote_as, wrote_none, wrote-more}
 use Rattle.number.proofs.Laws.{fraction_none, fraction_one, fraction_two}
 use Rattle.number.proofs.put_fraction.Goals as goal

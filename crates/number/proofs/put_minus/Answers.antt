@@ -1,5 +1,5 @@
 -- `number::put_minus` meets its contract.
-use Rattle.std.proofs.Common.{sym, ap, arith, rules}
+use Rattle.std.proofs.Common.{sym, ap, arith}
 use Rattle.laws.specs.Writers.{wrote_as, wrote_none}
 use Rattle.number.specs.Number.{minus_text}
 use Rattle.number.proofs.put_minus.Goals as goal

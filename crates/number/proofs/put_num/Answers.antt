@@ -1,7 +1,6 @@
 -- `number::put_num` meets its contract.
 use Rattle.laws.specs.Writers.{wrote_as, wrote-more}
 use Rattle.number.proofs.Laws.{num_text_is}
-use Rattle.std.proofs.Common.{rules}
 use Rattle.number.proofs.put_num.Goals as goal
 
 pub returns : goal.returns

@@ -1,5 +1,5 @@
 -- `number::size_of` meets its contract.
-use Rattle.std.proofs.Common.{sym, ap, ◌∙◌, rules}
+use Rattle.std.proofs.Common.{sym, ap, ◌∙◌}
 use Rattle.float.specs.Ops.{lt}
 use Rattle.float.specs.Constants.{f1e13}
 use lib.Ieee.{Float}

@@ -1,5 +1,5 @@
 -- `number::writable` meets its contract.
-use Rattle.std.proofs.Common.{sym, ◌∙◌, rules}
+use Rattle.std.proofs.Common.{sym, ◌∙◌}
 use Rattle.number.proofs.writable.Goals as goal
 
 pub returns-then-is_finite : goal.returns-then-is_finite

@@ -1,5 +1,5 @@
 -- `number::write_num` meets its contract.
-use Rattle.std.proofs.Common.{arith, rules}
+use Rattle.std.proofs.Common.{arith}
 use Rattle.laws.specs.Writers.{refuses, writes}
 use Rattle.number.specs.Number.{num_text}
 use Rattle.number.specs.declared.Written.TheVariants.{Length, Refused}

@@ -7,7 +7,6 @@ use Rattle.laws.specs.Flat.{table}
 use Rattle.records.specs.Records.{decode_records}
 use Rattle.routing.specs.Sheets.{centre_at}
 use Rattle.clutter.specs.Clutter.{clutter_of}
-use borrow.Author.Rules.{rules}
 use Rattle.outputs.proofs.clutter_at.Goals as goal
 
 pub slice_bounds-clutter_by-end : goal.slice_bounds-clutter_by-end

@@ -3,7 +3,6 @@ use mathlib.Core.Path.{◌∙◌}
 use native.Mathlib.Omega.{arith}
 use Rattle.records.specs.Records.{decode_records}
 use Rattle.outputs.proofs.Laws.{centred-clutter}
-use borrow.Author.Rules.{rules}
 use Rattle.outputs.proofs.clutter_by.Goals as goal
 
 pub shape_of-across : goal.shape_of-across

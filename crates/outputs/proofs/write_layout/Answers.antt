@@ -1,7 +1,6 @@
 -- `outputs::write_layout` meets its contract.
 use native.Mathlib.Omega.{arith}
 use Rattle.outputs.proofs.Laws.{place_xs, place_ys, place_done}
-use borrow.Author.Rules.{rules}
 use Rattle.outputs.proofs.write_layout.Goals as goal
 
 pub returns-then-xs-n : goal.returns-then-xs-n

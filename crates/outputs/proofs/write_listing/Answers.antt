@@ -4,7 +4,6 @@ use Rattle.shape.specs.Centres.{centres}
 use Rattle.records.specs.Records.{decode_records}
 use Rattle.drawing_text.specs.Lines.{list_text, list_writable}
 use Rattle.outputs.proofs.Laws.{list_10, list_7, list_done}
-use borrow.Author.Rules.{rules}
 use mathlib.Core.Path.{ap}
 use mathlib.Core.Bool.{not}
 use Rattle.outputs.proofs.write_listing.Goals as goal

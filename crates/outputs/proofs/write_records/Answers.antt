@@ -1,9 +1,8 @@
 -- `outputs::write_records` meets its contract.
 use mathlib.Core.Path.{◌≡◌, refl, ap, ◌∙◌}
 use mathlib.Core.List.{flat_map}
-use Prim.Native.Nat.{ℕ, ◌-◌, ◌≤◌}
+use Prim.Native.Nat.{ℕ, ◌-◌}
 use native.Mathlib.Omega.{arith}
-use lib.ListN.{length}
 use Rattle.laws.specs.Flat.{table}
 use Rattle.laws.specs.Put.{put}
 use Rattle.records.specs.Records.{fields, decode_records}

@@ -1,13 +1,10 @@
 -- `outputs::write_records` meets its contract.
-use mathlib.Core.Path.{◌≡◌, refl, ap, ◌∙◌}
+use mathlib.Core.Path.{◌≡◌}
 use mathlib.Core.List.{flat_map}
-use Prim.Native.Nat.{ℕ, ◌-◌, ◌≤◌}
-use native.Mathlib.Omega.{arith}
+use Prim.Native.Nat.{◌-◌, ◌≤◌}
 use lib.ListN.{length}
-use Rattle.laws.specs.Flat.{table}
 use Rattle.laws.specs.Put.{put}
 use Rattle.records.specs.Records.{fields, decode_records}
-use Rattle.outputs.proofs.Laws.{record_step}
 use Rattle.outputs.proofs.write_records.Given as goal
 
 abbrev pub invariant-loop-k : goal.invariant-loop-k

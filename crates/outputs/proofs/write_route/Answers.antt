@@ -8,7 +8,6 @@ use lib.Seq.{length-take-le}
 use Rattle.laws.specs.Put.{put}
 use Rattle.records.specs.Records.{fields, decode_records}
 use Rattle.outputs.proofs.Laws.{fill_10, fill-records, fill_text, fill_done, records-onto}
-use borrow.Author.Rules.{rules}
 use mathlib.Core.Path.{ap}
 use mathlib.Core.Bool.{not}
 use Rattle.outputs.proofs.write_route.Goals as goal

@@ -3,7 +3,6 @@ use mathlib.Core.Path.{sym, ◌∙◌}
 use Rattle.layout.specs.Layout.{Plan, plan_by}
 use Rattle.layout.specs.Slices.{dense-slices}
 use Rattle.plan.specs.Laws.{beyond_auto_dense, beyond_auto_layers, beyond_auto_both}
-use borrow.Author.Rules.{rules}
 use Rattle.plan.proofs.auto_beyond.Goals as goal
 
 pub shape_of-px-then-dense : goal.shape_of-px-then-dense

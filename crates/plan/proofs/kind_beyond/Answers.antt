@@ -2,7 +2,6 @@
 use native.Mathlib.Omega.{arith}
 use Rattle.layout.specs.Layout.{Plan, plan_by}
 use Rattle.plan.specs.Laws.{beyond_auto, beyond-layers, beyond-ring}
-use borrow.Author.Rules.{rules}
 use Rattle.plan.proofs.kind_beyond.Goals as goal
 
 pub shape_of-px-in-0 : goal.shape_of-px-in-0

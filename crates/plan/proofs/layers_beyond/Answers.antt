@@ -2,7 +2,6 @@
 use mathlib.Core.Path.{ap, ◌∙◌}
 use Rattle.layout.specs.Layout.{Plan, plan_by}
 use Rattle.plan.specs.Measured.{beyond_at}
-use borrow.Author.Rules.{rules}
 use Rattle.plan.proofs.layers_beyond.Goals as goal
 
 pub shape_of-px : goal.shape_of-px

@@ -1,7 +1,6 @@
 -- `plan::layout_beyond` meets its contract.
 use Rattle.layout.specs.Layout.{Plan, plan_by}
 use Rattle.plan.specs.Laws.{none_refused, some_refused}
-use borrow.Author.Rules.{rules}
 use Rattle.plan.proofs.layout_beyond.Goals as goal
 
 pub returns-then-flags-eq0 : goal.returns-then-flags-eq0

@@ -4,7 +4,6 @@ use native.Mathlib.Omega.{arith}
 use Rattle.sheet.specs.Refusals.{check_of}
 use Rattle.sheet.specs.Accepted.{within-limits}
 use Rattle.plan.specs.Laws.{plan_kind, plan-refused, plan_accepted}
-use borrow.Author.Rules.{rules}
 use Rattle.plan.proofs.plan.Goals as goal
 
 pub returns-then-kind-gt-LAST_KIND : goal.returns-then-kind-gt-LAST_KIND

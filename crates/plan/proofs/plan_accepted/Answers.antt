@@ -1,6 +1,5 @@
 -- `plan::plan_accepted` meets its contract.
 use native.Mathlib.Omega.{arith}
-use borrow.Author.Rules.{rules}
 use Rattle.plan.proofs.plan_accepted.Goals as goal
 
 pub plan_sized-requires : goal.plan_sized-requires

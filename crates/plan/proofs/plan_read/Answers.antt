@@ -4,7 +4,6 @@ use Rattle.sheet.specs.Sheet.{Graph, meaning}
 use mathlib.Core.Path.{sym, ap, ◌∙◌}
 use lib.ListN.{length}
 use Rattle.plan.specs.Laws.{plan-read, plan-beyond, plan-size}
-use borrow.Author.Rules.{rules}
 use Rattle.plan.proofs.plan_read.Goals as goal
 
 pub layout_beyond-requires : goal.layout_beyond-requires

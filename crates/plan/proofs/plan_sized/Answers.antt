@@ -2,7 +2,6 @@
 use mathlib.Core.Path.{sym, ◌∙◌}
 use native.Mathlib.Omega.{arith}
 use lib.Seq.{length-take-le}
-use borrow.Author.Rules.{rules}
 use Rattle.plan.proofs.plan_sized.Goals as goal
 
 pub slice_bounds-plan_read-end : goal.slice_bounds-plan_read-end
@@ -28,9 +27,9 @@ slice_bounds-plan_read-end-7 c = sym (length-take-le _ _ (omega arith))
 
 pub plan_read-requires : goal.plan_read-requires
 plan_read-requires c = let q = c.requires in record {
-      fact = (q.0, length-take-le _ _ (omega (arith, q.2)) ∙ q.1, length-take-le _ _ (omega (arith, q.2)) ∙ q.1, length-take-le _ _ (omega (arith, q.2)) ∙ q.1, omega (arith, q.1, q.2), q.5, q.6);
-      fact_2 = (length-take-le _ _ (omega (arith, q.4)) ∙ q.3, length-take-le _ _ (omega (arith, q.4)) ∙ q.3, length-take-le _ _ (omega (arith, q.4)) ∙ q.3, length-take-le _ _ (omega (arith, q.4)) ∙ q.3, omega (arith, q.3, q.4));
-    }
+  fact = (q.0, length-take-le _ _ (omega (arith, q.2)) ∙ q.1, length-take-le _ _ (omega (arith, q.2)) ∙ q.1, length-take-le _ _ (omega (arith, q.2)) ∙ q.1, omega (arith, q.1, q.2), q.5, q.6);
+  fact_2 = (length-take-le _ _ (omega (arith, q.4)) ∙ q.3, length-take-le _ _ (omega (arith, q.4)) ∙ q.3, length-take-le _ _ (omega (arith, q.4)) ∙ q.3, length-take-le _ _ (omega (arith, q.4)) ∙ q.3, omega (arith, q.3, q.4));
+}
 
 pub shape_of-xs : goal.shape_of-xs
 shape_of-xs c = c.plan_read.auto.xs

@@ -5,7 +5,6 @@ use lib.ListN.{length}
 use Rattle.layout.specs.Layout.{Plan, plan_by}
 use Rattle.layout.specs.Slices.{ring-slices}
 use Rattle.plan.specs.Measured.{beyond_at}
-use borrow.Author.Rules.{rules}
 use Rattle.plan.proofs.ring_beyond.Goals as goal
 
 pub shape_of-px : goal.shape_of-px

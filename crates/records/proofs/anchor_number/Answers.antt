@@ -1,5 +1,5 @@
 -- `records::anchor_number` meets its contract.
-use Rattle.std.proofs.Common.{sym, ap, rules}
+use Rattle.std.proofs.Common.{sym, ap}
 use Rattle.records.specs.Records.{anchor_number}
 use Rattle.records.proofs.anchor_number.Goals as goal
 

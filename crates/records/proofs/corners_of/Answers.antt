@@ -1,5 +1,4 @@
 -- `records::corners_of` meets its contract.
-use Rattle.std.proofs.Common.{rules}
 use Rattle.records.proofs.corners_of.Goals as goal
 
 pub returns-in-Line : goal.returns-in-Line

@@ -1,6 +1,5 @@
 -- `records::geometry_of` meets its contract.
 use Rattle.records.specs.Records.{decode_geometry}
-use Rattle.std.proofs.Common.{rules}
 use Rattle.records.proofs.geometry_of.Goals as goal
 
 pub returns : goal.returns

@@ -1,5 +1,5 @@
 -- `records::label_box_at` meets its contract.
-use Rattle.std.proofs.Common.{◌≡◌, ℕ, ◌+◌, ◌-◌, ◌*◌, take, drop, ap, ◌∙◌, arith, rules}
+use Rattle.std.proofs.Common.{◌≡◌, ℕ, ◌+◌, ◌-◌, ◌*◌, take, drop, ap, ◌∙◌, arith}
 use Rattle.records.specs.Records.{decode_geometry}
 use Rattle.records.proofs.label_box_at.Goals as goal
 

@@ -1,5 +1,5 @@
 -- `records::put_routed` meets its contract.
-use Rattle.std.proofs.Common.{◌≡◌, ◌-◌, ◌*◌, length, arith, rules}
+use Rattle.std.proofs.Common.{◌≡◌, ◌-◌, ◌*◌, length, arith}
 use Rattle.laws.specs.Put.{put_mid}
 use Rattle.records.specs.Slots.{routed_fields}
 use Rattle.records.specs.Back.{length-routed}

@@ -1,5 +1,5 @@
 -- `records::routed_at` meets its contract.
-use Rattle.std.proofs.Common.{◌≡◌, ℕ, ◌+◌, ◌-◌, ◌*◌, take, drop, ap, ◌∙◌, arith, rules}
+use Rattle.std.proofs.Common.{◌≡◌, ℕ, ◌+◌, ◌-◌, ◌*◌, take, drop, ap, ◌∙◌, arith}
 use Rattle.records.specs.Slots.{decode_routed}
 use Rattle.records.proofs.routed_at.Goals as goal
 

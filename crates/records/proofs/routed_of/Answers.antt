@@ -1,6 +1,5 @@
 -- `records::routed_of` meets its contract.
 use Rattle.records.specs.Slots.{decode_routed}
-use Rattle.std.proofs.Common.{rules}
 use Rattle.records.proofs.routed_of.Goals as goal
 
 pub returns : goal.returns

@@ -1,5 +1,5 @@
 -- `records::shaped_of` meets its contract.
-use Rattle.std.proofs.Common.{sym, ap, rules}
+use Rattle.std.proofs.Common.{sym, ap}
 use Rattle.records.specs.Slots.{shaped_of}
 use Rattle.records.proofs.shaped_of.Goals as goal
 

@@ -1,5 +1,5 @@
 -- `records::write_at` meets its contract.
-use Rattle.std.proofs.Common.{◌-◌, ◌*◌, length, arith, rules}
+use Rattle.std.proofs.Common.{◌-◌, ◌*◌, length, arith}
 use Rattle.laws.specs.Put.{put_mid}
 use Rattle.records.specs.Records.{fields}
 use Rattle.records.proofs.write_at.Goals as goal

@@ -1,5 +1,5 @@
 -- `records::write_record` meets its contract.
-use Rattle.std.proofs.Common.{arith, length-set, rules}
+use Rattle.std.proofs.Common.{arith, length-set}
 use Rattle.laws.specs.Put.{put}
 use Rattle.records.proofs.write_record.Goals as goal
 

@@ -1,5 +1,5 @@
 -- `records::write_routed` meets its contract.
-use Rattle.std.proofs.Common.{arith, length-set, rules}
+use Rattle.std.proofs.Common.{arith, length-set}
 use Rattle.laws.specs.Put.{put}
 use Rattle.records.specs.Slots.{routed_fields}
 use Rattle.records.proofs.write_routed.Goals as goal

@@ -1,6 +1,5 @@
 -- `remainder::reduce` meets its contract.
-use mathlib.Core.Path.{◌≡◌, refl, ◌∙◌}
-use Prim.Native.Nat.{◌*◌, ◌%◌, ◌^◌, ◌<◌}
+use mathlib.Core.Path.{refl, ◌∙◌}
 use native.Mathlib.Omega.{arith}
 use Rattle.remainder.specs.Modulo.{mod-step, mod-last}
 use Rattle.remainder.proofs.reduce.Goals as goal

@@ -1,8 +1,6 @@
 -- `remainder::reduce` meets its contract.
-use mathlib.Core.Path.{◌≡◌, refl, ◌∙◌}
+use mathlib.Core.Path.{◌≡◌}
 use Prim.Native.Nat.{◌*◌, ◌%◌, ◌^◌, ◌<◌}
-use native.Mathlib.Omega.{arith}
-use Rattle.remainder.specs.Modulo.{mod-step, mod-last}
 use Rattle.remainder.proofs.reduce.Given as goal
 
 abbrev pub invariant-loop-left : goal.invariant-loop-left

@@ -1,7 +1,6 @@
 -- `root::by_digits` meets its contract.
 use Prim.Native.Nat.{◌*◌, ◌^◌}
 use native.Mathlib.Omega.{arith}
-use borrow.Author.Rules.{rules}
 use Rattle.root.specs.Nearest.{whole_root_lt}
 use Rattle.root.specs.Digits.{digits_up, digits_stay}
 use Rattle.root.proofs.Laws.{nearest_fits}

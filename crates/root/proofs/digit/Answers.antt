@@ -1,7 +1,6 @@
 -- `root::digit` meets its contract.
 use borrow.Author.Tests.{le-leb, lt-leb}
 use Rattle.root.proofs.Laws.{twice_fits, twice_one_fits}
-use borrow.Author.Rules.{rules}
 use Rattle.root.proofs.digit.Goals as goal
 
 pub overflow_mul-result : goal.overflow_mul-result

@@ -1,7 +1,6 @@
 -- `root::even` meets its contract.
 use native.Mathlib.Omega.{arith}
 use borrow.Author.Tests.{eq-eqb, ne_eqb}
-use borrow.Author.Rules.{rules}
 use Rattle.root.proofs.even.Goals as goal
 
 pub returns-then-c-eq1 : goal.returns-then-c-eq1

@@ -1,7 +1,6 @@
 -- `root::guess` meets its contract.
 use native.Mathlib.Omega.{arith}
 use lib.Ieee.{binary64, to_bits}
-use borrow.Author.Rules.{rules}
 use Rattle.laws.specs.Nan.{no_nan, no_nan_bits}
 use Rattle.root.proofs.Laws.{low_is}
 use Rattle.root.proofs.guess.Goals as goal

@@ -3,7 +3,6 @@ use Prim.Native.Nat.{◌+◌, ◌-◌, ◌*◌, ◌/◌, ◌^◌}
 use native.Mathlib.Omega.{arith}
 use lib.Bits.{bit_and}
 use borrow.Author.Tests.{leb-true}
-use borrow.Author.Rules.{rules}
 use Rattle.root.specs.Halves.{halves}
 use Rattle.root.proofs.Laws.{low_half_is, high_square, cross_small, low_square, not_claimed}
 use Rattle.root.proofs.is_nearest.Goals as goal

@@ -1,6 +1,5 @@
 -- `root::root_bits` meets its contract.
 use native.Mathlib.Omega.{arith}
-use borrow.Author.Rules.{rules}
 use Rattle.root.proofs.Laws.{root_bits_is}
 use Rattle.root.proofs.root_bits.Goals as goal
 

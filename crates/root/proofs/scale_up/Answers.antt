@@ -1,8 +1,6 @@
 -- `root::scale_up` meets its contract.
-use mathlib.Core.Path.{◌≡◌, refl, ◌∙◌}
-use Prim.Native.Nat.{◌+◌, ◌-◌, ◌^◌, ◌≤◌, ◌<◌}
+use mathlib.Core.Path.{refl, ◌∙◌}
 use native.Mathlib.Omega.{arith}
-use Rattle.root.specs.Root.{scale}
 use Rattle.root.proofs.Laws.{scale-step, scale_stop, scale-end}
 use Rattle.root.proofs.scale_up.Goals as goal
 

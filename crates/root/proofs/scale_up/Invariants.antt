@@ -1,9 +1,7 @@
 -- `root::scale_up` meets its contract.
-use mathlib.Core.Path.{◌≡◌, refl, ◌∙◌}
-use Prim.Native.Nat.{◌+◌, ◌-◌, ◌^◌, ◌≤◌, ◌<◌}
-use native.Mathlib.Omega.{arith}
+use mathlib.Core.Path.{◌≡◌}
+use Prim.Native.Nat.{◌+◌, ◌^◌, ◌≤◌, ◌<◌}
 use Rattle.root.specs.Root.{scale}
-use Rattle.root.proofs.Laws.{scale-step, scale_stop, scale-end}
 use Rattle.root.proofs.scale_up.Given as goal
 
 abbrev pub invariant-loop-left : goal.invariant-loop-left

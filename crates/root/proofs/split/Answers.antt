@@ -5,7 +5,6 @@ use borrow.Author.Tests.{eq-eqb, ne_eqb}
 use Rattle.root.specs.Root.{scale}
 use Prim.Native.Nat.{ℕ}
 use Rattle.root.proofs.Laws.{low_is}
-use borrow.Author.Rules.{rules}
 use Rattle.root.proofs.split.Goals as goal
 
 pub scale_up-requires : goal.scale_up-requires

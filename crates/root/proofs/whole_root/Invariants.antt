@@ -1,9 +1,6 @@
 -- `root::whole_root` meets its contract. The invariant: what q and r are, with the digits still to come.
-use mathlib.Core.Path.{sym, subst}
-use Prim.Native.Nat.{◌-◌, ◌*◌}
-use native.Mathlib.Omega.{arith}
-use Rattle.root.specs.Digits.{Sound, begin_sound, root-lt}
-use Rattle.root.proofs.Laws.{sound_step, sound_end}
+use Prim.Native.Nat.{◌*◌}
+use Rattle.root.specs.Digits.{Sound}
 use Rattle.root.proofs.whole_root.Given as goal
 
 abbrev pub invariant-loop-left : goal.invariant-loop-left

@@ -4,7 +4,6 @@ use mathlib.Core.Bool.{true, false}
 use native.Mathlib.Omega.{arith}
 use Rattle.laws.specs.Counting.{worth_of}
 use Rattle.scene.specs.Scene.{overlapping}
-use borrow.Author.Rules.{rules}
 use Rattle.scene.proofs.box_add.Goals as goal
 
 pub returns-then-overlaps : goal.returns-then-overlaps

@@ -4,7 +4,6 @@ use Prim.Native.Nat.{ℕ, ◌+◌, ◌-◌, ◌*◌}
 use native.Mathlib.Omega.{arith}
 use lib.ListN.{take, drop}
 use Rattle.trace.specs.Form.{decode_rect}
-use borrow.Author.Rules.{rules}
 use Rattle.scene.proofs.box_at.Goals as goal
 
 pub returns : goal.returns

@@ -1,13 +1,11 @@
 -- `scene::boxes_cost` meets its contract.
-use mathlib.Core.Path.{◌≡◌, refl, ap, ◌∙◌}
-use mathlib.Core.List.{map}
-use Prim.Native.Nat.{◌+◌, ◌-◌, ◌*◌, ◌≤◌}
+use mathlib.Core.Path.{refl, ap, ◌∙◌}
+use Prim.Native.Nat.{◌-◌}
 use native.Mathlib.Omega.{arith}
-use Rattle.laws.specs.Best.{cut_total}
-use Rattle.laws.specs.Flat.{table, part}
+use Rattle.laws.specs.Flat.{part}
 use Rattle.laws.specs.Counting.{worth, cut_step, cut_stop, cut-end}
 use Rattle.trace.specs.Form.{decode_rect}
-use Rattle.scene.specs.Scene.{overlapping, decode_boxes}
+use Rattle.scene.specs.Scene.{overlapping}
 use Rattle.scene.proofs.boxes_cost.Goals as goal
 
 pub loop-left-init : goal.loop-left-init

@@ -1,11 +1,10 @@
 -- `scene::boxes_cost` meets its contract.
-use mathlib.Core.Path.{◌≡◌, refl, ap, ◌∙◌}
+use mathlib.Core.Path.{◌≡◌}
 use mathlib.Core.List.{map}
 use Prim.Native.Nat.{◌+◌, ◌-◌, ◌*◌, ◌≤◌}
-use native.Mathlib.Omega.{arith}
 use Rattle.laws.specs.Best.{cut_total}
 use Rattle.laws.specs.Flat.{table, part}
-use Rattle.laws.specs.Counting.{worth, cut_step, cut_stop, cut-end}
+use Rattle.laws.specs.Counting.{worth}
 use Rattle.trace.specs.Form.{decode_rect}
 use Rattle.scene.specs.Scene.{overlapping, decode_boxes}
 use Rattle.scene.proofs.boxes_cost.Given as goal

@@ -1,7 +1,6 @@
 -- `scene::full_cost` meets its contract.
 use native.Mathlib.Omega.{arith}
 use Rattle.scene.proofs.Laws.{full_is}
-use borrow.Author.Rules.{rules}
 use Rattle.scene.proofs.full_cost.Goals as goal
 
 pub returns : goal.returns

@@ -1,7 +1,6 @@
 -- `scene::labelled_at` meets its contract.
 use mathlib.Core.Path.{◌∙◌, ap}
 use Rattle.label_spots.specs.Labels.{labelled}
-use borrow.Author.Rules.{rules}
 use Rattle.scene.proofs.labelled_at.Goals as goal
 
 pub returns : goal.returns

@@ -4,7 +4,6 @@ use native.Mathlib.Omega.{arith}
 use Rattle.laws.specs.Counting.{worth_of}
 use Rattle.scene.specs.Scene.{near26}
 use Rattle.scene.proofs.Laws.{near26_is}
-use borrow.Author.Rules.{rules}
 use Rattle.scene.proofs.state_add.Goals as goal
 
 pub returns-then-dist_squared : goal.returns-then-dist_squared

@@ -1,15 +1,14 @@
 -- `scene::states_cost` meets its contract.
-use mathlib.Core.Path.{◌≡◌, ◌∙◌}
-use Prim.Native.Nat.{◌+◌, ◌-◌, ◌*◌, ◌≤◌}
+use mathlib.Core.Path.{◌∙◌}
+use Prim.Native.Nat.{◌+◌, ◌-◌}
 use native.Mathlib.Omega.{arith}
-use lib.ListN.{length, drop}
-use Rattle.laws.specs.Counting.{how_many, how_many-step, how_many_none}
+use lib.ListN.{drop}
+use Rattle.laws.specs.Counting.{how_many-step, how_many_none}
 use Rattle.laws.specs.Zip.{zip_past}
 use Rattle.shape.specs.Plane.{vec}
 use Rattle.shape.specs.Centres.{centres}
 use Rattle.shape.specs.CentresFrom.{centres_from}
 use Rattle.scene.specs.Scene.{near26}
-use borrow.Author.Rules.{rules}
 use Rattle.scene.proofs.states_cost.Goals as goal
 
 pub loop-k-init : goal.loop-k-init

@@ -4,7 +4,6 @@ use Prim.Native.Nat.{ℕ}
 use Rattle.scene.specs.Scene.{scene_from}
 use Rattle.scene.specs.Turn.{labelled_at}
 use Rattle.scene.proofs.Laws.{taken-inside}
-use borrow.Author.Rules.{rules}
 use Rattle.scene.proofs.take_place.Goals as goal
 
 pub labelled_at-requires : goal.labelled_at-requires

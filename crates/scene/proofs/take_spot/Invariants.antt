@@ -1,14 +1,11 @@
 -- `scene::take_spot` meets its contract.
-use mathlib.Core.Path.{◌≡◌, ap, ◌∙◌}
+use mathlib.Core.Path.{◌≡◌}
 use Prim.Native.Nat.{◌+◌, ◌-◌}
-use native.Mathlib.Omega.{arith}
 use Rattle.laws.specs.Best.{search_from}
-use Rattle.laws.specs.Search.{step-at, stop_at, search_end}
 use Rattle.label_spots.specs.Spots.{spot_count}
-use Rattle.scene.specs.Scene.{Scene, scene_from}
+use Rattle.scene.specs.Scene.{scene_from}
 use Rattle.scene.specs.Turn.{box_at, taken}
 use Rattle.scene.specs.Cut.{cut_cost}
-use Rattle.scene.proofs.Laws.{early_is, count_is, box_is}
 use Rattle.scene.proofs.take_spot.Given as goal
 
 abbrev pub invariant-loop-left : goal.invariant-loop-left

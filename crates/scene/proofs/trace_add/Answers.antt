@@ -7,7 +7,6 @@ use Rattle.laws.specs.Counting.{worth_of}
 use Rattle.trace.specs.Traces.{struck}
 use Rattle.trace.specs.Form.{decode_trace}
 use Rattle.trace.specs.Reach.{struck_none}
-use borrow.Author.Rules.{rules}
 use Rattle.scene.proofs.trace_add.Goals as goal
 
 pub returns-then-strikes_at : goal.returns-then-strikes_at

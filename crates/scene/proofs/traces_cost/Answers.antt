@@ -1,13 +1,11 @@
 -- `scene::traces_cost` meets its contract.
-use mathlib.Core.Path.{◌≡◌, refl, ◌∙◌}
-use mathlib.Core.List.{map}
-use Prim.Native.Nat.{◌+◌, ◌-◌, ◌*◌, ◌≤◌}
+use mathlib.Core.Path.{refl, ◌∙◌}
+use Prim.Native.Nat.{◌-◌}
 use native.Mathlib.Omega.{arith}
-use Rattle.laws.specs.Best.{cut_total}
-use Rattle.laws.specs.Flat.{table, part}
+use Rattle.laws.specs.Flat.{part}
 use Rattle.laws.specs.Counting.{worth, cut_step, cut_stop, cut-end}
 use Rattle.trace.specs.Traces.{struck}
-use Rattle.trace.specs.Form.{decode_trace, decode_traces}
+use Rattle.trace.specs.Form.{decode_trace}
 use Rattle.scene.proofs.traces_cost.Goals as goal
 
 pub loop-left-init : goal.loop-left-init

@@ -1,11 +1,10 @@
 -- `scene::traces_cost` meets its contract.
-use mathlib.Core.Path.{◌≡◌, refl, ◌∙◌}
+use mathlib.Core.Path.{◌≡◌}
 use mathlib.Core.List.{map}
 use Prim.Native.Nat.{◌+◌, ◌-◌, ◌*◌, ◌≤◌}
-use native.Mathlib.Omega.{arith}
 use Rattle.laws.specs.Best.{cut_total}
 use Rattle.laws.specs.Flat.{table, part}
-use Rattle.laws.specs.Counting.{worth, cut_step, cut_stop, cut-end}
+use Rattle.laws.specs.Counting.{worth}
 use Rattle.trace.specs.Traces.{struck}
 use Rattle.trace.specs.Form.{decode_trace, decode_traces}
 use Rattle.scene.proofs.traces_cost.Given as goal

@@ -2,7 +2,6 @@
 use native.Mathlib.Omega.{arith}
 use mathlib.Core.Bool.{true, false}
 use Rattle.self_loop.proofs.Laws.{cramped_is}
-use borrow.Author.Rules.{rules}
 use Rattle.self_loop.proofs.cramped.Goals as goal
 
 pub returns-then-room : goal.returns-then-room

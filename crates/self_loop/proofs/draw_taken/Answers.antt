@@ -5,7 +5,6 @@ use native.Mathlib.Omega.{arith}
 use Rattle.scene.specs.Scene.{Scene, scene_from}
 use Rattle.self_loop.specs.Looped.{Loop, loop_of, loop_drawn, direction}
 use Rattle.self_loop.proofs.Laws.{loop_taken_inside, direction_is}
-use borrow.Author.Rules.{rules}
 use Rattle.self_loop.proofs.draw_taken.Goals as goal
 
 pub offset_bounds-listed-j : goal.offset_bounds-listed-j

@@ -6,7 +6,6 @@ use Rattle.trace.specs.Traces.{Owner, arrow, trace_of}
 use Rattle.trace.specs.Form.{decode_traces}
 use Rattle.trace.specs.Forms.{owner_arrow}
 use Rattle.self_loop.proofs.Laws.{adds_is}
-use borrow.Author.Rules.{rules}
 use Rattle.self_loop.proofs.loop_adds.Goals as goal
 
 pub returns : goal.returns

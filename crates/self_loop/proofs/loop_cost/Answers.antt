@@ -3,7 +3,6 @@ use native.Mathlib.Omega.{arith}
 use Rattle.scene.specs.Scene.{Scene, scene_from}
 use Rattle.self_loop.specs.Looped.{Loop, loop_of}
 use Rattle.self_loop.proofs.Laws.{cost_is}
-use borrow.Author.Rules.{rules}
 use Rattle.self_loop.proofs.loop_cost.Goals as goal
 
 pub overflow_add-result : goal.overflow_add-result

@@ -1,6 +1,5 @@
 -- `self_loop::loop_drawn` meets its contract.
 use Rattle.self_loop.proofs.Laws.{drawn_is}
-use borrow.Author.Rules.{rules}
 use Rattle.self_loop.proofs.loop_drawn.Goals as goal
 
 pub returns : goal.returns

@@ -1,6 +1,5 @@
 -- `self_loop::loop_routed` meets its contract.
 use Rattle.self_loop.proofs.Laws.{routed_is}
-use borrow.Author.Rules.{rules}
 use Rattle.self_loop.proofs.loop_routed.Goals as goal
 
 pub returns : goal.returns

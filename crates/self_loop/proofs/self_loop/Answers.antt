@@ -7,7 +7,6 @@ use Rattle.shape.specs.declared.«V».{«V»}
 use Rattle.scene.specs.Scene.{Scene, scene_from}
 use Rattle.directions.specs.Directions.{directions}
 use Rattle.self_loop.specs.Looped.{loop_of, looped}
-use borrow.Author.Rules.{rules}
 use Rattle.self_loop.proofs.self_loop.Goals as goal
 
 pub slice_bounds-draw_taken-end : goal.slice_bounds-draw_taken-end

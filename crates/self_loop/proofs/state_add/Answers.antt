@@ -4,7 +4,6 @@ use mathlib.Core.Bool.{true, false}
 use Rattle.trace.specs.Traces.{near25}
 use Rattle.trace.specs.Form.{decode_trace}
 use Rattle.self_loop.proofs.Laws.{own_worth_none, other_is}
-use borrow.Author.Rules.{rules}
 use Rattle.self_loop.proofs.state_add.Goals as goal
 
 pub returns-then-k-node : goal.returns-then-k-node

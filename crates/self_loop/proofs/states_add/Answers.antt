@@ -1,18 +1,16 @@
 -- `self_loop::states_add` meets its contract.
-use mathlib.Core.Path.{◌≡◌, ◌∙◌}
-use Prim.Native.Nat.{◌+◌, ◌-◌, ◌*◌, ◌≤◌}
+use mathlib.Core.Path.{◌∙◌}
+use Prim.Native.Nat.{◌+◌, ◌-◌}
 use native.Mathlib.Omega.{arith}
-use lib.ListN.{length, drop}
-use Rattle.laws.specs.Counting.{how_many, how_many_none}
+use lib.ListN.{drop}
+use Rattle.laws.specs.Counting.{how_many_none}
 use Rattle.laws.specs.Zip.{zip_past}
 use Rattle.shape.specs.Plane.{vec}
 use Rattle.shape.specs.Centres.{centres}
 use Rattle.shape.specs.CentresFrom.{centres_from}
 use Rattle.trace.specs.Traces.{near25}
 use Rattle.trace.specs.Form.{decode_trace}
-use Rattle.self_loop.specs.Looped.{states_but}
 use Rattle.self_loop.proofs.Laws.{rest_but, rest-start, rest_more, rest_none}
-use borrow.Author.Rules.{rules}
 use Rattle.self_loop.proofs.states_add.Goals as goal
 
 pub loop-k-init : goal.loop-k-init

@@ -1,17 +1,13 @@
 -- `self_loop::states_add` meets its contract.
-use mathlib.Core.Path.{◌≡◌, ◌∙◌}
+use mathlib.Core.Path.{◌≡◌}
 use Prim.Native.Nat.{◌+◌, ◌-◌, ◌*◌, ◌≤◌}
-use native.Mathlib.Omega.{arith}
 use lib.ListN.{length, drop}
-use Rattle.laws.specs.Counting.{how_many, how_many_none}
-use Rattle.laws.specs.Zip.{zip_past}
-use Rattle.shape.specs.Plane.{vec}
+use Rattle.laws.specs.Counting.{how_many}
 use Rattle.shape.specs.Centres.{centres}
-use Rattle.shape.specs.CentresFrom.{centres_from}
 use Rattle.trace.specs.Traces.{near25}
 use Rattle.trace.specs.Form.{decode_trace}
 use Rattle.self_loop.specs.Looped.{states_but}
-use Rattle.self_loop.proofs.Laws.{rest_but, rest-start, rest_more, rest_none}
+use Rattle.self_loop.proofs.Laws.{rest_but}
 use Rattle.self_loop.proofs.states_add.Given as goal
 
 abbrev pub invariant-loop-k : goal.invariant-loop-k

@@ -1,12 +1,9 @@
 -- `self_loop::take_direction` meets its contract.
-use mathlib.Core.Path.{◌≡◌, ap, ◌∙◌}
-use Prim.Native.Nat.{◌+◌}
+use mathlib.Core.Path.{ap, ◌∙◌}
 use native.Mathlib.Omega.{arith}
-use lib.ListN.{length}
-use Rattle.laws.specs.Best.{search_from}
 use Rattle.laws.specs.Search.{step-at, stop_at, search_end}
 use Rattle.scene.specs.Scene.{Scene, scene_from}
-use Rattle.self_loop.specs.Looped.{Loop, loop_of, loop_cost, direction_cost, loop_taken}
+use Rattle.self_loop.specs.Looped.{Loop, loop_of, loop_cost, direction_cost}
 use Rattle.self_loop.proofs.Laws.{loop_early_is, direction_is}
 use Rattle.self_loop.proofs.take_direction.Goals as goal
 

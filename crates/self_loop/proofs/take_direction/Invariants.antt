@@ -1,13 +1,10 @@
 -- `self_loop::take_direction` meets its contract.
-use mathlib.Core.Path.{◌≡◌, ap, ◌∙◌}
+use mathlib.Core.Path.{◌≡◌}
 use Prim.Native.Nat.{◌+◌}
-use native.Mathlib.Omega.{arith}
 use lib.ListN.{length}
 use Rattle.laws.specs.Best.{search_from}
-use Rattle.laws.specs.Search.{step-at, stop_at, search_end}
-use Rattle.scene.specs.Scene.{Scene, scene_from}
-use Rattle.self_loop.specs.Looped.{Loop, loop_of, loop_cost, direction_cost, loop_taken}
-use Rattle.self_loop.proofs.Laws.{loop_early_is, direction_is}
+use Rattle.scene.specs.Scene.{scene_from}
+use Rattle.self_loop.specs.Looped.{loop_of, direction_cost, loop_taken}
 use Rattle.self_loop.proofs.take_direction.Given as goal
 
 abbrev pub invariant-loop-left : goal.invariant-loop-left

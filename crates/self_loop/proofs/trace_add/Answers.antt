@@ -6,7 +6,6 @@ use Rattle.laws.specs.Flat.{part}
 use Rattle.laws.specs.Counting.{worth_of}
 use Rattle.trace.specs.Traces.{crossed}
 use Rattle.trace.specs.Form.{decode_trace}
-use borrow.Author.Rules.{rules}
 use Rattle.self_loop.proofs.trace_add.Goals as goal
 
 pub returns-then-crossed_at : goal.returns-then-crossed_at

@@ -1,11 +1,8 @@
 -- `self_loop::traces_add` meets its contract.
-use mathlib.Core.Path.{◌≡◌, ◌∙◌}
+use mathlib.Core.Path.{◌≡◌}
 use Prim.Native.Nat.{◌+◌, ◌-◌, ◌*◌, ◌≤◌}
-use native.Mathlib.Nat.{zero-add}
-use native.Mathlib.Omega.{arith}
 use Rattle.laws.specs.Flat.{table, part}
-use Rattle.laws.specs.Counting.{how_many, how_many-step, how_many_none}
-use Rattle.laws.specs.Tables.{table-first, table_none}
+use Rattle.laws.specs.Counting.{how_many}
 use Rattle.trace.specs.Traces.{crossed}
 use Rattle.trace.specs.Form.{decode_trace, decode_traces}
 use Rattle.self_loop.proofs.traces_add.Given as goal

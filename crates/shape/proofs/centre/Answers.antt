@@ -4,7 +4,6 @@ use lib.Ieee.{nan}
 use Rattle.laws.specs.Zip.{zip_at}
 use Rattle.float.specs.Constants.{f0}
 use Rattle.shape.specs.Plane.{vec}
-use borrow.Author.Rules.{rules}
 use Rattle.shape.proofs.centre.Goals as goal
 
 pub returns : goal.returns

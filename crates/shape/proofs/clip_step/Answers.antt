@@ -2,7 +2,6 @@
 use mathlib.Core.Path.{◌∙◌, ap}
 use lib.Ieee.{Float}
 use Rattle.shape.specs.Steps.{settled, clip_step, step_enters, step-leaves}
-use borrow.Author.Rules.{rules}
 use Rattle.shape.proofs.clip_step.Goals as goal
 
 pub returns-then-room : goal.returns-then-room

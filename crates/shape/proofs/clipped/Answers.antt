@@ -1,6 +1,5 @@
 -- `shape::clipped` meets its contract.
 use Rattle.shape.specs.Steps.{clipped}
-use borrow.Author.Rules.{rules}
 use Rattle.shape.proofs.clipped.Goals as goal
 
 pub returns : goal.returns

@@ -1,7 +1,6 @@
 -- `shape::edge_step` meets its contract.
 use Rattle.shape.specs.Steps.{edge_step, edge_on}
 use mathlib.Core.Path.{◌∙◌}
-use borrow.Author.Rules.{rules}
 use Rattle.shape.proofs.edge_step.Goals as goal
 
 pub returns-then-c : goal.returns-then-c

@@ -1,5 +1,4 @@
 -- `shape::orient` meets its contract.
-use borrow.Author.Rules.{rules}
 use Rattle.shape.proofs.orient.Goals as goal
 
 pub returns : goal.returns

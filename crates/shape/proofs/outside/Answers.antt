@@ -1,6 +1,5 @@
 -- `shape::outside` meets its contract.
 use Rattle.shape.specs.Plane.{outside}
-use borrow.Author.Rules.{rules}
 use Rattle.shape.proofs.outside.Goals as goal
 
 pub returns : goal.returns

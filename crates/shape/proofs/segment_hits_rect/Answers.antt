@@ -1,6 +1,5 @@
 -- `shape::segment_hits_rect` meets its contract.
 use Rattle.shape.specs.Steps.{hit, spans_apart}
-use borrow.Author.Rules.{rules}
 use Rattle.shape.proofs.segment_hits_rect.Goals as goal
 
 pub returns-then-touches : goal.returns-then-touches

@@ -1,6 +1,5 @@
 -- `shape::segments_cross` meets its contract.
 use Rattle.shape.specs.Clipping.{segments_cross}
-use borrow.Author.Rules.{rules}
 use Rattle.shape.proofs.segments_cross.Goals as goal
 
 pub returns-then-ends : goal.returns-then-ends

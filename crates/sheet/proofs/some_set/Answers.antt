@@ -1,11 +1,9 @@
-use mathlib.Core.Path.{◌≡◌, refl, sym, ◌∙◌, ap}
+use mathlib.Core.Path.{refl, sym, ◌∙◌, ap}
 use mathlib.Core.Bool.{not}
-use Prim.Native.Nat.{◌-◌}
 use native.Mathlib.Omega.{arith}
 use borrow.Author.Tests.{ne_eqb, eq-eqb}
-use Rattle.laws.specs.Loops.{any_up, any_hit, any_miss, any_done}
+use Rattle.laws.specs.Loops.{any_hit, any_miss, any_done}
 use Rattle.sheet.specs.Refusals.{is_set}
-use borrow.Author.Rules.{rules}
 use Rattle.sheet.proofs.some_set.Goals as goal
 
 pub loop-i-init : goal.loop-i-init

@@ -1,9 +1,8 @@
-use mathlib.Core.Path.{◌≡◌, refl, sym, ◌∙◌}
-use Prim.Native.Nat.{◌+◌, ◌-◌}
+use mathlib.Core.Path.{refl, sym, ◌∙◌}
+use Prim.Native.Nat.{◌+◌}
 use native.Mathlib.Omega.{arith}
-use Rattle.laws.specs.Loops.{any_up, any_hit, any_miss, any_done}
+use Rattle.laws.specs.Loops.{any_hit, any_miss, any_done}
 use Rattle.sheet.specs.Refusals.{wrong_record}
-use borrow.Author.Rules.{rules}
 use Rattle.sheet.proofs.some_wrong.Goals as goal
 
 pub loop-k-init : goal.loop-k-init

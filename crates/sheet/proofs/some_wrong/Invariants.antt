@@ -1,7 +1,6 @@
-use mathlib.Core.Path.{◌≡◌, refl, sym, ◌∙◌}
+use mathlib.Core.Path.{◌≡◌}
 use Prim.Native.Nat.{◌+◌, ◌-◌}
-use native.Mathlib.Omega.{arith}
-use Rattle.laws.specs.Loops.{any_up, any_hit, any_miss, any_done}
+use Rattle.laws.specs.Loops.{any_up}
 use Rattle.sheet.specs.Refusals.{wrong_record}
 use Rattle.sheet.proofs.some_wrong.Given as goal
 

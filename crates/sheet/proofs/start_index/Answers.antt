@@ -1,9 +1,6 @@
 -- `sheet::start_index` meets its contract.
-use mathlib.Core.Path.{◌≡◌, refl, sym, ◌∙◌}
-use Prim.Native.Nat.{◌-◌, ◌≤◌}
+use mathlib.Core.Path.{refl, sym, ◌∙◌}
 use native.Mathlib.Omega.{arith}
-use lib.ListN.{length, drop}
-use Rattle.sheet.specs.Meaning.{start_from, start_index}
 use Rattle.sheet.proofs.Laws.{start_hit, start_miss, start-past}
 use borrow.Author.Rules.{rules}
 use Rattle.sheet.proofs.start_index.Goals as goal

@@ -1,10 +1,8 @@
 -- `sheet::start_index` meets its contract.
-use mathlib.Core.Path.{◌≡◌, refl, sym, ◌∙◌}
+use mathlib.Core.Path.{◌≡◌}
 use Prim.Native.Nat.{◌-◌, ◌≤◌}
-use native.Mathlib.Omega.{arith}
 use lib.ListN.{length, drop}
 use Rattle.sheet.specs.Meaning.{start_from, start_index}
-use Rattle.sheet.proofs.Laws.{start_hit, start_miss, start-past}
 use Rattle.sheet.proofs.start_index.Given as goal
 
 abbrev pub invariant-loop-i : goal.invariant-loop-i

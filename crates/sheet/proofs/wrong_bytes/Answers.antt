@@ -1,6 +1,5 @@
 use mathlib.Core.Path.{sym}
 use Rattle.sheet.specs.Refusals.{wrong_bytes}
-use borrow.Author.Rules.{rules}
 use Rattle.sheet.proofs.wrong_bytes.Goals as goal
 
 pub returns-then-some_set : goal.returns-then-some_set

@@ -1,7 +1,6 @@
 use mathlib.Core.Path.{sym}
 use borrow.Author.Tests.{ne_eqb, lt-ltb, le-ltb}
 use Rattle.sheet.specs.Refusals.{wrong_record}
-use borrow.Author.Rules.{rules}
 use Rattle.sheet.proofs.wrong_record.Goals as goal
 
 pub returns-then-one-gt3 : goal.returns-then-one-gt3

@@ -3,7 +3,6 @@ use mathlib.Core.Bool.{not}
 use borrow.Author.Tests.{eq-eqb, ne_eqb}
 use Rattle.sheet.specs.Accepted.{few}
 use Rattle.sheet_check.proofs.Laws.{refusal_given, refusal-passed, accepted, answers-check}
-use borrow.Author.Rules.{rules}
 use Rattle.sheet_check.proofs.check_within.Goals as goal
 
 pub returns-then-wrong_length : goal.returns-then-wrong_length

@@ -1,7 +1,6 @@
 use mathlib.Core.Path.{sym, ◌∙◌, ap}
 use native.Mathlib.Omega.{arith}
 use Rattle.sheet_check.proofs.Laws.{meet_above, meet-other, meet-past, meet_again, meet-first}
-use borrow.Author.Rules.{rules}
 use Rattle.reader.specs.declared.Record.{Record}
 use Rattle.sheet_check.proofs.meet.Goals as goal
 

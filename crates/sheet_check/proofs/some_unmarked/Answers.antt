@@ -1,10 +1,9 @@
-use mathlib.Core.Path.{◌≡◌, refl, sym, ◌∙◌}
+use mathlib.Core.Path.{refl, sym, ◌∙◌}
 use Prim.Native.Nat.{◌+◌, ◌-◌}
 use native.Mathlib.Omega.{arith}
 use borrow.Author.Tests.{ne_eqb, eq-eqb}
-use Rattle.laws.specs.Loops.{any_up, any_hit, any_miss, any_done}
+use Rattle.laws.specs.Loops.{any_hit, any_miss, any_done}
 use Rattle.sheet_check.specs.Walk.{unmarked}
-use borrow.Author.Rules.{rules}
 use Rattle.sheet_check.proofs.some_unmarked.Goals as goal
 
 pub loop-k-init : goal.loop-k-init

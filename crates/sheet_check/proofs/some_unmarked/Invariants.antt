@@ -1,7 +1,6 @@
-use mathlib.Core.Path.{◌≡◌, refl, sym, ◌∙◌}
+use mathlib.Core.Path.{◌≡◌}
 use Prim.Native.Nat.{◌+◌, ◌-◌}
-use native.Mathlib.Omega.{arith}
-use Rattle.laws.specs.Loops.{any_up, any_hit, any_miss, any_done}
+use Rattle.laws.specs.Loops.{any_up}
 use Rattle.sheet_check.specs.Walk.{unmarked}
 use Rattle.sheet_check.proofs.some_unmarked.Given as goal
 

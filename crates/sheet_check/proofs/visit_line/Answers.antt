@@ -3,7 +3,6 @@ use borrow.Author.Tests.{not-true, not-false}
 use Rattle.sheet_check.specs.Walk.{walked}
 use Rattle.sheet.specs.Sheet.{met_alone, met_line, first_text}
 use Rattle.sheet_check.proofs.Laws.{then_bad, then_on}
-use borrow.Author.Rules.{rules}
 use Rattle.reader.specs.declared.Record.{Record}
 use mathlib.Core.Bool.{not}
 use Rattle.sheet_check.proofs.visit_line.Goals as goal

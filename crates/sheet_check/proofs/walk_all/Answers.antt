@@ -1,7 +1,6 @@
 use borrow.Author.Tests.{not-true, not-false}
 use Rattle.sheet_check.specs.Walk.{walked}
 use Rattle.sheet_check.proofs.Laws.{all_bad, all_on}
-use borrow.Author.Rules.{rules}
 use mathlib.Core.Path.{ap}
 use mathlib.Core.Bool.{not}
 use Rattle.sheet_check.proofs.walk_all.Goals as goal

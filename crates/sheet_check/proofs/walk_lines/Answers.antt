@@ -1,10 +1,7 @@
 use mathlib.Core.Path.{◌∙◌}
-use Prim.Native.Nat.{◌<◌}
 use native.Mathlib.Omega.{arith}
 use borrow.Author.Tests.{not-true, not-false}
-use Rattle.sheet.specs.Sheet.{met_line}
-use Rattle.sheet_check.proofs.Laws.{Walks, walks_start, walks_cut, walks_end, walks_step, walks_stop}
-use borrow.Author.Rules.{rules}
+use Rattle.sheet_check.proofs.Laws.{walks_start, walks_cut, walks_end, walks_step, walks_stop}
 use mathlib.Core.Path.{ap}
 use mathlib.Core.Bool.{not}
 use Rattle.sheet_check.proofs.walk_lines.Goals as goal

@@ -1,8 +1,6 @@
-use mathlib.Core.Path.{◌∙◌}
 use Prim.Native.Nat.{◌<◌}
-use native.Mathlib.Omega.{arith}
 use Rattle.sheet.specs.Sheet.{met_line}
-use Rattle.sheet_check.proofs.Laws.{Walks, walks_start, walks_cut, walks_end, walks_step, walks_stop}
+use Rattle.sheet_check.proofs.Laws.{Walks}
 use Rattle.sheet_check.proofs.walk_lines.Given as goal
 
 abbrev pub invariant-loop-i : goal.invariant-loop-i

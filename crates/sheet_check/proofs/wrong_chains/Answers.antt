@@ -5,7 +5,6 @@ use borrow.Author.Tests.{not-true, not-false}
 use Rattle.laws.specs.Loops.{any_up}
 use Rattle.sheet_check.specs.Walk.{walked, unmarked}
 use Rattle.sheet_check.specs.Marks.{chains_wrong, chains_marked}
-use borrow.Author.Rules.{rules}
 use mathlib.Core.Bool.{not}
 use Rattle.sheet_check.proofs.wrong_chains.Goals as goal
 

@@ -1,6 +1,5 @@
 use mathlib.Core.Path.{sym}
 use borrow.Author.Tests.{lt-ltb, le-ltb}
-use borrow.Author.Rules.{rules}
 use Rattle.sheet_check.proofs.wrong_length.Goals as goal
 
 pub returns-then-s-lt16 : goal.returns-then-s-lt16

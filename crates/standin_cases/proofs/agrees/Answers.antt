@@ -1,6 +1,5 @@
 -- `standin_cases::agrees` meets its contract. Assumes nothing.
 use Rattle.standin_cases.specs.Cases.{standin_agrees}
-use borrow.Author.Rules.{rules}
 use Rattle.standin_cases.proofs.agrees.Goals as goal
 
 pub returns-then-one_agrees : goal.returns-then-one_agrees

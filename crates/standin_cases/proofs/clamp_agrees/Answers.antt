@@ -1,8 +1,7 @@
 -- `standin_cases::clamp_agrees` meets its contract. Assumes nothing.
 use borrow.Author.Tests.{ne_eqb}
-use Rattle.cases.specs.Payload.{answer_stands, row_right}
+use Rattle.cases.specs.Payload.{row_right}
 use Rattle.standin_cases.specs.Cases.{clamp_agrees}
-use borrow.Author.Rules.{rules}
 use Rattle.standin_cases.proofs.clamp_agrees.Goals as goal
 
 pub returns-then-kind-ne12 : goal.returns-then-kind-ne12

@@ -7,7 +7,6 @@ use Rattle.float.specs.Ops.{rem}
 use Rattle.cases.specs.Payload.{answer_stands, row_right}
 use Rattle.float.specs.Standins as F
 use Rattle.standin_cases.specs.Cases.{one_agrees}
-use borrow.Author.Rules.{rules}
 use Rattle.standin_cases.proofs.one_agrees.Goals as goal
 
 pub returns-in-1 : goal.returns-in-1

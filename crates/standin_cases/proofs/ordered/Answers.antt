@@ -1,7 +1,6 @@
 -- `standin_cases::ordered` meets its contract. Assumes nothing.
 use borrow.Author.Tests.{ne_eqb, eq-eqb}
 use Rattle.standin_cases.specs.Cases.{ordered}
-use borrow.Author.Rules.{rules}
 use Rattle.standin_cases.proofs.ordered.Goals as goal
 
 pub returns-then-p-ne17 : goal.returns-then-p-ne17

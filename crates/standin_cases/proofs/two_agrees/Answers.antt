@@ -4,7 +4,6 @@ use borrow.Author.Tests.{ne_eqb}
 use Rattle.cases.specs.Payload.{answer_stands, row_right}
 use Rattle.float.specs.Standins as F
 use Rattle.standin_cases.specs.Cases.{two_agrees, ordered}
-use borrow.Author.Rules.{rules}
 use Rattle.standin_cases.proofs.two_agrees.Goals as goal
 
 pub returns-in-2 : goal.returns-in-2

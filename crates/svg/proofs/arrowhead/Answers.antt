@@ -1,6 +1,5 @@
 -- `svg::arrowhead` meets its contract.
 use Rattle.svg.proofs.Laws.{head_is}
-use borrow.Author.Rules.{rules}
 use Rattle.svg.proofs.arrowhead.Goals as goal
 
 pub returns : goal.returns

@@ -2,7 +2,6 @@
 use mathlib.Core.Path.{sym, ◌∙◌}
 use Rattle.laws.specs.Bools.{and_yes, and_no}
 use Rattle.svg.proofs.Laws.{line-writable, quad_writable, cubic_writable}
-use borrow.Author.Rules.{rules}
 use Rattle.svg.proofs.curve_writable.Goals as goal
 
 pub returns-then-both_writable : goal.returns-then-both_writable

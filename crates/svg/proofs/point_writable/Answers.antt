@@ -1,6 +1,5 @@
 -- `svg::point_writable` meets its contract.
 use mathlib.Core.Path.{sym, ◌∙◌}
-use borrow.Author.Rules.{rules}
 use Rattle.laws.specs.Bools.{and_yes, and_no}
 use Rattle.svg.proofs.point_writable.Goals as goal
 

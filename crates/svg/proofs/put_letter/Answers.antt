@@ -1,6 +1,5 @@
 -- `svg::put_letter` meets its contract.
 use Rattle.laws.specs.Writers.{wrote-more}
-use borrow.Author.Rules.{rules}
 use Rattle.svg.proofs.put_letter.Goals as goal
 
 pub returns : goal.returns

@@ -3,7 +3,6 @@ use mathlib.Core.Path.{sym, ap, ◌∙◌}
 use Rattle.laws.specs.Writers.{wrote_as, wrote-more}
 use Rattle.svg.specs.Paths.{curve_text}
 use Rattle.svg.proofs.Laws.{line_text_is, quad_is, cubic_is}
-use borrow.Author.Rules.{rules}
 use Rattle.svg.proofs.put_path.Goals as goal
 
 pub returns-in-Line : goal.returns-in-Line

@@ -1,7 +1,6 @@
 -- `svg::put_point` meets its contract.
 use Rattle.laws.specs.Writers.{wrote_as, wrote-more}
 use Rattle.svg.proofs.Laws.{point_is}
-use borrow.Author.Rules.{rules}
 use Rattle.svg.proofs.put_point.Goals as goal
 
 pub returns : goal.returns

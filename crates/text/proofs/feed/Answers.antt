@@ -1,7 +1,6 @@
 -- `text::feed` meets its contract.
 use borrow.Author.Tests.{ne_eqb}
 use Rattle.text.specs.Automaton.{feed_of}
-use borrow.Author.Rules.{rules}
 use Rattle.text.proofs.feed.Goals as goal
 
 pub returns-in-0 : goal.returns-in-0

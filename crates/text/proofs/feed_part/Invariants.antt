@@ -1,8 +1,6 @@
 -- `text::feed_part` meets its contract. The invariant: the automaton fed on from here ends where it ends from the start.
-use mathlib.Core.Path.{refl}
-use native.Mathlib.Omega.{arith}
 use lib.ListN.{take, drop}
-use Rattle.laws.specs.Loops.{Folds, folds_step, folds_none, folds_past}
+use Rattle.laws.specs.Loops.{Folds}
 use Rattle.text.specs.Automaton.{feed_all, feed_of}
 use Rattle.text.proofs.feed_part.Given as goal
 

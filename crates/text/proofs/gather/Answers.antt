@@ -1,5 +1,4 @@
 -- `text::gather` meets its contract.
-use borrow.Author.Rules.{rules}
 use borrow.Author.Tests.{eq-eqb, ne_eqb}
 use Rattle.text.specs.Automaton.{gather_of}
 use Rattle.text.proofs.gather.Goals as goal

@@ -1,10 +1,8 @@
 -- `text::put_bytes` meets its contract. The invariant: the bytes passed are written.
-use mathlib.Core.Path.{◌≡◌, refl, ◌∙◌}
-use Prim.Native.Nat.{◌-◌, ◌≤◌}
+use mathlib.Core.Path.{refl, ◌∙◌}
 use native.Mathlib.Omega.{arith}
-use lib.ListN.{length, take}
 use lib.Seq.{take_all}
-use Rattle.laws.specs.Writers.{Wrote, wrote_none, wrote-next, wrote_as}
+use Rattle.laws.specs.Writers.{wrote_none, wrote-next, wrote_as}
 use Rattle.text.proofs.put_bytes.Goals as goal
 
 pub loop-i-init : goal.loop-i-init

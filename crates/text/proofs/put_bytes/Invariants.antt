@@ -1,10 +1,8 @@
 -- `text::put_bytes` meets its contract. The invariant: the bytes passed are written.
-use mathlib.Core.Path.{◌≡◌, refl, ◌∙◌}
+use mathlib.Core.Path.{◌≡◌}
 use Prim.Native.Nat.{◌-◌, ◌≤◌}
-use native.Mathlib.Omega.{arith}
 use lib.ListN.{length, take}
-use lib.Seq.{take_all}
-use Rattle.laws.specs.Writers.{Wrote, wrote_none, wrote-next, wrote_as}
+use Rattle.laws.specs.Writers.{Wrote}
 use Rattle.text.proofs.put_bytes.Given as goal
 
 abbrev pub invariant-loop-i : goal.invariant-loop-i

@@ -1,13 +1,10 @@
 -- `totals::count_arrows` meets its contract.
-use mathlib.Core.Path.{◌≡◌, ap, ◌∙◌}
+use mathlib.Core.Path.{◌≡◌}
 use mathlib.Core.List.{map}
-use Prim.Native.Nat.{ℕ, ◌+◌, ◌-◌, ◌*◌, ◌≤◌, ◌<◌}
-use native.Mathlib.Omega.{arith}
+use Prim.Native.Nat.{◌+◌, ◌-◌, ◌*◌, ◌≤◌, ◌<◌}
 use Rattle.laws.specs.Loops.{over}
 use Rattle.sheet.specs.Sheet.{chain_by, arrow_of, arrows_of}
-use Rattle.sheet.specs.Chains.{things_end, things_cut, things_step}
 use Rattle.totals.specs.Arrows.{none_counted, with_arrow}
-use Rattle.totals.proofs.Laws.{fold_start}
 use Rattle.totals.proofs.count_arrows.Given as goal
 
 abbrev pub invariant-loop-i : goal.invariant-loop-i

@@ -2,7 +2,6 @@
 use mathlib.Core.Bool.{true, false}
 use native.Mathlib.Omega.{arith}
 use Rattle.totals.proofs.Laws.{left_out_is}
-use borrow.Author.Rules.{rules}
 use Rattle.totals.proofs.left_out_add.Goals as goal
 
 pub returns-then-ends_below : goal.returns-then-ends_below

@@ -1,7 +1,6 @@
 -- `totals::lines_add` meets its contract.
 use native.Mathlib.Omega.{arith}
 use Rattle.totals.proofs.Laws.{lines_kept, lines_none}
-use borrow.Author.Rules.{rules}
 use Rattle.totals.proofs.lines_add.Goals as goal
 
 pub returns-then-ends_below : goal.returns-then-ends_below

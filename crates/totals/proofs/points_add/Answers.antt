@@ -8,7 +8,6 @@ use Rattle.laws.specs.Counting.{worth_of}
 use Rattle.records.specs.Records.{decode_geometry}
 use Rattle.totals.specs.Totals.{has_points}
 use Rattle.totals.proofs.Laws.{points_tell}
-use borrow.Author.Rules.{rules}
 use Rattle.totals.proofs.points_add.Goals as goal
 
 pub returns-then-point_count-n : goal.returns-then-point_count-n

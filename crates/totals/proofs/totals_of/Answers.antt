@@ -2,7 +2,6 @@
 use Rattle.sheet.specs.Sheet.{meaning}
 use Rattle.records.specs.Records.{decode_records}
 use Rattle.totals.proofs.Laws.{totals_are}
-use borrow.Author.Rules.{rules}
 use Rattle.totals.proofs.totals_of.Goals as goal
 
 pub returns : goal.returns

@@ -3,7 +3,6 @@ use mathlib.Core.Path.{ap₂}
 use native.Mathlib.Omega.{arith}
 use Prim.Native.Nat.{ℕ, ◌+◌}
 use Rattle.totals.specs.Arrows.{arrow_counts}
-use borrow.Author.Rules.{rules}
 use Rattle.totals.proofs.with_arrow.Goals as goal
 
 pub returns : goal.returns

@@ -1,12 +1,11 @@
 -- `totals::with_points` meets its contract.
-use mathlib.Core.Path.{◌≡◌}
-use Prim.Native.Nat.{ℕ, ◌+◌, ◌-◌, ◌≤◌}
+use Prim.Native.Nat.{ℕ, ◌+◌, ◌-◌}
 use native.Mathlib.Omega.{arith}
 use Rattle.laws.specs.Flat.{table, part}
-use Rattle.laws.specs.Counting.{how_many, how_many-step, how_many_none}
+use Rattle.laws.specs.Counting.{how_many-step, how_many_none}
 use Rattle.laws.specs.Tables.{table-first, table_none}
 use Rattle.label_spots.specs.declared.Geometry.{Geometry}
-use Rattle.records.specs.Records.{decode_geometry, decode_records}
+use Rattle.records.specs.Records.{decode_geometry}
 use Rattle.totals.specs.Totals.{has_points}
 use Rattle.totals.proofs.with_points.Goals as goal
 

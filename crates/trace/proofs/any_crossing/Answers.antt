@@ -1,8 +1,7 @@
 -- `trace::any_crossing` meets its contract.
-use Rattle.std.proofs.Common.{◌≡◌, ◌+◌, refl, ◌∙◌, arith}
-use Rattle.laws.specs.Flat.{table}
-use Rattle.trace.specs.Traces.{any_segment, segment_crosses}
-use Rattle.trace.specs.Form.{trace_point, points_of, decode_trace}
+use Rattle.std.proofs.Common.{refl, ◌∙◌, arith}
+use Rattle.trace.specs.Traces.{segment_crosses}
+use Rattle.trace.specs.Form.{trace_point, decode_trace}
 use Rattle.trace.proofs.Laws.{hit_at, miss_at, seg_end}
 use Rattle.trace.proofs.any_crossing.Goals as goal
 

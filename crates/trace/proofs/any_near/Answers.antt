@@ -1,8 +1,7 @@
 -- `trace::any_near` meets its contract.
-use Rattle.std.proofs.Common.{◌≡◌, ◌+◌, refl, ◌∙◌, arith}
-use Rattle.laws.specs.Flat.{table}
-use Rattle.trace.specs.Traces.{any_point, point_near}
-use Rattle.trace.specs.Form.{trace_point, points_of}
+use Rattle.std.proofs.Common.{refl, ◌∙◌, arith}
+use Rattle.trace.specs.Traces.{point_near}
+use Rattle.trace.specs.Form.{trace_point}
 use Rattle.trace.proofs.Laws.{near_hit, near_miss, point-end}
 use Rattle.trace.proofs.any_near.Goals as goal
 

@@ -1,9 +1,8 @@
 -- `trace::any_near` meets its contract.
-use Rattle.std.proofs.Common.{◌≡◌, ◌+◌, refl, ◌∙◌, arith}
+use Rattle.std.proofs.Common.{◌≡◌, ◌+◌}
 use Rattle.laws.specs.Flat.{table}
 use Rattle.trace.specs.Traces.{any_point, point_near}
 use Rattle.trace.specs.Form.{trace_point, points_of}
-use Rattle.trace.proofs.Laws.{near_hit, near_miss, point-end}
 use Rattle.trace.proofs.any_near.Given as goal
 
 abbrev pub invariant-loop-left : goal.invariant-loop-left

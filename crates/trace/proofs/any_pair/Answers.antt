@@ -1,8 +1,7 @@
 -- `trace::any_pair` meets its contract.
-use Rattle.std.proofs.Common.{◌≡◌, ◌+◌, refl, ◌∙◌, arith}
-use Rattle.laws.specs.Flat.{table}
-use Rattle.trace.specs.Traces.{any_segment, pair_cross}
-use Rattle.trace.specs.Form.{trace_point, points_of}
+use Rattle.std.proofs.Common.{refl, ◌∙◌, arith}
+use Rattle.trace.specs.Traces.{pair_cross}
+use Rattle.trace.specs.Form.{trace_point}
 use Rattle.trace.proofs.Laws.{hit_at, miss_at, seg_end}
 use Rattle.trace.proofs.any_pair.Goals as goal
 

@@ -1,9 +1,8 @@
 -- `trace::any_pair` meets its contract.
-use Rattle.std.proofs.Common.{◌≡◌, ◌+◌, refl, ◌∙◌, arith}
+use Rattle.std.proofs.Common.{◌≡◌, ◌+◌}
 use Rattle.laws.specs.Flat.{table}
 use Rattle.trace.specs.Traces.{any_segment, pair_cross}
 use Rattle.trace.specs.Form.{trace_point, points_of}
-use Rattle.trace.proofs.Laws.{hit_at, miss_at, seg_end}
 use Rattle.trace.proofs.any_pair.Given as goal
 
 abbrev pub invariant-loop-left : goal.invariant-loop-left

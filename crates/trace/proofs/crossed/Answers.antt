@@ -1,7 +1,6 @@
 -- `trace::crossed` meets its contract.
 use Rattle.trace.specs.Form.{decode_trace}
 use Rattle.trace.proofs.Laws.{crossed_is, crossed-not, crossed_none}
-use Rattle.std.proofs.Common.{rules}
 use Rattle.trace.proofs.crossed.Goals as goal
 
 pub returns-then-foreign : goal.returns-then-foreign

@@ -1,6 +1,5 @@
 -- `trace::crosses` meets its contract.
 use Rattle.trace.proofs.Laws.{crosses_on, crosses_off}
-use Rattle.std.proofs.Common.{rules}
 use Rattle.trace.proofs.crosses.Goals as goal
 
 pub returns-then-touches : goal.returns-then-touches

@@ -1,5 +1,5 @@
 -- `trace::crosses_at` meets its contract.
-use Rattle.std.proofs.Common.{◌≡◌, ℕ, ◌+◌, ◌-◌, ◌*◌, take, drop, ◌∙◌, ap₂, arith, rules}
+use Rattle.std.proofs.Common.{◌≡◌, ℕ, ◌+◌, ◌-◌, ◌*◌, take, drop, ◌∙◌, ap₂, arith}
 use Rattle.trace.specs.Traces.{crosses}
 use Rattle.trace.specs.Form.{decode_trace}
 use Rattle.trace.proofs.crosses_at.Goals as goal

@@ -1,5 +1,5 @@
 -- `trace::fill_points` meets its contract.
-use Rattle.std.proofs.Common.{◌≡◌, ℕ, ◌+◌, ◌-◌, ◌≤◌, List, [], ◌∷◌, ◌++◌, length, sym, refl, ap, ◌∙◌, ap₂, arith}
+use Rattle.std.proofs.Common.{◌≡◌, ℕ, ◌+◌, ◌-◌, List, [], ◌∷◌, ◌++◌, sym, refl, ap, ◌∙◌, ap₂, arith}
 use Rattle.laws.specs.Flat.{table, table_more}
 use Rattle.laws.specs.Loops.{over}
 use Rattle.shape.specs.declared.«V».{«V»}

@@ -1,12 +1,8 @@
 -- `trace::fill_points` meets its contract.
-use Rattle.std.proofs.Common.{◌≡◌, ℕ, ◌+◌, ◌-◌, ◌≤◌, List, [], ◌∷◌, ◌++◌, length, sym, refl, ap, ◌∙◌, ap₂, arith}
-use Rattle.laws.specs.Flat.{table, table_more}
-use Rattle.laws.specs.Loops.{over}
-use Rattle.shape.specs.declared.«V».{«V»}
-use Rattle.shape.specs.Plane.{extended}
+use Rattle.std.proofs.Common.{◌≡◌, ◌-◌, ◌≤◌, length}
+use Rattle.laws.specs.Flat.{table}
 use Rattle.trace.specs.Traces.{bounds_of}
 use Rattle.trace.specs.Form.{decode_points, sample_at}
-use Rattle.trace.proofs.Laws.{bounds_more}
 use Rattle.trace.proofs.fill_points.Given as goal
 
 abbrev pub invariant-loop-k : goal.invariant-loop-k

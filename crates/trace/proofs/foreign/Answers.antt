@@ -1,6 +1,5 @@
 -- `trace::foreign` meets its contract.
 use Rattle.trace.proofs.Laws.{foreign_none, foreign-arrow}
-use Rattle.std.proofs.Common.{rules}
 use Rattle.trace.proofs.foreign.Goals as goal
 
 pub returns-then-owner-eq0 : goal.returns-then-owner-eq0

@@ -1,6 +1,5 @@
 -- `trace::hits_rect` meets its contract.
 use Rattle.trace.proofs.Laws.{hits_on, hits_off}
-use Rattle.std.proofs.Common.{rules}
 use Rattle.trace.proofs.hits_rect.Goals as goal
 
 pub returns-then-reaches : goal.returns-then-reaches

@@ -1,6 +1,5 @@
 -- `trace::near` meets its contract.
 use Rattle.trace.proofs.Laws.{near25_is}
-use Rattle.std.proofs.Common.{rules}
 use Rattle.trace.proofs.near.Goals as goal
 
 pub returns : goal.returns

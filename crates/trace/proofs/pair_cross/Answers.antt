@@ -1,6 +1,5 @@
 -- `trace::pair_cross` meets its contract.
 use Rattle.trace.specs.Traces.{pair_cross}
-use Rattle.std.proofs.Common.{rules}
 use Rattle.trace.proofs.pair_cross.Goals as goal
 
 pub returns-then-touches : goal.returns-then-touches

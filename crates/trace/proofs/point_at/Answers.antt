@@ -1,6 +1,5 @@
 -- `trace::point_at` meets its contract.
 use Rattle.trace.proofs.Laws.{point-read}
-use Rattle.std.proofs.Common.{rules}
 use Rattle.trace.proofs.point_at.Goals as goal
 
 pub returns : goal.returns

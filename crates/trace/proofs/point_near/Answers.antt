@@ -1,6 +1,5 @@
 -- `trace::point_near` meets its contract.
 use Rattle.trace.specs.Near.{point_near_squared}
-use Rattle.std.proofs.Common.{rules}
 use Rattle.trace.proofs.point_near.Goals as goal
 
 pub returns : goal.returns

@@ -1,5 +1,5 @@
 -- `trace::push_point` meets its contract.
-use Rattle.std.proofs.Common.{[], ◌∷◌, refl, add-one, arith, length-set, rules}
+use Rattle.std.proofs.Common.{[], ◌∷◌, refl, add-one, arith, length-set}
 use Rattle.laws.specs.Put.{put}
 use Rattle.laws.specs.Flat.{records_push}
 use Rattle.trace.specs.Form.{decode_point}

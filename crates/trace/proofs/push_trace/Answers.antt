@@ -1,5 +1,5 @@
 -- `trace::push_trace` meets its contract.
-use Rattle.std.proofs.Common.{◌≡◌, ℕ, ◌+◌, ◌-◌, ◌*◌, [], ◌∷◌, ◌++◌, length, take, drop, refl, ap, ◌∙◌, arith, length-drop, length-take-le, rules}
+use Rattle.std.proofs.Common.{◌≡◌, ℕ, ◌+◌, ◌-◌, ◌*◌, [], ◌∷◌, ◌++◌, length, take, drop, refl, ap, ◌∙◌, arith, length-drop, length-take-le}
 use Rattle.laws.specs.Flat.{records_lend}
 use Rattle.trace.specs.Traces.{Trace}
 use Rattle.trace.specs.Form.{decode_trace, decode_traces}

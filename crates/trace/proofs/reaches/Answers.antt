@@ -1,5 +1,5 @@
 -- `trace::reaches` meets its contract.
-use Rattle.std.proofs.Common.{ap, ◌∙◌, rules}
+use Rattle.std.proofs.Common.{ap, ◌∙◌}
 use Rattle.shape.specs.declared.Rect.{Rect}
 use Rattle.shape.specs.Plane.{touches}
 use Rattle.trace.proofs.reaches.Goals as goal

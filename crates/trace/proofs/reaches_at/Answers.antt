@@ -1,5 +1,5 @@
 -- `trace::reaches_at` meets its contract.
-use Rattle.std.proofs.Common.{◌≡◌, ℕ, ◌+◌, ◌-◌, ◌*◌, take, drop, ap, ◌∙◌, arith, rules}
+use Rattle.std.proofs.Common.{◌≡◌, ℕ, ◌+◌, ◌-◌, ◌*◌, take, drop, ap, ◌∙◌, arith}
 use Rattle.shape.specs.Plane.{touches}
 use Rattle.trace.specs.Form.{bounds_in}
 use Rattle.trace.proofs.reaches_at.Goals as goal

@@ -1,5 +1,5 @@
 -- `trace::sample` meets its contract.
-use Rattle.std.proofs.Common.{◌^◌, arith, le→leb, rules}
+use Rattle.std.proofs.Common.{◌^◌, arith, le→leb}
 use lib.Ieee.{in_float}
 use Rattle.trace.specs.Traces.{sample}
 use Rattle.trace.proofs.sample.Goals as goal

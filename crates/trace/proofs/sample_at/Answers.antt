@@ -1,5 +1,5 @@
 -- `trace::sample_at` meets its contract.
-use Rattle.std.proofs.Common.{◌∙◌, rules, ne_eqb}
+use Rattle.std.proofs.Common.{◌∙◌, ne_eqb}
 use Rattle.trace.specs.Form.{sample_at}
 use Rattle.trace.proofs.Laws.{quad_sample, cubic_sample}
 use Rattle.trace.proofs.sample_at.Goals as goal

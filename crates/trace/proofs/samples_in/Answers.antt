@@ -1,5 +1,5 @@
 -- `trace::samples_in` meets its contract.
-use Rattle.std.proofs.Common.{sym, ap, arith, rules}
+use Rattle.std.proofs.Common.{sym, ap, arith}
 use Rattle.trace.specs.Form.{samples_in}
 use Rattle.trace.proofs.samples_in.Goals as goal
 

@@ -1,6 +1,5 @@
 -- `trace::segment_crosses` meets its contract.
 use Rattle.trace.proofs.Laws.{segment_on, segment_off}
-use Rattle.std.proofs.Common.{rules}
 use Rattle.trace.proofs.segment_crosses.Goals as goal
 
 pub returns-then-touches : goal.returns-then-touches

@@ -1,6 +1,5 @@
 -- `trace::strikes` meets its contract.
 use Rattle.trace.proofs.Laws.{struck_is, struck-not}
-use Rattle.std.proofs.Common.{rules}
 use Rattle.trace.proofs.strikes.Goals as goal
 
 pub returns-then-foreign : goal.returns-then-foreign

@@ -1,5 +1,5 @@
 -- `trace::strikes_at` meets its contract.
-use Rattle.std.proofs.Common.{◌≡◌, ℕ, ◌+◌, ◌-◌, ◌*◌, take, drop, ap, ◌∙◌, arith, rules}
+use Rattle.std.proofs.Common.{◌≡◌, ℕ, ◌+◌, ◌-◌, ◌*◌, take, drop, ap, ◌∙◌, arith}
 use Rattle.trace.specs.Form.{decode_trace}
 use Rattle.trace.specs.Traces.{struck}
 use Rattle.trace.proofs.strikes_at.Goals as goal

@@ -1,5 +1,5 @@
 -- `trace::write_trace` meets its contract.
-use Rattle.std.proofs.Common.{◌-◌, ◌≤◌, List, length, drop, ap, ◌∙◌, arith, length-drop, drop_of_length-le, rules}
+use Rattle.std.proofs.Common.{◌-◌, ◌≤◌, List, length, drop, ap, ◌∙◌, arith, length-drop, drop_of_length-le}
 use lib.Ieee.{Float}
 use Rattle.trace.specs.Form.{decode_trace}
 use Rattle.trace.proofs.Laws.{trace_written}

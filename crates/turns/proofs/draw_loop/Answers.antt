@@ -13,7 +13,6 @@ use Rattle.self_loop.specs.Looped.{loop_of, looped}
 use Rattle.routing.specs.Routing.{BlockSize}
 use Rattle.turns.specs.Steps.{rim_by}
 use Rattle.turns.proofs.Laws.{size-at}
-use borrow.Author.Rules.{rules}
 use Rattle.turns.proofs.draw_loop.Goals as goal
 
 pub slice_bounds-self_loop-end : goal.slice_bounds-self_loop-end

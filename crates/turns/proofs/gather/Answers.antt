@@ -1,12 +1,11 @@
 -- `turns::gather` meets its contract.
 use mathlib.Core.Path.{◌≡◌, refl, ap, ◌∙◌}
-use Prim.Native.Nat.{ℕ, ◌-◌, ◌*◌, ◌≤◌}
+use Prim.Native.Nat.{ℕ, ◌-◌}
 use native.Mathlib.Omega.{arith}
 use lib.ListN.{length}
 use Rattle.laws.specs.Put.{put}
 use Rattle.turns.specs.Steps.{slots_for}
 use Rattle.turns.proofs.Laws.{no_records, more-count, more-records}
-use borrow.Author.Rules.{rules}
 use Rattle.turns.proofs.gather.Goals as goal
 
 pub loop-i-init : goal.loop-i-init

@@ -1,11 +1,9 @@
 -- `turns::gather` meets its contract.
-use mathlib.Core.Path.{◌≡◌, refl, ap, ◌∙◌}
-use Prim.Native.Nat.{ℕ, ◌-◌, ◌*◌, ◌≤◌}
-use native.Mathlib.Omega.{arith}
+use mathlib.Core.Path.{◌≡◌}
+use Prim.Native.Nat.{◌-◌, ◌*◌, ◌≤◌}
 use lib.ListN.{length}
 use Rattle.laws.specs.Put.{put}
 use Rattle.turns.specs.Steps.{slots_for}
-use Rattle.turns.proofs.Laws.{no_records, more-count, more-records}
 use Rattle.turns.proofs.gather.Given as goal
 
 abbrev pub invariant-loop-i : goal.invariant-loop-i

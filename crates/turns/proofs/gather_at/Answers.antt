@@ -10,7 +10,6 @@ use Rattle.laws.specs.Flat.{part}
 use Rattle.laws.specs.Put.{put, put_mid}
 use Rattle.turns.specs.Steps.{slot_for}
 use Rattle.turns.proofs.Laws.{slot_some, skip_record}
-use borrow.Author.Rules.{rules}
 use Rattle.turns.proofs.gather_at.Goals as goal
 
 pub returns-then-kinds-i-eq-LEFT_OUT : goal.returns-then-kinds-i-eq-LEFT_OUT

@@ -4,7 +4,6 @@ use native.Mathlib.Omega.{arith}
 use Rattle.routing.specs.Sheets.{sizes_by}
 use Rattle.turns.specs.Steps.{drawn_from}
 use Rattle.turns.proofs.Laws.{label_step_lem, label_skip}
-use borrow.Author.Rules.{rules}
 use Rattle.turns.proofs.label_at.Goals as goal
 
 pub label_turn-requires : goal.label_turn-requires

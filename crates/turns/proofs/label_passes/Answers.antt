@@ -1,10 +1,9 @@
 -- `turns::label_passes` meets its contract.
-use mathlib.Core.Path.{refl, ap, ◌∙◌}
+use mathlib.Core.Path.{ap, ◌∙◌}
 use native.Mathlib.Omega.{arith}
 use Rattle.records.specs.Sorts.{sort_straight}
 use Rattle.routing.specs.Sheets.{sizes_by}
 use Rattle.turns.specs.Steps.{label_pass}
-use borrow.Author.Rules.{rules}
 use Rattle.turns.proofs.label_passes.Goals as goal
 
 pub labels-nb-requires : goal.labels-nb-requires

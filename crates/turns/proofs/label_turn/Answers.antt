@@ -8,7 +8,6 @@ use Rattle.routing.specs.Routing.{BlockSize, turn_of}
 use Rattle.routing.specs.Sheets.{sizes_by}
 use Rattle.turns.specs.Steps.{label_for}
 use Rattle.turns.proofs.Laws.{size-at, label_edge, label_left}
-use borrow.Author.Rules.{rules}
 use Rattle.turns.proofs.label_turn.Goals as goal
 
 pub push_box-requires : goal.push_box-requires

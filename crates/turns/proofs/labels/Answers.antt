@@ -1,13 +1,12 @@
 -- `turns::labels` meets its contract.
-use mathlib.Core.Path.{◌≡◌, refl, sym, ap, ◌∙◌}
-use Prim.Native.Nat.{◌+◌, ◌-◌, ◌≤◌}
+use mathlib.Core.Path.{refl, sym, ap, ◌∙◌}
+use Prim.Native.Nat.{◌+◌, ◌-◌}
 use native.Mathlib.Omega.{arith}
 use lib.ListN.{length}
 use Rattle.laws.specs.Loops.{up, up_step, up_done}
 use Rattle.routing_laws.specs.Passes.{Drawn}
 use Rattle.routing.specs.Sheets.{sizes_by}
-use Rattle.turns.specs.Steps.{drawn_from, label_step, label_pass}
-use borrow.Author.Rules.{rules}
+use Rattle.turns.specs.Steps.{label_step}
 use Rattle.turns.proofs.labels.Goals as goal
 
 pub loop-i-init : goal.loop-i-init

@@ -1,10 +1,8 @@
 -- `turns::labels` meets its contract.
-use mathlib.Core.Path.{◌≡◌, refl, sym, ap, ◌∙◌}
+use mathlib.Core.Path.{◌≡◌}
 use Prim.Native.Nat.{◌+◌, ◌-◌, ◌≤◌}
-use native.Mathlib.Omega.{arith}
 use lib.ListN.{length}
-use Rattle.laws.specs.Loops.{up, up_step, up_done}
-use Rattle.routing_laws.specs.Passes.{Drawn}
+use Rattle.laws.specs.Loops.{up}
 use Rattle.routing.specs.Sheets.{sizes_by}
 use Rattle.turns.specs.Steps.{drawn_from, label_step, label_pass}
 use Rattle.turns.proofs.labels.Given as goal

@@ -5,7 +5,6 @@ use Rattle.shape.specs.Centres.{centres}
 use Rattle.routing.specs.Sheets.{sizes_by}
 use Rattle.turns.specs.Steps.{rim_by, drawn_from}
 use Rattle.turns.proofs.Laws.{loop_step_lem, loop_skip}
-use borrow.Author.Rules.{rules}
 use Rattle.turns.proofs.loop_at.Goals as goal
 
 pub loop_turn-requires : goal.loop_turn-requires

@@ -6,7 +6,6 @@ use Rattle.self_loop.specs.Looped.{Loop, looped}
 use Rattle.routing.specs.Sheets.{sizes_by}
 use Rattle.turns.specs.Steps.{rim_by, loop_for}
 use Rattle.turns.proofs.Laws.{loop_edge, loop_left}
-use borrow.Author.Rules.{rules}
 use Rattle.turns.proofs.loop_turn.Goals as goal
 
 pub write_at-requires : goal.write_at-requires

@@ -1,14 +1,13 @@
 -- `turns::loops` meets its contract.
-use mathlib.Core.Path.{◌≡◌, refl, sym, ap, ◌∙◌}
-use Prim.Native.Nat.{◌+◌, ◌-◌, ◌≤◌}
+use mathlib.Core.Path.{refl, sym, ap, ◌∙◌}
+use Prim.Native.Nat.{◌+◌, ◌-◌}
 use native.Mathlib.Omega.{arith}
 use lib.ListN.{length}
 use Rattle.laws.specs.Loops.{up, up_step, up_done}
 use Rattle.shape.specs.Centres.{centres}
 use Rattle.routing_laws.specs.Passes.{Drawn}
 use Rattle.routing.specs.Sheets.{sizes_by}
-use Rattle.turns.specs.Steps.{rim_by, drawn_from, loop_step, loop_pass}
-use borrow.Author.Rules.{rules}
+use Rattle.turns.specs.Steps.{rim_by, loop_step}
 use Rattle.turns.proofs.loops.Goals as goal
 
 pub loop-i-init : goal.loop-i-init

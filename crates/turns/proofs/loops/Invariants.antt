@@ -1,11 +1,9 @@
 -- `turns::loops` meets its contract.
-use mathlib.Core.Path.{◌≡◌, refl, sym, ap, ◌∙◌}
+use mathlib.Core.Path.{◌≡◌}
 use Prim.Native.Nat.{◌+◌, ◌-◌, ◌≤◌}
-use native.Mathlib.Omega.{arith}
 use lib.ListN.{length}
-use Rattle.laws.specs.Loops.{up, up_step, up_done}
+use Rattle.laws.specs.Loops.{up}
 use Rattle.shape.specs.Centres.{centres}
-use Rattle.routing_laws.specs.Passes.{Drawn}
 use Rattle.routing.specs.Sheets.{sizes_by}
 use Rattle.turns.specs.Steps.{rim_by, drawn_from, loop_step, loop_pass}
 use Rattle.turns.proofs.loops.Given as goal

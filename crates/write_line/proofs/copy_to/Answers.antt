@@ -1,12 +1,11 @@
 -- `write_line::copy_to` meets its contract.
-use mathlib.Core.Path.{◌≡◌, refl}
+use mathlib.Core.Path.{refl}
 use mathlib.Core.List.{[], ◌∷◌}
-use Prim.Native.Nat.{◌+◌, ◌-◌, ◌≤◌}
+use Prim.Native.Nat.{◌+◌, ◌-◌}
 use native.Mathlib.Omega.{arith}
-use lib.ListN.{length, take, drop, get_or}
-use borrow.Author.Rules.{rules}
+use lib.ListN.{take, drop, get_or}
 use Rattle.laws.specs.Put.{put}
-use Rattle.write_line.specs.Puts.{Stores, stores_start, stores_end, stores_step}
+use Rattle.write_line.specs.Puts.{stores_start, stores_end, stores_step}
 use Rattle.write_line.specs.Lines.{between-end, between_step}
 use Rattle.write_line.proofs.copy_to.Goals as goal
 

@@ -1,12 +1,8 @@
 -- `write_line::copy_to` meets its contract.
-use mathlib.Core.Path.{◌≡◌, refl}
-use mathlib.Core.List.{[], ◌∷◌}
+use mathlib.Core.Path.{◌≡◌}
 use Prim.Native.Nat.{◌+◌, ◌-◌, ◌≤◌}
-use native.Mathlib.Omega.{arith}
-use lib.ListN.{length, take, drop, get_or}
-use Rattle.laws.specs.Put.{put}
-use Rattle.write_line.specs.Puts.{Stores, stores_start, stores_end, stores_step}
-use Rattle.write_line.specs.Lines.{between-end, between_step}
+use lib.ListN.{length, take, drop}
+use Rattle.write_line.specs.Puts.{Stores}
 use Rattle.write_line.proofs.copy_to.Given as goal
 
 abbrev pub invariant-loop-i : goal.invariant-loop-i

@@ -1,13 +1,9 @@
 -- `write_line::line_into` meets its contract.
-use mathlib.Core.Path.{refl, ap}
 use mathlib.Core.List.{flat_map}
-use Prim.Native.Nat.{◌+◌, ◌-◌, ◌<◌, ◌≤◌}
-use native.Mathlib.Omega.{arith}
+use Prim.Native.Nat.{◌-◌, ◌<◌, ◌≤◌}
 use lib.ListN.{length}
-use Rattle.sheet.specs.Sheet.{next, chain_by, piece, line_of}
-use Rattle.reader.specs.declared.Record.{Record}
-use Rattle.write_line.specs.Puts.{Stores, stores_start, stores_end, stores_room, stores_step}
-use Rattle.write_line.specs.Lines.{joined-start, joined_end, joined-cut, joined_step}
+use Rattle.sheet.specs.Sheet.{chain_by, piece, line_of}
+use Rattle.write_line.specs.Puts.{Stores}
 use Rattle.write_line.proofs.line_into.Given as goal
 
 abbrev pub invariant-loop-i : goal.invariant-loop-i

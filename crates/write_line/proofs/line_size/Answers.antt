@@ -1,6 +1,5 @@
 -- `write_line::line_size` meets its contract.
 use native.Mathlib.Omega.{arith}
-use borrow.Author.Rules.{rules}
 use Rattle.sheet.specs.Sheet.{line_of}
 use Rattle.write_line.specs.Lines.{line_space}
 use Rattle.write_line.proofs.line_size.Goals as goal

@@ -3,7 +3,6 @@ use mathlib.Core.Path.{◌≡◌}
 use Prim.Native.Nat.{◌+◌, ◌*◌, ◌≤◌}
 use native.Mathlib.Omega.{arith}
 use lib.ListN.{length}
-use borrow.Author.Rules.{rules}
 use Rattle.sheet.specs.Sheet.{piece}
 use Rattle.write_line.specs.Lines.{piece_none, piece-put}
 use Rattle.write_line.proofs.piece_into.Goals as goal

@@ -2,7 +2,6 @@
 use Prim.Native.Nat.{◌-◌, ◌≤◌, ◌<◌}
 use native.Mathlib.Omega.{arith}
 use borrow.Author.Tests.{lt-ltb, le-ltb}
-use borrow.Author.Rules.{rules}
 use Rattle.write_line.proofs.piece_stop.Goals as goal
 
 pub returns-then-len-a-lt12 : goal.returns-then-len-a-lt12

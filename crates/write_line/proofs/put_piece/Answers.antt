@@ -1,7 +1,6 @@
 -- `write_line::put_piece` meets its contract.
 use Prim.Native.Nat.{◌*◌}
 use native.Mathlib.Omega.{arith}
-use borrow.Author.Rules.{rules}
 use Rattle.write_line.specs.Cuts.{text_put}
 use Rattle.write_line.proofs.put_piece.Goals as goal
 

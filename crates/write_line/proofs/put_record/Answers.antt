@@ -2,7 +2,6 @@
 use Prim.Native.Nat.{◌*◌, ◌-◌}
 use native.Mathlib.Omega.{arith}
 use lib.ListN.{length}
-use borrow.Author.Rules.{rules}
 use Rattle.laws.specs.Put.{put_mid}
 use Rattle.write_line.specs.Writing.{record_bytes}
 use Rattle.write_line.proofs.put_record.Goals as goal

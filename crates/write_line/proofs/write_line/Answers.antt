@@ -4,7 +4,6 @@ use Prim.Native.Nat.{◌+◌, ◌≤◌}
 use native.Mathlib.Omega.{arith}
 use lib.ListN.{take}
 use lib.Seq.{length-take-le}
-use borrow.Author.Rules.{rules}
 use Rattle.laws.specs.Filled.{front_is}
 use Rattle.sheet.specs.Sheet.{line_of}
 use Rattle.encode.specs.Encode.{space_of, piece_size, pieces}

@@ -1,11 +1,10 @@
 -- `write_line::write_pieces` meets its contract.
 use mathlib.Core.Path.{refl}
-use Prim.Native.Nat.{◌+◌, ◌-◌, ◌*◌, ◌<◌, ◌≤◌}
+use Prim.Native.Nat.{◌+◌, ◌-◌, ◌≤◌}
 use native.Mathlib.Omega.{arith}
-use lib.ListN.{length, take, drop}
-use borrow.Author.Rules.{rules}
-use Rattle.encode.specs.Encode.{space_of, piece_size, piece_records, pieces}
-use Rattle.write_line.specs.Writes.{Writes, writes_start, writes_end, writes_room}
+use lib.ListN.{take, drop}
+use Rattle.encode.specs.Encode.{space_of, piece_size, pieces}
+use Rattle.write_line.specs.Writes.{writes_start, writes_end, writes_room}
 use Rattle.write_line.specs.Cuts.{pieces_end, piece_cut, cuts_step}
 use Rattle.write_line.proofs.write_pieces.Goals as goal
 

@@ -1,11 +1,8 @@
 -- `write_line::write_pieces` meets its contract.
-use mathlib.Core.Path.{refl}
 use Prim.Native.Nat.{◌+◌, ◌-◌, ◌*◌, ◌<◌, ◌≤◌}
-use native.Mathlib.Omega.{arith}
-use lib.ListN.{length, take, drop}
+use lib.ListN.{length, drop}
 use Rattle.encode.specs.Encode.{space_of, piece_size, piece_records, pieces}
-use Rattle.write_line.specs.Writes.{Writes, writes_start, writes_end, writes_room}
-use Rattle.write_line.specs.Cuts.{pieces_end, piece_cut, cuts_step}
+use Rattle.write_line.specs.Writes.{Writes}
 use Rattle.write_line.proofs.write_pieces.Given as goal
 
 abbrev pub invariant-loop-a : goal.invariant-loop-a

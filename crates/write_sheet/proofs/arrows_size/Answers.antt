@@ -1,22 +1,21 @@
 -- `write_sheet::arrows_size` meets its contract.
 use mathlib.Core.Path.{◌≡◌}
-use Prim.Native.Nat.{◌+◌, ◌*◌, ◌<◌, ◌≤◌}
+use Prim.Native.Nat.{◌+◌}
 use native.Mathlib.Omega.{arith}
 use Rattle.sheet.specs.Sheet.{first_arrow, lines_from, arrow_of, arrows_of}
 use Rattle.write_sheet.specs.Sheets.{long_arrow}
 use Rattle.encode.specs.Encode.{space_of, line_size, arrow_size}
-use Rattle.write_sheet.specs.Chained.{Sums, sums_start, sums_end, sums_cut, sums_good, sums_step}
+use Rattle.write_sheet.specs.Chained.{sums_start, sums_end, sums_cut, sums_good, sums_step}
 use Rattle.write_sheet.specs.Arrows.{lines_short, arrow_space}
-use borrow.Author.Rules.{rules}
 use Rattle.write_sheet.proofs.arrows_size.Goals as goal
 
 pub loop-i-init : goal.loop-i-init
 unfolding arrows_of
 loop-i-init c = let s = c.args.s.now in (
-      sums_start arrow_size long_arrow s (arrow_of s) (first_arrow s) c.word_at-i.ensures.0 c.word_at-left.ensures.0 c.requires,
-      omega arith,
-      omega arith,
-    )
+  sums_start arrow_size long_arrow s (arrow_of s) (first_arrow s) c.word_at-i.ensures.0 c.word_at-left.ensures.0 c.requires,
+  omega arith,
+  omega arith,
+)
 
 pub returns-then-left-eq0 : goal.returns-then-left-eq0
 returns-then-left-eq0 c = (sums_cut arrow_size long_arrow _ _ c.loop-i.invariant.0 c.if-left-eq0.true, omega arith)

@@ -1,12 +1,9 @@
 -- `write_sheet::arrows_size` meets its contract.
-use mathlib.Core.Path.{◌≡◌}
 use Prim.Native.Nat.{◌+◌, ◌*◌, ◌<◌, ◌≤◌}
-use native.Mathlib.Omega.{arith}
-use Rattle.sheet.specs.Sheet.{first_arrow, lines_from, arrow_of, arrows_of}
+use Rattle.sheet.specs.Sheet.{arrow_of, arrows_of}
 use Rattle.write_sheet.specs.Sheets.{long_arrow}
-use Rattle.encode.specs.Encode.{space_of, line_size, arrow_size}
-use Rattle.write_sheet.specs.Chained.{Sums, sums_start, sums_end, sums_cut, sums_good, sums_step}
-use Rattle.write_sheet.specs.Arrows.{lines_short, arrow_space}
+use Rattle.encode.specs.Encode.{space_of, arrow_size}
+use Rattle.write_sheet.specs.Chained.{Sums}
 use Rattle.write_sheet.proofs.arrows_size.Given as goal
 
 abbrev pub invariant-loop-i : goal.invariant-loop-i

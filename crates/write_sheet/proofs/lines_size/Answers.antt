@@ -1,13 +1,12 @@
 -- `write_sheet::lines_size` meets its contract.
 use mathlib.Core.Path.{refl, ap}
-use Prim.Native.Nat.{ℕ, ◌+◌, ◌*◌, ◌<◌, ◌≤◌}
+use Prim.Native.Nat.{ℕ, ◌+◌}
 use native.Mathlib.Omega.{arith}
 use Rattle.sheet.specs.Sheet.{line_of, lines_from}
 use Rattle.sheet.specs.Refusals.{long_line}
-use Rattle.encode.specs.Encode.{space_of, line_size}
-use Rattle.write_sheet.specs.Chained.{Sums, sums_start, sums_end, sums_cut, sums_good, sums_step}
+use Rattle.encode.specs.Encode.{line_size}
+use Rattle.write_sheet.specs.Chained.{sums_start, sums_end, sums_cut, sums_good, sums_step}
 use Rattle.write_sheet.specs.Arrows.{line-short}
-use borrow.Author.Rules.{rules}
 use Rattle.write_sheet.proofs.lines_size.Goals as goal
 
 pub loop-i-init : goal.loop-i-init

@@ -4,7 +4,6 @@ use Prim.Native.Nat.{ℕ}
 use lib.ListN.{length}
 use Rattle.sheet.specs.Sheet.{chain}
 use Rattle.write_sheet.specs.Whole.{states_space}
-use borrow.Author.Rules.{rules}
 use Rattle.write_sheet.proofs.states_size.Goals as goal
 
 pub returns : goal.returns

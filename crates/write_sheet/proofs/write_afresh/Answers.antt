@@ -5,7 +5,6 @@ use native.Mathlib.Omega.{arith}
 use Rattle.sheet.specs.Sheet.{states_of, arrows_of, meaning}
 use Rattle.encode.specs.Encode.{space_of, state_size, arrow_size, records_for, arrows_from}
 use Rattle.write_sheet.specs.Whole.{sheet_written}
-use borrow.Author.Rules.{rules}
 use Rattle.write_sheet.proofs.write_afresh.Goals as goal
 
 pub returns : goal.returns

@@ -6,7 +6,6 @@ use Rattle.laws.specs.Put.{put}
 use Rattle.sheet.specs.Sheet.{lines_from, arrow_of}
 use Rattle.encode.specs.Encode.{space_of, line_size, arrow_size, arrow_records}
 use Rattle.write_sheet.specs.Arrows.{lines_short, arrow_space, arrow-written}
-use borrow.Author.Rules.{rules}
 use Rattle.write_sheet.proofs.write_arrow.Goals as goal
 
 pub write_lines-behind-requires : goal.write_lines-behind-requires

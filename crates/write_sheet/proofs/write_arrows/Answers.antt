@@ -1,7 +1,7 @@
 -- `write_sheet::write_arrows` meets its contract.
 use mathlib.Core.Path.{◌≡◌, ap}
 use mathlib.Core.Bool.{Bool}
-use Prim.Native.Nat.{◌+◌, ◌<◌, ◌≤◌}
+use Prim.Native.Nat.{◌+◌, ◌≤◌}
 use native.Mathlib.Omega.{arith}
 use lib.ListN.{length}
 use Rattle.sheet.specs.Sheet.{first_arrow, arrow_of, arrows_of}
@@ -9,8 +9,7 @@ use Rattle.write_sheet.specs.Sheets.{long_arrow}
 use Rattle.encode.specs.Encode.{space_of, arrow_size}
 use Rattle.encode.specs.Kinds.{arrow_form}
 use Rattle.write_line.specs.Writing.{index_if}
-use Rattle.write_sheet.specs.Chained.{Follows, follows_start, follows_same, follows_end, follows_cut, follows_good, follows_room, follows_step}
-use borrow.Author.Rules.{rules}
+use Rattle.write_sheet.specs.Chained.{follows_start, follows_same, follows_end, follows_cut, follows_good, follows_room, follows_step}
 use Rattle.write_sheet.proofs.write_arrows.Goals as goal
 
 pub loop-i-init : goal.loop-i-init

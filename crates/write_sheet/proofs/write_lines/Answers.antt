@@ -1,7 +1,7 @@
 -- `write_sheet::write_lines` meets its contract.
 use mathlib.Core.Path.{◌≡◌, refl, ap}
 use mathlib.Core.Bool.{Bool}
-use Prim.Native.Nat.{◌+◌, ◌<◌, ◌≤◌}
+use Prim.Native.Nat.{◌+◌, ◌≤◌}
 use native.Mathlib.Omega.{arith}
 use lib.ListN.{length}
 use Rattle.sheet.specs.Sheet.{line_of, lines_from}
@@ -9,9 +9,8 @@ use Rattle.sheet.specs.Refusals.{long_line}
 use Rattle.encode.specs.Encode.{space_of, line_size}
 use Rattle.encode.specs.Kinds.{line_form}
 use Rattle.write_line.specs.Writing.{index_if}
-use Rattle.write_sheet.specs.Chained.{Follows, follows_start, follows_same, follows_end, follows_cut, follows_good, follows_room, follows_step}
+use Rattle.write_sheet.specs.Chained.{follows_start, follows_same, follows_end, follows_cut, follows_good, follows_room, follows_step}
 use Rattle.write_sheet.specs.Arrows.{line-short}
-use borrow.Author.Rules.{rules}
 use Rattle.write_sheet.proofs.write_lines.Goals as goal
 
 pub loop-i-init : goal.loop-i-init

@@ -1,16 +1,9 @@
 -- `write_sheet::write_lines` meets its contract.
-use mathlib.Core.Path.{◌≡◌, refl, ap}
-use mathlib.Core.Bool.{Bool}
-use Prim.Native.Nat.{◌+◌, ◌<◌, ◌≤◌}
-use native.Mathlib.Omega.{arith}
-use lib.ListN.{length}
+use Prim.Native.Nat.{◌<◌}
 use Rattle.sheet.specs.Sheet.{line_of, lines_from}
 use Rattle.sheet.specs.Refusals.{long_line}
-use Rattle.encode.specs.Encode.{space_of, line_size}
 use Rattle.encode.specs.Kinds.{line_form}
-use Rattle.write_line.specs.Writing.{index_if}
-use Rattle.write_sheet.specs.Chained.{Follows, follows_start, follows_same, follows_end, follows_cut, follows_good, follows_room, follows_step}
-use Rattle.write_sheet.specs.Arrows.{line-short}
+use Rattle.write_sheet.specs.Chained.{Follows}
 use Rattle.write_sheet.proofs.write_lines.Given as goal
 
 abbrev pub invariant-loop-i : goal.invariant-loop-i

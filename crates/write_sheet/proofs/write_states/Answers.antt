@@ -1,7 +1,7 @@
 -- `write_sheet::write_states` meets its contract.
 use mathlib.Core.Path.{◌≡◌, refl, ap, ◌∙◌}
 use mathlib.Core.Bool.{Bool}
-use Prim.Native.Nat.{◌+◌, ◌*◌, ◌<◌, ◌≤◌}
+use Prim.Native.Nat.{◌+◌, ◌*◌, ◌≤◌}
 use native.Mathlib.Omega.{arith}
 use lib.ListN.{length}
 use Rattle.laws.specs.Put.{put}
@@ -11,8 +11,7 @@ use Rattle.reader.specs.declared.Record.{Record}
 use Rattle.encode.specs.Encode.{space_of, state_size}
 use Rattle.encode.specs.Kinds.{never, any_never, state_form}
 use Rattle.write_line.specs.Writing.{index_if}
-use Rattle.write_sheet.specs.Chained.{Follows, follows_start, follows_same, follows_end, follows_cut, follows_room, follows_step}
-use borrow.Author.Rules.{rules}
+use Rattle.write_sheet.specs.Chained.{follows_start, follows_same, follows_end, follows_cut, follows_room, follows_step}
 use Rattle.write_sheet.proofs.write_states.Goals as goal
 
 pub loop-i-init : goal.loop-i-init

@@ -1,17 +1,8 @@
 -- `write_sheet::write_states` meets its contract.
-use mathlib.Core.Path.{◌≡◌, refl, ap, ◌∙◌}
-use mathlib.Core.Bool.{Bool}
-use Prim.Native.Nat.{◌+◌, ◌*◌, ◌<◌, ◌≤◌}
-use native.Mathlib.Omega.{arith}
-use lib.ListN.{length}
-use Rattle.laws.specs.Put.{put}
-use Rattle.sheet.specs.Sheet.{first_state, state_of, states_of}
-use Rattle.sheet.specs.Records.{state_bytes}
-use Rattle.reader.specs.declared.Record.{Record}
-use Rattle.encode.specs.Encode.{space_of, state_size}
-use Rattle.encode.specs.Kinds.{never, any_never, state_form}
-use Rattle.write_line.specs.Writing.{index_if}
-use Rattle.write_sheet.specs.Chained.{Follows, follows_start, follows_same, follows_end, follows_cut, follows_room, follows_step}
+use Prim.Native.Nat.{◌<◌}
+use Rattle.sheet.specs.Sheet.{state_of, states_of}
+use Rattle.encode.specs.Kinds.{never, state_form}
+use Rattle.write_sheet.specs.Chained.{Follows}
 use Rattle.write_sheet.proofs.write_states.Given as goal
 
 abbrev pub invariant-loop-i : goal.invariant-loop-i

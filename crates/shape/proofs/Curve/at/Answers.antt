@@ -1,6 +1,5 @@
 -- `shape::Curve::at` meets its contract.
 use Rattle.shape.specs.Curves.{at}
-use borrow.Author.Rules.{rules}
 use Rattle.shape.proofs.Curve.at.Goals as goal
 
 pub returns-in-Line : goal.returns-in-Line

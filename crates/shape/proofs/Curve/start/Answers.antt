@@ -1,5 +1,4 @@
 -- `shape::Curve::start` meets its contract.
-use borrow.Author.Rules.{rules}
 use Rattle.shape.proofs.Curve.start.Goals as goal
 
 pub returns-in-Quad : goal.returns-in-Quad

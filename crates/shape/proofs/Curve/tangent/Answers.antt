@@ -1,6 +1,5 @@
 -- `shape::Curve::tangent` meets its contract.
 use Rattle.shape.specs.Curves.{tangent}
-use borrow.Author.Rules.{rules}
 use Rattle.shape.proofs.Curve.tangent.Goals as goal
 
 pub returns-in-Line : goal.returns-in-Line

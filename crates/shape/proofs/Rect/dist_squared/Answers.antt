@@ -1,5 +1,4 @@
 -- `shape::Rect::dist_squared` meets its contract.
-use borrow.Author.Rules.{rules}
 use Rattle.shape.proofs.Rect.dist_squared.Goals as goal
 
 pub returns : goal.returns

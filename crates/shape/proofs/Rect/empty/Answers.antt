@@ -1,5 +1,4 @@
 -- `shape::Rect::empty` meets its contract.
-use borrow.Author.Rules.{rules}
 use Rattle.shape.proofs.Rect.empty.Goals as goal
 
 pub returns : goal.returns

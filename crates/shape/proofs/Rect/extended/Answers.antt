@@ -1,6 +1,5 @@
 -- `shape::Rect::extended` meets its contract.
 use Rattle.shape.specs.Plane.{extended}
-use borrow.Author.Rules.{rules}
 use Rattle.shape.proofs.Rect.extended.Goals as goal
 
 pub returns : goal.returns

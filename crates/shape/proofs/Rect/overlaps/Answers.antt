@@ -1,6 +1,5 @@
 -- `shape::Rect::overlaps` meets its contract.
 use Rattle.shape.proofs.Laws.{overlaps_is}
-use borrow.Author.Rules.{rules}
 use Rattle.shape.proofs.Rect.overlaps.Goals as goal
 
 pub returns : goal.returns

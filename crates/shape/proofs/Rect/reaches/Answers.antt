@@ -1,6 +1,5 @@
 -- `shape::Rect::reaches` meets its contract.
 use Rattle.shape.proofs.Laws.{touches_is}
-use borrow.Author.Rules.{rules}
 use Rattle.shape.proofs.Rect.reaches.Goals as goal
 
 pub returns : goal.returns

@@ -1,6 +1,5 @@
 -- `shape::Rect::spanning` meets its contract.
 use Rattle.shape.specs.Plane.{spanning}
-use borrow.Author.Rules.{rules}
 use Rattle.shape.proofs.Rect.spanning.Goals as goal
 
 pub returns : goal.returns

@@ -1,5 +1,4 @@
 -- `shape::V::dist` meets its contract.
-use borrow.Author.Rules.{rules}
 use Rattle.shape.proofs.V.dist.Goals as goal
 
 pub returns : goal.returns

@@ -1,6 +1,5 @@
 -- `shape::V::dist_squared` meets its contract.
 use Rattle.shape.specs.Squares.{squared_none, squared_some}
-use borrow.Author.Rules.{rules}
 use Rattle.shape.proofs.V.dist_squared.Goals as goal
 
 pub returns-then-q : goal.returns-then-q

@@ -1,5 +1,4 @@
 -- `shape::V::polar` meets its contract.
-use borrow.Author.Rules.{rules}
 use Rattle.shape.proofs.V.polar.Goals as goal
 
 pub returns : goal.returns

@@ -1,6 +1,5 @@
 -- `shape::V::unit_or` meets its contract.
 use Rattle.shape.specs.Plane.{unit_or}
-use borrow.Author.Rules.{rules}
 use Rattle.shape.proofs.V.unit_or.Goals as goal
 
 pub returns-then-len : goal.returns-then-len
