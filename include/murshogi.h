@@ -1,5 +1,5 @@
-/* Murshogi: the calls of documents 01 and 02 for C. Link target/staticlib/libmurshogi.a (`rt staticlib murshogi`);
- * of a C library it calls memcpy, memmove and memset alone.
+/* Murshogi: the calls of documents 01 and 02 for C. Link crates/murshogi/out/libmurshogi.a (`rt lib` in crates/murshogi);
+ * of a C library it calls memcpy and memset alone.
  *
  * Each call returns 0, or the number of the refusal (1 to 11). What it is lent is written only where it returns 0;
  * a refused call leaves all as before, and a longer output keeps its tail. crates/murshogi/src/lib.rt has the contracts
