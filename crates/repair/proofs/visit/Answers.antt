@@ -1,0 +1,10 @@
+-- `repair::visit` meets its contract.
+use mathlib.Core.Path.{refl}
+use borrow.Author.Rules.{rules}
+use Rattle.repair.proofs.visit.Goals as goal
+
+pub returns-then-marked : goal.returns-then-marked
+returns-then-marked c = rw c.if-marked.true (refl, refl)
+
+pub returns : goal.returns
+returns c = rw c.if-marked.false (c.is_start.ensures, refl)
