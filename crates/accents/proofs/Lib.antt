@@ -1,2 +1,2 @@
-pub mod Proof
+pub mod Claim
 pub mod Worked

@@ -20,7 +20,7 @@ use Rattle.demand3.specs.Demand.{Answered}
 use Rattle.worked_calls.specs.Numbers.{small_xs, small_ys}
 use Rattle.worked_calls.specs.Worked.{small_limits, worked_calls}
 use Rattle.accents.specs.Sheets.{LinesPut, AccentsPut, AccentsOnly, AnsweredAlike}
-use Rattle.accents.proofs.Proof.{accents_take_no_width}
+use Rattle.accents.proofs.Claim.{accents_take_no_width}
 use Rattle.accents.specs.Worked.{accented_line, small_accented, accented_graph, plain_call, accented_call, WorkedAccents}
 
 small_accented_means : meaning small_accented ≡ accented_graph

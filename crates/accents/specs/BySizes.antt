@@ -42,7 +42,7 @@ use Rattle.calls.specs.Laws.{accepted_shown}
 use Rattle.calls.specs.Refused.{check-answered}
 use Rattle.demand3.specs.Demand.{Call, Answered, record_at, path_at, graph, frame, sizes, drawn_at}
 use Rattle.demand3.specs.Proof.{call_records}
-use Rattle.demand3.proofs.Proof.{stands, record_is, path_is, call_frames}
+use Rattle.demand3.proofs.Claim.{stands, record_is, path_is, call_frames}
 use Rattle.accents.specs.Sheets.{SameSizes, AnsweredAlike, RecordsAlike}
 
 -- ---- the totals of a listing: by the ends of the arrows and the numbers of their lines

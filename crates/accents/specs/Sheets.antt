@@ -1,4 +1,4 @@
--- Document 02, T-02: sheets and label blocks that differ in accents only are measured, placed and drawn alike. Here is what it says; `accents_take_no_width` of Proof proves it.
+-- Document 02, T-02: sheets and label blocks that differ in accents only are measured, placed and drawn alike. Here is what it says; `accents_take_no_width` of proofs/Claim proves it.
 use Rattle.std.specs.Prelude.{◌≡◌, true, false, cond, ℕ, suc, ◌≤◌, ◌<◌, ltb, length, get_or, Float}
 use mathlib.Core.List.{List, [], ◌∷◌, ◌++◌, map, flat_map}
 use Rattle.laws.specs.Any.{any_of}

@@ -1,5 +1,5 @@
 -- Demand 3 of document 01, 'Turns, places and costs': one claim over whole routings, on what `route` answers and leaves in the slices it is lent.
--- Here is what it says; `demand3` of Proof proves it.
+-- Here is what it says; `demand3` of proofs/Claim proves it.
 use Rattle.std.specs.Prelude.{◌≡◌, cond, List, [], ◌∷◌, ℕ, zero, suc, ◌+◌, ◌*◌, ◌≤◌, ◌<◌, eqb, length, get_or, take, drop, Float}
 use Prim.Native.Char.{code}
 use Rattle.std.specs.Float.{nan}

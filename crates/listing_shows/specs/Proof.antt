@@ -38,7 +38,7 @@ use Rattle.calls.specs.Laws.{accepted_shown}
 use Rattle.calls.specs.Decided.{answered-clear}
 use Rattle.demand3.specs.Demand.{Call, Answered, records_left, record_at, path_at, text_line_at}
 use Rattle.demand3.specs.Proof.{call_records}
-use Rattle.demand3.proofs.Proof.{stands, path_is}
+use Rattle.demand3.proofs.Claim.{stands, path_is}
 use Rattle.listing_shows.specs.Shown.{Lent, ListAnswered, LayoutAnswered, xs_left, ys_left, route_call, records_read, totals_read, out_left, list_wrote, last_line, record_line, edge_text, total_text, arrow_number, Shows, Enough, ListingShows}
 use Rattle.listing_shows.specs.Shown as Spec
 use Rattle.listing_shows.specs.Found.{edge_at, last-at}

@@ -43,7 +43,7 @@ use Rattle.layout.specs.Layout.{Layout}
 use Rattle.calls.specs.Calls.{drawn_of, layout_for}
 use Rattle.demand3.specs.Demand.{Call, Answered, record_at}
 use Rattle.demand3.specs.Proof.{call_records}
-use Rattle.demand3.proofs.Proof.{record_is}
+use Rattle.demand3.proofs.Claim.{record_is}
 use Rattle.listing_shows.specs.Shown.{Lent, ListAnswered, LayoutAnswered, route_call, records_read, last_line}
 use Rattle.listing_shows.specs.Totalled.{point_numbers, records_with, end_missing, ends_same, ends_differ, lines_of_kept, Totalled, ListingTotals}
 use Rattle.listing_shows.specs.Found.{last-at, lines_before, total_ends}

@@ -22,7 +22,7 @@ use Rattle.totals.specs.declared.Totals.{Totals}
 use Rattle.drawing_text.specs.Lines.{paths_of, paths_writable, TextLine, text_line, whole_field, path_field, field_text, fields_text, body_text, field_writable, fields_writable, line_writable, lines_writable, ListedState, start_tip, size_line, record_lines, list_lines, list_text, list_writable}
 use Rattle.demand3.specs.Demand.{Call, Answered, path_at, text_line_at}
 use Rattle.demand3.specs.Proof.{call_records}
-use Rattle.demand3.proofs.Proof.{stands, path_is}
+use Rattle.demand3.proofs.Claim.{stands, path_is}
 use Rattle.listing_shows.specs.Shown.{Lent, ListAnswered, LayoutAnswered, xs_left, ys_left, route_call, records_read, totals_read, out_left, record_line, arrow_number}
 use Rattle.listing_shows.specs.Shown as Shown
 use Rattle.listing_shows.specs.Found.{record_in_lem, record_line_inside, record_at_lem, start_in, start-inside, start-at}

@@ -12,7 +12,7 @@ use Rattle.worked_demand.specs.Calls.{first}
 use Rattle.worked_demand.specs.Computed.{first-drawn}
 use Rattle.worked_demand.specs.Worked.{number_left, turn_is, source_is, target_is, first-answered, first-between, worked_demand}
 use Rattle.reverse.specs.Reverse.{searched, points_at, CurveExact}
-use Rattle.reverse.proofs.Proof.{two_points, three_points, reverse_arrow}
+use Rattle.reverse.proofs.Claim.{two_points, three_points, reverse_arrow}
 use Rattle.reverse.specs.Worked.{pair_sheet, WorkedCurves}
 
 -- for an arrow from a to b

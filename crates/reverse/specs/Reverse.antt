@@ -1,5 +1,5 @@
 -- Document 02, T-03: "For any two different states of the sheet the search says yes exactly when some arrow leads from the second to the first."
--- With it document 01's sentence on `bend`, over two states and the arrows of a sheet. Here is the claim; `reverse_arrow` of Proof proves it.
+-- With it document 01's sentence on `bend`, over two states and the arrows of a sheet. Here is the claim; `reverse_arrow` of proofs/Claim proves it.
 use Rattle.std.specs.Prelude.{◌≡◌, Bool, true, ◌&&◌, List, ◌++◌, map, ℕ, suc, ◌<◌, eqb, length, get_or, take, drop, Float}
 use Rattle.std.specs.Float.{nan}
 use Rattle.laws.specs.Any.{Somewhere}

@@ -23,7 +23,7 @@ use Rattle.drawing_text.specs.Lines.{paths_text, paths_writable}
 use Rattle.calls.specs.Calls.{number, values, capped_limits, short, drawn_of, numbers_of, route_refusals, route}
 use Rattle.demand3.specs.Demand.{Call, Answered, record_at, curve_at, graph, frame, sizes, turns, turn_arrow, taken_at, drawn_at, record_number_of, turn_number}
 use Rattle.demand3.specs.Demand.{Held, Same, Agree, Alike, Between}
-use Rattle.demand3.proofs.Proof.{demand3}
+use Rattle.demand3.proofs.Claim.{demand3}
 use Rattle.worked_demand.specs.Calls.{one_letter, twelve_letters, first, second}
 use Rattle.worked_demand.specs.Computed.{taken_free, number_at, records_placed, drawn_placed, ComputedCall, first-drawn, second-drawn, same-states, same-centres}
 

@@ -34,7 +34,7 @@ use Rattle.routing_laws.proofs.Demand.{records_stroke}
 use Rattle.beyond.specs.Beyond.{pair_beyond, is_beyond}
 use Rattle.demand3.specs.Demand.{Call, Answered, graph, frame, sizes, Between}
 use Rattle.demand3.specs.Proof.{past_records}
-use Rattle.demand3.proofs.Proof.{record_drawn, arrow_record_lem, arrow_only}
+use Rattle.demand3.proofs.Claim.{record_drawn, arrow_record_lem, arrow_only}
 use Rattle.reverse.specs.Reverse.{ArrowLeads, SomeArrow, without_left_out, without_arrow, searched, centres_of, arrow_in, SearchExact, paired_before, NeverItself, LeftOutUnseen, around_zero, no_span, StraightWhen, bow_of, BowExact, points_at, CurveExact, ReverseArrow}
 
 -- ---- the search
