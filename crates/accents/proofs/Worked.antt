@@ -1,5 +1,5 @@
 -- Document 01's worked sheet with accents put into its line, worked out: before and after the letter, one of them twice, and two across pieces. Assumes nothing.
-use Rattle.std.specs.Prelude.{◌≡◌, refl, ℕ, zero, suc, ◌<◌, get_or}
+use Rattle.std.specs.Prelude.{◌≡◌, refl, List, ℕ, zero, suc, ◌≤◌, ◌<◌, length, get_or}
 use Rattle.std.proofs.Common.{sym, ap, ◌∙◌, arith}
 use mathlib.Core.List.{[], ◌∷◌, flat_map}
 use Rattle.laws.specs.Any.{any_of}
@@ -15,13 +15,14 @@ use Rattle.sheet.specs.Examples.{small, small_graph, small_means}
 use Rattle.label.specs.Accents.{WithAccents, as_it_was, more}
 use Rattle.routing.specs.Routing.{Frame}
 use Rattle.routing_laws.proofs.Agree.{same-frame}
-use Rattle.calls.specs.Calls.{values, main_screen, capped_limits, check}
+use Rattle.calls.specs.Calls.{values, main_screen, capped_limits, check, onto, list_after}
+use Rattle.drawing_text.specs.Worked.{worked_listing}
 use Rattle.demand3.specs.Demand.{Answered}
 use Rattle.worked_calls.specs.Numbers.{small_xs, small_ys}
 use Rattle.worked_calls.specs.Worked.{small_limits, worked_calls}
-use Rattle.accents.specs.Sheets.{LinesPut, AccentsPut, AccentsOnly, AnsweredAlike}
+use Rattle.accents.specs.Sheets.{LinesPut, AccentsPut, AccentsOnly, AnsweredAlike, RecordsAlike}
 use Rattle.accents.proofs.Claim.{accents_take_no_width}
-use Rattle.accents.specs.Worked.{accented_line, small_accented, accented_graph, plain_call, accented_call, WorkedAccents}
+use Rattle.accents.specs.Worked.{accented_line, small_accented, accented_graph, plain_call, accented_call}
 
 small_accented_means : meaning small_accented ≡ accented_graph
 unfolding states_of arrows_of arrow_of lines_from line_of chain_by flat_map
@@ -79,6 +80,13 @@ plain-answered = record { numbers = 20; bytes = 17; answer = (worked_calls main_
 
 pub accented-answered : Answered accented_call
 accented-answered = record { numbers = 20; bytes = 17; answer = sym (small-alike.routed small_xs small_ys 25 30) ∙ (worked_calls main_screen on_main_lem).routes 25 30 (omega arith) (omega arith) }
+
+pub record WorkedAccents : Type 0 where
+  pub alike : AnsweredAlike small main_screen small_accented service_panel
+  -- the one record of each routing
+  pub records : RecordsAlike plain_call accented_call plain-answered accented-answered
+  -- the listing is that of the worked sheet, whole
+  pub listing : (out : List ℕ) → 196 ≤ length out → list_after small_accented service_panel 0 out ≡ onto worked_listing out
 
 pub worked_accents : WorkedAccents
 worked_accents = record {

@@ -39,10 +39,3 @@ plain_call = record { sheet = small; limits = main_screen; xs = small_xs; ys = s
 
 abbrev pub accented_call : Call
 accented_call = record { sheet = small_accented; limits = service_panel; xs = small_xs; ys = small_ys; records = replicate 25 (whole 3); text = replicate 30 9 }
-
-pub record WorkedAccents : Type 0 where
-  pub alike : AnsweredAlike small main_screen small_accented service_panel
-  -- the one record of each routing
-  pub records : RecordsAlike plain_call accented_call plain-answered accented-answered
-  -- the listing is that of the worked sheet, whole
-  pub listing : (out : List ℕ) → 196 ≤ length out → list_after small_accented service_panel 0 out ≡ onto worked_listing out

@@ -368,12 +368,10 @@ fn route_in(
 ) -> RouteAnswer
     requires { (16 + room ≤ length records.old) × (16 + bytes ≤ length out.old) }
     ensures { let s = sheet.now in
-        let xs = xs.entry.now in
-        let ys = ys.entry.now in
-        (C.routed_as result ≡ C.route s m xs ys room bytes)
+        (C.routed_as result ≡ C.route s m xs.now ys.now room bytes)
         × (records.new
-        ≡ S.around room (λ (l : List Float). C.records_after s m xs ys l bytes) records.old)
-        × (out.new ≡ S.around bytes (C.text_after s m xs ys room) out.old) }
+        ≡ S.around room (λ (l : List Float). C.records_after s m xs.now ys.now l bytes) records.old)
+        × (out.new ≡ S.around bytes (C.text_after s m xs.now ys.now room) out.old) }
 {
     let end = 16 + room;
     let stop = 16 + bytes;
