@@ -1,2 +1,2 @@
-// No code: what document 02 says of accents, over the calls, in specs/.
+// No code: what document 02 says of accents, over the calls, in specs/ and proofs/.
 #![tactic(auto)]
