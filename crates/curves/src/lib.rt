@@ -239,6 +239,7 @@ fn start_curve(c: V) -> Curve
 }
 
 // The trace of the start arrow, owned by no arrow, of a state with this flag byte at c; how many traces there are then.
+#[tactic(auto, using(crate::proofs::Laws::start_yes, crate::proofs::Laws::start_no))]
 fn push_start(flag: u8, c: V, traces: &mut [f64], nt: usize) -> usize
     requires { 40 * nt + 40 ≤ length traces.old }
     ensures { (result ≤ nt + 1)

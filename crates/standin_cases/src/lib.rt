@@ -27,6 +27,7 @@ fn ordered(p: &[u8], o: Ordering) -> bool
     byte(p, 16) == number(o)
 }
 
+#[tactic(auto, unfolding(crate::specs::Cases::one_agrees, cases::specs::Payload::row_right))]
 fn one_agrees(kind: u8, p: &[u8]) -> bool
     ensures { result ≡ S.one_agrees kind p.now }
 {
