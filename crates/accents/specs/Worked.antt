@@ -1,16 +1,14 @@
--- Document 01's worked sheet with accents put into its line, worked out: before and after the letter, one of them twice, and two across pieces. Assumes nothing.
-use Rattle.std.specs.Prelude.{◌≡◌, ℕ, ◌≤◌, length, replicate}
+-- Document 01's worked sheet with accents put into its line: before and after the letter, one of them twice, and two across pieces. proofs/Worked works it out.
+use Rattle.std.specs.Prelude.{ℕ, replicate}
 use mathlib.Core.List.{List, [], ◌∷◌, ◌++◌}
 use Rattle.float.specs.Constants.{whole}
 use Rattle.sheet.specs.Sheet.{Graph}
 use Rattle.sheet.specs.Refusals.{service_panel}
 use Rattle.sheet.specs.Records.{header, state_bytes, arrow_bytes, line_bytes, text_bytes}
 use Rattle.sheet.specs.Examples.{small}
-use Rattle.drawing_text.specs.Worked.{worked_listing}
-use Rattle.calls.specs.Calls.{main_screen, onto, list_after}
+use Rattle.calls.specs.Calls.{main_screen}
 use Rattle.demand3.specs.Demand.{Call}
 use Rattle.worked_calls.specs.Numbers.{small_xs, small_ys}
-use Rattle.accents.specs.Sheets.{AnsweredAlike, RecordsAlike}
 
 -- U+0301, the letter `a`, U+0300 twice, U+036F
 abbrev pub accented_line : List ℕ

@@ -1,4 +1,4 @@
--- Demand 3 holds. Assumes nothing.
+-- What an answered call of `route` leaves: what is drawn, and what stands past the last record.
 use mathlib.Core.List.{List}
 use Rattle.label_spots.specs.declared.Geometry.{Geometry}
 use Rattle.routing.specs.Sheets.{records_of}

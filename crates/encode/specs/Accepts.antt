@@ -1,4 +1,4 @@
--- A graph's sheet is accepted. Assumes nothing.
+-- A graph whose sheet a screen accepts, as proofs/Accepts shows.
 use Rattle.std.specs.Prelude.{ℕ, ◌≤◌, ◌<◌, length, get_or}
 use Rattle.sheet.specs.Sheet.{Graph, flags_of}
 use Rattle.sheet.specs.Accepted.{Within}

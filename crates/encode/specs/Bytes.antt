@@ -1,4 +1,4 @@
--- Every number in a graph's sheet is a byte, where the graph's flags and line bytes are, its ends are u16, and it has at most 65,535 records; what a sheet of bytes means is such a graph. Assumes nothing.
+-- A graph in whose sheet every number is a byte, as proofs/Bytes shows.
 use Rattle.std.specs.Prelude.{ℕ, ◌<◌, length}
 use Rattle.std.proofs.Math.ListN.{get_or}
 use Rattle.sheet.specs.Sheet.{Graph, flags_of}

@@ -1,4 +1,4 @@
--- 'full pieces of 12 bytes first. Next indices point forward', and an arrow's lines and a line's pieces follow it at once. Assumes nothing.
+-- 'full pieces of 12 bytes first. Next indices point forward': what proofs/Forward shows of a graph's sheet.
 use Rattle.std.specs.Prelude.{◌≡◌, List, ℕ, suc, ◌+◌, ◌<◌, length, get_or}
 use Rattle.sheet.specs.Sheet.{kind_of, next, first_line, first_text, byte_one, text_chain}
 

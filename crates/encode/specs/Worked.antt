@@ -1,4 +1,4 @@
--- Sheets written afresh, computed. Assumes nothing.
+-- Sheets written afresh; proofs/Worked computes them.
 use Rattle.std.specs.Prelude.{◌≡◌, replicate}
 use mathlib.Core.List.{[], ◌∷◌, ◌++◌}
 use Rattle.sheet.specs.Sheet.{Graph, meaning}

@@ -1,2 +1,2 @@
-// No code: the laws that the other crates cite, in specs/.
+// No code: the laws that the other crates cite, in specs/ and proofs/.
 #![tactic(auto)]

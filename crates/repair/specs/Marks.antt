@@ -1,5 +1,5 @@
 -- The start marks of a written sheet, as the code goes through its state records: record k, and n of them from record k on.
-use Rattle.std.specs.Prelude.{Bool, true, cond, ◌||◌, List, ℕ, zero, suc, ◌+◌, ◌*◌, set}
+use Rattle.std.specs.Prelude.{Bool, true, cond, List, ℕ, zero, suc, ◌+◌, ◌*◌, set}
 use Rattle.sheet.specs.Sheet.{byte_one}
 use Rattle.sheet.specs.Meaning.{is_start}
 use Rattle.repair.specs.Repaired.{without_start}

@@ -1,10 +1,10 @@
--- What a repaired graph is: state by state, how many start marks it has, and that a sheet of it is accepted. Assumes nothing.
-use Rattle.std.specs.Prelude.{◌≡◌, refl, Bool, true, false, ℕ, zero, suc, ◌+◌, ◌-◌, ◌/◌, ◌%◌, ◌≤◌, ◌<◌, length, get_or}
+-- What a repaired graph is: state by state, how many start marks it has, and that it can be written (`Encodable`) under the limits that accept the sheet. Assumes nothing.
+use Rattle.std.specs.Prelude.{◌≡◌, refl, true, false, ℕ, zero, suc, ◌+◌, ◌-◌, ◌/◌, ◌%◌, ◌≤◌, ◌<◌, length, get_or}
 use Rattle.std.proofs.Common.{sym, ap₂, ◌∙◌, arith}
 use Rattle.std.proofs.Math.Path.{ap}
 use mathlib.Core.List.{List, [], ◌∷◌, map}
 use Rattle.std.proofs.lemmas.List.{length-map}
-use borrow.Author.Tests.{eqb-true, eqb-false, ne_eqb, ltb-false, le-ltb}
+use borrow.Author.Tests.{eqb-false, ne_eqb, ltb-false, le-ltb}
 use Rattle.laws.specs.Cases.{by_bool}
 use Rattle.laws.specs.Refusals.{Clear}
 use Rattle.sheet.specs.Sheet.{State, Graph, meaning, flags_of}
@@ -12,7 +12,7 @@ use Rattle.sheet.specs.Meaning.{is_start, start_from, start_of}
 use Rattle.sheet.specs.Refusals.{refusals}
 use Rattle.sheet.specs.Accepted.{Within}
 use Rattle.sheet.specs.declared.Limits.{Limits}
-use Rattle.encode.specs.Encode.{space_of, state_size, arrow_size, records_for}
+use Rattle.encode.specs.Encode.{space_of, arrow_size, records_for}
 use Rattle.encode.specs.Accepts.{Encodable}
 use Rattle.encode.specs.Fewer.{space_one, meaning_encodable}
 use Rattle.repair.specs.Starts.{start_marks, several_starts, marks_yes, marks_no, marks_none}

@@ -1,6 +1,6 @@
 -- How many start marks a graph has, and when it has several. Assumes nothing.
 use Rattle.std.specs.Prelude.{◌≡◌, refl, Bool, true, false, List, [], ◌∷◌, ℕ, zero, suc, ◌+◌, ◌%◌, ◌<◌, ltb, length, get_or}
-use Rattle.std.proofs.Common.{sym, ap, ◌∙◌, arith, eqb-true, ltb-true, lt-ltb}
+use Rattle.std.proofs.Common.{ap, arith, eqb-true, ltb-true, lt-ltb}
 use Rattle.std.proofs.lemmas.Bool.{eqb-false}
 use Rattle.laws.specs.Any.{Somewhere}
 use Rattle.laws.specs.Cases.{by_bool}
@@ -88,7 +88,7 @@ starts_two (f ∷ l) (suc i) (suc j) a h p q =
     let y : start_marks (f ∷ l) ≡ f % 2 + start_marks l = marks_more f l in
     omega arith
 
--- the cause of 12 holds exactly of such a graph
+-- a graph has several starts exactly where two of its states have the bit
 pub several_two : (g : Graph) → several_starts g ≡ true → TwoStarts (flags_of g)
 unfolding several_starts
 several_two g e = two_starts (flags_of g) (ltb-true 1 (start_marks (flags_of g)) e)

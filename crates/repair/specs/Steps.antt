@@ -1,5 +1,5 @@
 -- The marks of a written sheet one record at a time, as a loop over them goes: `left` records from record k on. Assumes nothing.
-use Rattle.std.specs.Prelude.{◌≡◌, refl, Bool, List}
+use Rattle.std.specs.Prelude.{◌≡◌, Bool, List}
 use Prim.Native.Nat.{ℕ, suc, ◌+◌, ◌-◌}
 use native.Mathlib.Omega.{arith}
 use Rattle.repair.specs.Marks.{marked_at, cleared_at, mark_kept}

@@ -1,10 +1,10 @@
 -- The marks of a graph's sheet, gone through record by record: it becomes the sheet of the repaired graph. Assumes nothing.
-use Rattle.std.specs.Prelude.{◌≡◌, Bool, true, cond, ℕ, suc, ◌+◌, ◌*◌, length, set}
+use Rattle.std.specs.Prelude.{◌≡◌, Bool, true, cond, ℕ, ◌+◌, ◌*◌, length, set}
 use Rattle.std.proofs.Math.Path.{refl, sym, ap}
 use Rattle.std.proofs.Common.{ap₂, ◌∙◌, arith, length-append}
 use Rattle.std.proofs.Math.Bool.{false}
 use mathlib.Core.List.{List, [], ◌∷◌, ◌++◌, map, append_assoc}
-use Rattle.std.proofs.lemmas.List.{length-replicate, set_at, get_or_at}
+use Rattle.std.proofs.lemmas.List.{set_at, get_or_at}
 use Rattle.std.proofs.Math.Seq.{append_snoc}
 use Rattle.laws.specs.Cases.{by_bool}
 use Rattle.sheet.specs.Sheet.{byte_one, State, Graph}

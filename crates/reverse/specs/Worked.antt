@@ -1,4 +1,4 @@
--- The claim is not empty: the search on a small sheet, and an answered call of `route` with a pair and a straight arrow. Assumes nothing.
+-- A small sheet, and what an answered call of `route` with a pair and a straight arrow says: proofs/Worked shows by them that the claim is not empty.
 use Rattle.std.specs.Prelude.{◌≡◌, [], ◌∷◌, ℕ}
 use Rattle.float.specs.Constants.{f2, f3}
 use Rattle.sheet.specs.Sheet.{Arrow, Graph}

@@ -1,4 +1,4 @@
--- What two sheets that differ only in labels have in common, and demand 3 over graphs and centres. Assumes nothing.
+-- What two sheets that differ only in labels have in common, and demand 3 over graphs and centres: what proofs/Agree shows.
 use Rattle.std.specs.Prelude.{◌≡◌, List, map, ℕ, ◌≤◌, ◌<◌, length, get_or, Float}
 use Rattle.laws.specs.Places.{At}
 use Rattle.sheet.specs.Sheet.{Graph}

@@ -1,4 +1,4 @@
--- What holds of every routing: the cheapest listed place at every turn, and what two sheets that differ only in labels have in common. Assumes nothing.
+-- What proofs/Demand shows of every routing: the cheapest listed place at every turn, and what two sheets that differ only in labels have in common.
 use Rattle.std.specs.Prelude.{◌≡◌, ℕ, get_or, Float}
 use mathlib.Core.List.{List, [], ◌∷◌}
 use Rattle.laws.specs.Filter.{filter_by}

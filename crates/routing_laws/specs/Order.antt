@@ -1,4 +1,4 @@
--- The order of the turns is the three passes over all arrows, and the first scene has each arrow's own trace. Assumes nothing.
+-- The routes of the arrows between different states; proofs/Order shows that the order of the turns is the three passes over all arrows.
 use Rattle.std.specs.Prelude.{cond}
 use mathlib.Core.List.{List, [], ◌∷◌}
 use Rattle.routing.specs.Routing.{Frame, Numbered, Route, route_of}

@@ -1,4 +1,4 @@
--- The rim of a state is what the code finds from the angles of all arrows. Assumes nothing.
+-- How arrows meet the rim of a state; proofs/Rim shows that the rim is what the code finds from the angles of all arrows.
 use Rattle.std.specs.Prelude.{ℕ, Float}
 use mathlib.Core.List.{List, ◌++◌}
 use Rattle.directions.specs.Rims as Rims

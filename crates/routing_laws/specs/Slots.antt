@@ -1,4 +1,4 @@
--- The passes leave in the slots what the run draws, and what is gathered from there is the records, one for each kept arrow. Assumes nothing.
+-- Whether a drawing is arrow k's; proofs/Slots shows that the slots hold the records.
 use Rattle.std.specs.Prelude.{Bool, ℕ, eqb}
 use Rattle.label_spots.specs.declared.Geometry.{Geometry}
 
@@ -6,5 +6,3 @@ use Rattle.label_spots.specs.declared.Geometry.{Geometry}
 
 abbrev pub is_edge : ℕ → Geometry → Bool
 is_edge k g = eqb g.edge k
-
--- ---- the other slots stay

@@ -1,4 +1,4 @@
--- One turn as the code runs it: the turn of a loop is `looped`, that of a label `placed_arrow`. Assumes nothing.
+-- One turn as the code runs it; proofs/Turns shows that the turn of a loop is `looped`, that of a label `placed_arrow`.
 use Rattle.std.specs.Prelude.{List, ℕ, get_or}
 use Rattle.label_spots.specs.declared.Geometry.{Geometry}
 use Rattle.scene.specs.Scene.{Scene, with_box, with_trace}

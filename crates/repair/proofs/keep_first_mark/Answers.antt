@@ -1,12 +1,8 @@
 -- `repair::keep_first_mark` meets its contract.
-use mathlib.Core.Path.{◌≡◌, refl, ◌∙◌}
+use mathlib.Core.Path.{refl, ◌∙◌}
 use mathlib.Core.Bool.{false}
-use Prim.Native.Nat.{◌+◌, ◌*◌, ◌≤◌, ◌<◌}
 use native.Mathlib.Omega.{arith}
-use lib.ListN.{length}
-use Rattle.repair.specs.Marks.{mark_kept}
 use Rattle.repair.specs.Steps.{kept_step, kept_done}
-use borrow.Author.Rules.{rules}
 use Rattle.repair.proofs.keep_first_mark.Goals as goal
 
 pub loop-left-init : goal.loop-left-init

@@ -1,11 +1,9 @@
 -- `repair::keep_first_mark` meets its contract.
-use mathlib.Core.Path.{◌≡◌, refl, ◌∙◌}
+use mathlib.Core.Path.{◌≡◌}
 use mathlib.Core.Bool.{false}
 use Prim.Native.Nat.{◌+◌, ◌*◌, ◌≤◌, ◌<◌}
-use native.Mathlib.Omega.{arith}
 use lib.ListN.{length}
 use Rattle.repair.specs.Marks.{mark_kept}
-use Rattle.repair.specs.Steps.{kept_step, kept_done}
 use Rattle.repair.proofs.keep_first_mark.Given as goal
 
 abbrev pub invariant-loop-left : goal.invariant-loop-left

@@ -1,6 +1,5 @@
 -- `repair::visit` meets its contract.
 use mathlib.Core.Path.{refl}
-use borrow.Author.Rules.{rules}
 use Rattle.repair.proofs.visit.Goals as goal
 
 pub returns-then-marked : goal.returns-then-marked
