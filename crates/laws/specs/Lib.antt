@@ -29,3 +29,4 @@ pub mod Continues
 pub mod Stable
 pub mod Counting
 pub mod Refusals
+pub mod Chains
