@@ -6,13 +6,9 @@ ghost use Rattle.std.specs.Prelude.{◌≡◌, ◌<◌, not, ◌&&◌, length, �
 ghost use Rattle.laws.specs.Writers.{Wrote};
 ghost use Rattle.float.specs.Standins.{negative};
 ghost use Rattle.number.specs.Number as S;
+ghost use Rattle.refusal.specs.Refused.{outcome};
 
-// What `write_num` answers: the length written, or the refusal's number.
-#[derive(Clone, Copy)]
-pub enum Written {
-    Length(usize),
-    Refused(u8),
-}
+use refusal::Refusal;
 
 // Whether a number may be written: not finite, or of size below 10^13.
 pub fn writable(v: f64) -> bool
@@ -82,17 +78,16 @@ pub fn put_num(out: &mut [u8], at: usize, v: f64) -> usize
 
 // The text of v at the start of `out`, and its length; refused, and nothing changed, where v is finite and 10^13 or
 // more in size, or the text does not fit.
-pub fn write_num(v: f64, out: &mut [u8]) -> Written
-    ensures { (result ≡ S.written v (length out.old))
+pub fn write_num(v: f64, out: &mut [u8]) -> Result<usize, Refusal>
+    ensures { (outcome result ≡ S.written v (length out.old))
         × (out.new ≡ S.written_after v out.old) }
 {
     if !writable(v) {
-        return Written::Refused(10);
+        return Err(Refusal::Number);
     }
     let need = put_num(&mut out[..0], 0, v);
     if out.len() < need {
-        return Written::Refused(7);
+        return Err(Refusal::Room);
     }
-    let done = put_num(out, 0, v);
-    Written::Length(done)
+    Ok(put_num(out, 0, v))
 }
