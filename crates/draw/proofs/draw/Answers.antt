@@ -12,7 +12,7 @@ use Rattle.sheet.specs.declared.Limits.{Limits}
 use Rattle.records.specs.Records.{fields}
 use Rattle.routing.specs.Sheets.{records_of}
 use Rattle.draw.specs.Drawn.{centre_refusals}
-use Rattle.draw.specs.declared.Drawing.TheVariants.{Records, Refused}
+use Rattle.refusal.specs.Refused.{Outcome, values, number}
 use Rattle.sheet.specs.Accepted.{within-limits}
 use Rattle.sheet.specs.Order.{check-refused, check_accepted}
 use Rattle.draw.proofs.draw.Goals as goal
@@ -33,7 +33,7 @@ returns-in-Refused c = let s : List ℕ = c.args.s.now in
     let ys : List Float = c.args.ys.now in
     let l : List Float = c.args.buf.now in
     let e : c.check_within-c.result ≡ check_of m s = c.check_within-c.ensures in (
-      check-refused m s (centre_refusals g xs ys) Refused (Records (length (records_of g xs ys))) c.in-Refused.n (sym c.in-Refused.is ∙ e),
+      check-refused m s (centre_refusals g xs ys) number (values (length (records_of g xs ys))) c.in-Refused.n (sym c.in-Refused.is ∙ e),
       check-refused m s (centre_refusals g xs ys) (λ n. l) (put l 0 (flat_map fields (records_of g xs ys))) c.in-Refused.n (sym c.in-Refused.is ∙ e),
     )
 
@@ -48,6 +48,6 @@ returns-in-Accepted c = let s : List ℕ = c.args.s.now in
     let ys : List Float = c.args.ys.now in
     let l : List Float = c.args.buf.now in
     let e : c.check_within-c.result ≡ check_of m s = c.check_within-c.ensures in (
-      c.draw_accepted.ensures.0 ∙ check_accepted m s (centre_refusals g xs ys) Refused (Records (length (records_of g xs ys))) (sym c.in-Accepted.is ∙ e),
+      c.draw_accepted.ensures.0 ∙ check_accepted m s (centre_refusals g xs ys) number (values (length (records_of g xs ys))) (sym c.in-Accepted.is ∙ e),
       c.draw_accepted.ensures.1 ∙ check_accepted m s (centre_refusals g xs ys) (λ n. l) (put l 0 (flat_map fields (records_of g xs ys))) (sym c.in-Accepted.is ∙ e),
     )
