@@ -9,12 +9,33 @@ ghost use Rattle.layout.specs.Choice as C;
 
 use fit::{MARGIN, Size};
 use records::RECORD_NUMBERS;
+use refusal::Refusal;
+
+// The layout kinds of document 01.
+#[derive(Clone, Copy, Debug, PartialEq, Eq)]
+pub enum Kind {
+    Auto,
+    Layered,
+    Circular,
+}
+
+impl TryFrom<u8> for Kind {
+    type Error = Refusal;
+
+    ghost try_from_gives = { S.GivesKind };
+
+    fn try_from(number: u8) -> Result<Kind, Refusal> {
+        match number {
+            0 => Ok(Kind::Auto),
+            1 => Ok(Kind::Layered),
+            2 => Ok(Kind::Circular),
+            _ => Err(Refusal::Kind),
+        }
+    }
+}
 
 // How much more cluttered than the ring the layers may be.
 const AUTO_TOLERANCE: usize = 2;
-
-// The last layout kind: 0 Auto, 1 Layered, 2 Circular.
-pub const LAST_KIND: u8 = 2;
 
 // ---- centres
 
@@ -211,7 +232,7 @@ fn auto_at(
 
 // The centres by kind.
 fn choose(
-    kind: u8,
+    kind: Kind,
     flags: &[u8],
     sources: &[usize],
     targets: &[usize],
@@ -220,17 +241,15 @@ fn choose(
     xs: &mut [f64],
     ys: &mut [f64],
 )
-    requires { (kind ≤ S.last_kind)
-        × C.GraphSlices flags.now sources.now targets.now widths.now heights.now xs.old ys.old }
+    requires { C.GraphSlices flags.now sources.now targets.now widths.now heights.now xs.old ys.old }
     ensures { let plan = S.plan_by flags.now sources.now targets.now
         widths.now heights.now in
-        S.placing xs.new ys.new ≡ S.chosen kind plan }
+        S.placing xs.new ys.new ≡ S.chosen (S.kind_number kind) plan }
 {
     match kind {
-        0 => auto_at(flags, sources, targets, widths, heights, xs, ys),
-        1 => layers_at(flags, sources, targets, widths, heights, xs, ys),
-        2 => ring_at(flags, widths, xs, ys),
-        _ => {}
+        Kind::Auto => auto_at(flags, sources, targets, widths, heights, xs, ys),
+        Kind::Layered => layers_at(flags, sources, targets, widths, heights, xs, ys),
+        Kind::Circular => ring_at(flags, widths, xs, ys),
     }
 }
 
@@ -267,7 +286,7 @@ fn fit_at(
 
 // The layout by kind: the centres, and the size of the drawing.
 pub fn layout(
-    kind: u8,
+    kind: Kind,
     flags: &[u8],
     sources: &[usize],
     targets: &[usize],
@@ -276,10 +295,10 @@ pub fn layout(
     xs: &mut [f64],
     ys: &mut [f64],
 ) -> Size
-    requires { C.LayoutSlices kind flags.now sources.now targets.now widths.now heights.now xs.old ys.old }
+    requires { C.LayoutSlices flags.now sources.now targets.now widths.now heights.now xs.old ys.old }
     ensures { let plan = S.plan_by flags.now sources.now targets.now
         widths.now heights.now in
-        C.Left (S.layout_of kind plan) result xs.new ys.new }
+        C.Left (S.layout_of (S.kind_number kind) plan) result xs.new ys.new }
 {
     if flags.len() == 0 {
         return Size {
