@@ -13,6 +13,8 @@ use Rattle.clutter.specs.Clutter.{clutter_of}
 use Rattle.circular.specs.Ring.{largest, circular_xs, circular_ys}
 use Rattle.columns.specs.Columns.{EndPair, end_pair}
 use Rattle.layered.specs.Layered.{layered_xs, layered_ys}
+use Rattle.layout.specs.declared.Placement.{Placement}
+use Rattle.layout.specs.declared.Placement.TheVariants.{Layers, Ring}
 use Rattle.layout.specs.declared.Kind.{Kind}
 use Rattle.layout.specs.declared.Kind.TheVariants.{Auto, Layered, Circular}
 use Rattle.refusal.specs.declared.Refusal.{Refusal}
@@ -73,6 +75,10 @@ ring_by n start w = placing (circular_xs n start w) (circular_ys n start w)
 
 unfoldable pub ring : Plan → Placing
 ring p = ring_by (many p) (plan_start p) (widest p)
+
+abbrev pub placed : Placement → Plan → Placing
+placed Layers p = layers p
+placed Ring p = ring p
 
 -- ---- the drawing at these centres
 
