@@ -18,23 +18,8 @@ use Rattle.records.specs.Back.{Small, length-records}
 use Rattle.routing.specs.Sheets.{ends_of, frame_of, sizes_of}
 use Rattle.routing_laws.proofs.Decoded.{records_most, records-small, records_decoded}
 use Rattle.draw.specs.Drawn.{draw_refusals, draw_of, draw_after}
-use Rattle.draw.specs.declared.Drawing.{Drawing}
-use Rattle.draw.specs.declared.Drawing.TheVariants as P
 use Rattle.calls.specs.Calls.{Outcome, values, number, drawn_of, numbers_of}
 use Rattle.calls.specs.Decided.{refused-first, answered-clear}
-
--- ---- what the answer says of the refusals
-
-abbrev drawing_as : Drawing → Outcome ℕ
-drawing_as (P.Records k) = values k
-drawing_as (P.Refused n) = number n
-
-module _ (rs : List Refusal) (k : ℕ) where
-  stopped : (n : ℕ) → P.Refused n ≡ decide rs P.Refused (P.Records k) → First rs n
-  stopped n e = refused-first rs k n (ap drawing_as e ∙ decide-map drawing_as rs P.Refused (P.Records k))
-
-  went : (m : ℕ) → P.Records m ≡ decide rs P.Refused (P.Records k) → Clear rs × (m ≡ k)
-  went m e = answered-clear rs k m (ap drawing_as e ∙ decide-map drawing_as rs P.Refused (P.Records k))
 
 -- ---- the drawing in the slice
 
@@ -50,8 +35,8 @@ pub record DrawingHeld (s : List ℕ) (k : Limits) (xs ys : List Float) (count :
   pub numbers : take (20 * count) slice ≡ numbers_of (drawn_of s xs ys)
 
 module _ (s : List ℕ) (k : Limits) (xs ys : List Float) where
-  pub draw_stopped : (n : ℕ) → P.Refused n ≡ draw_of k s xs ys → First (draw_refusals k s xs ys) n
-  draw_stopped n e = stopped (draw_refusals k s xs ys) (length (drawn_of s xs ys)) n e
+  pub draw_stopped : (n : ℕ) → number n ≡ draw_of k s xs ys → First (draw_refusals k s xs ys) n
+  draw_stopped n e = refused-first (draw_refusals k s xs ys) (length (drawn_of s xs ys)) n e
 
   module _ (few_states : k.states ≤ 64) (few_arrows : k.arrows ≤ 256) where
     accepted : Clear (draw_refusals k s xs ys) → Within k (meaning s)
@@ -77,8 +62,8 @@ module _ (s : List ℕ) (k : Limits) (xs ys : List Float) where
           numbers = part-new (20 * length gs) 0 before (numbers_of gs) (length-records gs) (omega arith);
         }
 
-    pub held : (count : ℕ) (before after : List Float) → 5120 ≤ length before → P.Records count ≡ draw_of k s xs ys → after ≡ draw_after k s xs ys before → DrawingHeld s k xs ys count after
+    pub held : (count : ℕ) (before after : List Float) → 5120 ≤ length before → values count ≡ draw_of k s xs ys → after ≡ draw_after k s xs ys before → DrawingHeld s k xs ys count after
     held count before after h e q =
         let rs = draw_refusals k s xs ys in
-        let w = went rs (length (drawn_of s xs ys)) count e in
+        let w = answered-clear rs (length (drawn_of s xs ys)) count e in
         rw (w.1, q ∙ clear_decides (λ n. before) _ rs w.0) (held_at before h w.0)

@@ -23,30 +23,19 @@ use Rattle.totals.specs.declared.Totals.{Totals}
 use Rattle.totals.specs.Totals.{totals_of}
 use Rattle.drawing_text.specs.Lines.{list_text, list_writable}
 use Rattle.draw.specs.Drawn.{far_centre, draw_refusals, draw_of}
-use Rattle.draw.specs.declared.Drawing.TheVariants as P
 use Rattle.layout.specs.Layout.{plan_of, last_kind}
 use Rattle.plan.specs.Measured.{layout_beyond}
 use Rattle.layout.specs.Alike.{layout-whole}
 use Rattle.plan.specs.Planned.{plan_refusals, planned}
 use Rattle.plan.specs.Planned as Planned
-use Rattle.plan.specs.declared.Planned.{Planned}
-use Rattle.plan.specs.declared.Planned.TheVariants as Q
-use Rattle.number.specs.declared.Written.{Written}
-use Rattle.number.specs.declared.Written.TheVariants as N
-use Rattle.calls.specs.Calls.{Outcome, number, values, capped_limits, drawn_of, onto, written_as, laid_out_as, layout_for, layout, xs_after, ys_after, listing, listing_writable, list_refusals, list, list_after}
+use Rattle.calls.specs.Calls.{Outcome, number, values, capped_limits, drawn_of, onto, layout_for, layout, xs_after, ys_after, listing, listing_writable, list_refusals, list, list_after}
 use Rattle.calls.specs.Laws.{accepted_shown}
 use Rattle.calls.specs.Decided.{refused-first, answered-clear}
 use Rattle.outputs.specs.Answers.{place_refusals, text_refusals, written_of, PlacedInto, WrittenInto}
 use Rattle.calls.specs.Listed.{listing_at, listed_after}
-use Rattle.outputs.specs.declared.LaidOut.{LaidOut}
-use Rattle.outputs.specs.declared.LaidOut.TheVariants as Z
 use Rattle.calls.proofs.Held.{DrawingHeld, draw_stopped}
 
 -- ---- what the answer says of the refusals
-
-abbrev planned_as : Planned → Outcome (ℕ × Float × Float)
-planned_as (Q.Size n w h) = values (n, w, h)
-planned_as (Q.Refused n) = number n
 
 -- the layout in the slices
 pub record Laid (s : List ℕ) (m : Limits) (kind n : ℕ) (w h : Float) (across down : List Float) : Type 0 where
@@ -65,24 +54,24 @@ module _ (s : List ℕ) (m : Limits) (kind : ℕ) where
   planning = plan_refusals (capped_limits m) kind s
 
   -- by what planning under the limits that count has answered and left
-  pub planning-refused : {k : Limits} → k ≡ capped_limits m → (n : ℕ) → Q.Refused n ≡ planned k kind s → First planning n
-  planning-refused c n e = refused-first planning _ n (ap planned_as (e ∙ ap (λ (l : Limits). planned l kind s) c) ∙ decide-map planned_as planning Q.Refused (Q.Size (length (meaning s).states) (layout_for s kind).width (layout_for s kind).height))
+  pub planning-refused : {k : Limits} → k ≡ capped_limits m → (n : ℕ) → number n ≡ planned k kind s → First planning n
+  planning-refused c n e = refused-first planning _ n (e ∙ ap (λ (l : Limits). planned l kind s) c)
 
-  pub plan-clear : {k : Limits} → k ≡ capped_limits m → (n : ℕ) (w h : Float) → Q.Size n w h ≡ planned k kind s
+  pub plan-clear : {k : Limits} → k ≡ capped_limits m → (n : ℕ) (w h : Float) → values (n, w, h) ≡ planned k kind s
       → Clear planning × ◌≡◌ {A = ℕ × Float × Float} (n, w, h) (length (meaning s).states, (layout_for s kind).width, (layout_for s kind).height)
-  plan-clear c n w h e = answered-clear planning _ (n, w, h) (ap planned_as (e ∙ ap (λ (l : Limits). planned l kind s) c) ∙ decide-map planned_as planning Q.Refused (Q.Size (length (meaning s).states) (layout_for s kind).width (layout_for s kind).height))
+  plan-clear c n w h e = answered-clear planning _ (n, w, h) (e ∙ ap (λ (l : Limits). planned l kind s) c)
 
   shown_by : Clear planning → OnMainScreen (meaning s)
   shown_by c = accepted_shown m s (clear_from (refusals (capped_limits m) s) [] planning clear_none c refl)
 
   -- an accepted sheet has at most 64 states
-  pub few_states : {k : Limits} → k ≡ capped_limits m → (n : ℕ) (w h : Float) → Q.Size n w h ≡ planned k kind s → n ≤ 64
+  pub few_states : {k : Limits} → k ≡ capped_limits m → (n : ℕ) (w h : Float) → values (n, w, h) ≡ planned k kind s → n ≤ 64
   few_states c n w h e =
       let p = plan-clear c n w h e in
       let i : n ≡ length (meaning s).states = ap (λ (t : ℕ × Float × Float). t.0) p.1 in
       omega (arith, (shown_by p.0).states)
 
-  pub laid : {k : Limits} → k ≡ capped_limits m → (n : ℕ) (w h : Float) (a₀ d₀ a d : List Float) → 64 ≤ length a₀ → 64 ≤ length d₀ → Q.Size n w h ≡ planned k kind s
+  pub laid : {k : Limits} → k ≡ capped_limits m → (n : ℕ) (w h : Float) (a₀ d₀ a d : List Float) → 64 ≤ length a₀ → 64 ≤ length d₀ → values (n, w, h) ≡ planned k kind s
       → a ≡ Planned.xs_planned k kind s a₀ → d ≡ Planned.ys_planned k kind s d₀ → Laid s m kind n w h (take n a) (take n d)
   laid {k} o n w h a₀ d₀ a d i j e f g =
       let p = plan-clear o n w h e in
@@ -108,29 +97,28 @@ module _ (s : List ℕ) (m : Limits) (kind : ℕ) where
 
   module _ (xs ys : List Float) where
     -- r is answered, and a and b stand in the lent slices
-    abbrev pub Layouts : LaidOut → List Float → List Float → Type 0
+    abbrev pub Layouts : Outcome (ℕ × Float × Float) → List Float → List Float → Type 0
     Layouts r a b =
-        (laid_out_as r ≡ layout s m kind (length xs) (length ys))
+        (r ≡ layout s m kind (length xs) (length ys))
         × (a ≡ xs_after s m kind xs (length ys))
         × (b ≡ ys_after s m kind (length xs) ys)
 
     abbrev placing : List Refusal
     placing = place_refusals (layout_for s kind).xs (layout_for s kind).ys (length xs) (length ys)
 
-    pub layout-refused : {k : Limits} → k ≡ capped_limits m → (n : ℕ) → Q.Refused n ≡ planned k kind s → Layouts (Z.Refused n) xs ys
+    pub layout-refused : {k : Limits} → k ≡ capped_limits m → (n : ℕ) → number n ≡ planned k kind s → Layouts (number n) xs ys
     unfolding layout xs_after ys_after
     layout-refused c n e =
         let f : First planning n = planning-refused c n e in
         (sym (first-joined number _ planning placing n f), sym (first-joined (λ j. xs) _ planning placing n f), sym (first-joined (λ j. ys) _ planning placing n f))
 
     pub layout_laid : (n : ℕ) (w h : Float) (across down : List Float) → Laid s m kind n w h across down
-        → (r : LaidOut) (a b : List Float) → PlacedInto across down w h xs ys r a b → Layouts r a b
+        → (r : Outcome (ℕ × Float × Float)) (a b : List Float) → PlacedInto across down w h xs ys r a b → Layouts r a b
     unfolding layout xs_after ys_after
     layout_laid n w h across down l r a b f =
         let q : length (layout_for s kind).xs ≡ length (meaning s).states = sym (ap length l.xs_are) ∙ l.xs_many ∙ l.many in
         let g : PlacedInto (layout_for s kind).xs (layout_for s kind).ys (layout_for s kind).width (layout_for s kind).height xs ys r a b = rw (l.xs_are, l.ys_are, l.wide, l.high) at f in (
-          ap laid_out_as g.0
-              ∙ decide-map laid_out_as placing Z.Refused (Z.Size (length (layout_for s kind).xs) (layout_for s kind).width (layout_for s kind).height)
+          g.0
               ∙ ap (λ (k : ℕ). decide placing number (values (k, (layout_for s kind).width, (layout_for s kind).height))) q
               ∙ sym (clear-joined number _ planning placing l.clear),
           g.1 ∙ sym (clear-joined (λ j. xs) (onto (layout_for s kind).xs xs) planning placing l.clear),
@@ -184,10 +172,10 @@ module _ (s : List ℕ) (m : Limits) (kind : ℕ) where
 
   module _ (out : List ℕ) where
     -- r is answered, and b stands in the lent slice
-    abbrev pub Lists : Written → List ℕ → Type 0
-    Lists r b = (written_as r ≡ list s m kind (length out)) × (b ≡ list_after s m kind out)
+    abbrev pub Lists : Outcome ℕ → List ℕ → Type 0
+    Lists r b = (r ≡ list s m kind (length out)) × (b ≡ list_after s m kind out)
 
-    pub list-refused : {k : Limits} → k ≡ capped_limits m → (n : ℕ) → Q.Refused n ≡ planned k kind s → Lists (N.Refused n) out
+    pub list-refused : {k : Limits} → k ≡ capped_limits m → (n : ℕ) → number n ≡ planned k kind s → Lists (number n) out
     unfolding list list_after
     list-refused c n e =
         let f : First planning n = planning-refused c n e in (
@@ -195,16 +183,14 @@ module _ (s : List ℕ) (m : Limits) (kind : ℕ) where
           sym (list-met (length out) (λ j. out) (onto (listing s kind) out) ∙ first_decides (λ j. out) _ planning n f),
         )
 
-    pub list_laid : {k : Limits} → k ≡ capped_limits m → (n : ℕ) (w h : Float) (xs ys : List Float) → Laid s m kind n w h xs ys → (r : Written) (b : List ℕ)
+    pub list_laid : {k : Limits} → k ≡ capped_limits m → (n : ℕ) (w h : Float) (xs ys : List Float) → Laid s m kind n w h xs ys → (r : Outcome ℕ) (b : List ℕ)
         → r ≡ listing_at k s w h xs ys (length out) → b ≡ listed_after k s w h xs ys out → Lists r b
     unfolding list list_after
     list_laid c n w h xs ys l r b e f =
         let p = layout_for s kind in
         let e' : r ≡ listing_at (capped_limits m) s p.width p.height p.xs p.ys (length out) = rw (c, l.xs_are, l.ys_are, l.wide, l.high) at e in
         let f' : b ≡ listed_after (capped_limits m) s p.width p.height p.xs p.ys out = rw (c, l.xs_are, l.ys_are, l.wide, l.high) at f in (
-          ap written_as e'
-              ∙ decide-map written_as drawing N.Refused (written_of (listing_writable s kind) (listing s kind) (length out))
-              ∙ ap (decide drawing number) (decide-map written_as (writing (length out)) N.Refused (N.Length (length (listing s kind))))
+          e'
               ∙ sym (list-met (length out) number (values (length (listing s kind))) ∙ clear_decides number _ planning l.clear),
           f' ∙ sym (list-met (length out) (λ j. out) (onto (listing s kind) out) ∙ clear_decides (λ j. out) _ planning l.clear),
         )
@@ -213,22 +199,22 @@ module _ (s : List ℕ) (m : Limits) (kind : ℕ) where
 
 module _ (s : List ℕ) (k : Limits) (w h : Float) (xs ys : List Float) (out : List ℕ) where
   -- r is answered, and b stands in the lent slice
-  abbrev pub ListsAt : Written → List ℕ → Type 0
+  abbrev pub ListsAt : Outcome ℕ → List ℕ → Type 0
   ListsAt r b = (r ≡ listing_at k s w h xs ys (length out)) × (b ≡ listed_after k s w h xs ys out)
 
   abbrev drawn : List Refusal
   drawn = draw_refusals k s xs ys
 
-  pub at-refused : (n : ℕ) → P.Refused n ≡ draw_of k s xs ys → ListsAt (N.Refused n) out
+  pub at-refused : (n : ℕ) → number n ≡ draw_of k s xs ys → ListsAt (number n) out
   at-refused n e =
       let f : First drawn n = draw_stopped s k xs ys n e in
-      (sym (first_decides N.Refused _ drawn n f), sym (first_decides (λ j. out) _ drawn n f))
+      (sym (first_decides number _ drawn n f), sym (first_decides (λ j. out) _ drawn n f))
 
   pub at-drawn : (count : ℕ) (slice : List Float) → DrawingHeld s k xs ys count slice → (flags : List ℕ) → flags ≡ flags_of (meaning s)
-      → (totals : Totals) → totals ≡ totals_of (meaning s) (decode_records count slice) → (r : Written) (b : List ℕ)
+      → (totals : Totals) → totals ≡ totals_of (meaning s) (decode_records count slice) → (r : Outcome ℕ) (b : List ℕ)
       → WrittenInto (list_writable w h (centres xs ys) flags (decode_records count slice) totals) (list_text w h (centres xs ys) flags (decode_records count slice) totals) out r b → ListsAt r b
   at-drawn count slice d flags e totals q r b f =
       let gs = drawn_of s xs ys in
       let all = totals_of (meaning s) gs in
       let g : WrittenInto (list_writable w h (centres xs ys) (flags_of (meaning s)) gs all) (list_text w h (centres xs ys) (flags_of (meaning s)) gs all) out r b = rw (e, q, d.decoded) at f in
-      (g.0 ∙ sym (clear_decides N.Refused _ drawn d.clear), g.1 ∙ sym (clear_decides (λ j. out) _ drawn d.clear))
+      (g.0 ∙ sym (clear_decides number _ drawn d.clear), g.1 ∙ sym (clear_decides (λ j. out) _ drawn d.clear))

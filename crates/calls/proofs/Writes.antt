@@ -10,18 +10,15 @@ use Rattle.laws.specs.Refusals.{decide-map, decide-first, decide-rest, clear_non
 use Rattle.sheet.specs.Sheet.{states_of, arrows_of, meaning}
 use Rattle.sheet.specs.Refusals.{check_of}
 use Rattle.sheet.specs.Order.{accepted_exactly, check-refused, check_accepted}
-use Rattle.sheet.specs.declared.Checked.TheVariants as C
 use Rattle.sheet.specs.declared.Limits.{Limits}
 use Rattle.encode.specs.Encode.{space_of, state_size, arrow_size, records_for}
 use Rattle.encode.proofs.Means.{encode-length}
 use Rattle.write_sheet.specs.Sheets.{Savable}
 use Rattle.write_sheet.specs.Whole.{savable}
-use Rattle.number.specs.declared.Written.{Written}
-use Rattle.number.specs.declared.Written.TheVariants as N
-use Rattle.calls.specs.Calls.{number, capped_limits, short, onto, written_as, fresh_sheet, write_sheet, write_sheet_after}
+use Rattle.calls.specs.Calls.{Outcome, number, values, capped_limits, short, onto, fresh_sheet, write_sheet, write_sheet_after}
 use Rattle.calls.specs.Saved.{room_refusals, saved_of, saved_after}
 
-pub accepted_savable : (m : Limits) (s : List ℕ) → check_of m s ≡ C.Accepted → Savable s
+pub accepted_savable : (m : Limits) (s : List ℕ) → check_of m s ≡ values tt → Savable s
 accepted_savable m s q =
     let c = (accepted_exactly m s).0 q in
     savable m s (c.none 1) (c.none 2) (c.none 4) (c.none 3) (c.none 5)
@@ -30,7 +27,7 @@ accepted_savable m s q =
 
 module _ (s out : List ℕ) {a b : ℕ} (d : a ≡ space_of state_size (states_of s)) (e : b ≡ space_of arrow_size (arrows_of s)) where
   -- r is answered, and o stands in the lent slice
-  abbrev Saves : Written → List ℕ → Type 0
+  abbrev Saves : Outcome ℕ → List ℕ → Type 0
   Saves r o = (r ≡ saved_of s (length out)) × (o ≡ saved_after s out)
 
   abbrev n : ℕ
@@ -39,20 +36,20 @@ module _ (s out : List ℕ) {a b : ℕ} (d : a ≡ space_of state_size (states_o
   fresh-length : n ≡ length (fresh_sheet s)
   fresh-length = let l : length (fresh_sheet s) ≡ 16 * (1 + records_for (meaning s)) = encode-length (meaning s) in omega arith
 
-  pub write_short : length out < n → Saves (N.Refused 7) out
+  pub write_short : length out < n → Saves (number 7) out
   write_short h =
       let l : n ≡ length (fresh_sheet s) = fresh-length in
       let t = lt-ltb (length out) (length (fresh_sheet s)) (omega arith) in
-      (decide-first 7 (short (length out) (fresh_sheet s)) [] N.Refused _ t, decide-first 7 (short (length out) (fresh_sheet s)) [] (λ k. out) _ t)
+      (decide-first 7 (short (length out) (fresh_sheet s)) [] number _ t, decide-first 7 (short (length out) (fresh_sheet s)) [] (λ k. out) _ t)
 
-  pub write_done : (o : List ℕ) → n ≤ length out → o ≡ put out 0 (fresh_sheet s) → Saves (N.Length n) o
+  pub write_done : (o : List ℕ) → n ≤ length out → o ≡ put out 0 (fresh_sheet s) → Saves (values n) o
   write_done o h p =
       let l : n ≡ length (fresh_sheet s) = fresh-length in
       let t = le-ltb (length out) (length (fresh_sheet s)) (omega arith) in
       let w : put out 0 (fresh_sheet s) ≡ onto (fresh_sheet s) out = put_front out (fresh_sheet s) (omega arith) in (
-        ap (λ (k : ℕ). N.Length k) l
-            ∙ sym (clear_decides N.Refused (N.Length (length (fresh_sheet s))) [] clear_none)
-            ∙ decide-rest 7 (short (length out) (fresh_sheet s)) [] N.Refused _ t,
+        ap (λ (k : ℕ). values k) l
+            ∙ sym (clear_decides number (values (length (fresh_sheet s))) [] clear_none)
+            ∙ decide-rest 7 (short (length out) (fresh_sheet s)) [] number _ t,
         p
             ∙ w
             ∙ sym (clear_decides (λ k. out) (onto (fresh_sheet s) out) [] clear_none)
@@ -63,21 +60,21 @@ module _ (s out : List ℕ) {a b : ℕ} (d : a ≡ space_of state_size (states_o
 
 module _ (s : List ℕ) (m : Limits) (out : List ℕ) {k : Limits} (c : k ≡ capped_limits m) where
   -- r is answered, and b stands in the lent slice
-  abbrev WritesSheet : Written → List ℕ → Type 0
-  WritesSheet r b = (written_as r ≡ write_sheet s m (length out)) × (b ≡ write_sheet_after s m out)
+  abbrev WritesSheet : Outcome ℕ → List ℕ → Type 0
+  WritesSheet r b = (r ≡ write_sheet s m (length out)) × (b ≡ write_sheet_after s m out)
 
-  pub write_refused : (n : ℕ) → C.Refused n ≡ check_of k s → WritesSheet (N.Refused n) out
+  pub write_refused : (n : ℕ) → number n ≡ check_of k s → WritesSheet (number n) out
   unfolding write_sheet write_sheet_after
   write_refused n e =
-      let q : C.Refused n ≡ check_of (capped_limits m) s = e ∙ ap (λ (l : Limits). check_of l s) c in
+      let q : number n ≡ check_of (capped_limits m) s = e ∙ ap (λ (l : Limits). check_of l s) c in
       let rs = room_refusals s (length out) in
       (check-refused (capped_limits m) s rs number _ n q, check-refused (capped_limits m) s rs (λ j. out) _ n q)
 
-  pub write_saved : (r : Written) (b : List ℕ) → C.Accepted ≡ check_of k s → (r ≡ saved_of s (length out)) × (b ≡ saved_after s out) → WritesSheet r b
+  pub write_saved : (r : Outcome ℕ) (b : List ℕ) → values tt ≡ check_of k s → (r ≡ saved_of s (length out)) × (b ≡ saved_after s out) → WritesSheet r b
   unfolding write_sheet write_sheet_after
   write_saved r b e h =
-      let q : C.Accepted ≡ check_of (capped_limits m) s = e ∙ ap (λ (l : Limits). check_of l s) c in
+      let q : values tt ≡ check_of (capped_limits m) s = e ∙ ap (λ (l : Limits). check_of l s) c in
       let rs = room_refusals s (length out) in (
-        ap written_as h.0 ∙ decide-map written_as rs N.Refused (N.Length (length (fresh_sheet s))) ∙ check_accepted (capped_limits m) s rs number _ q,
+        h.0 ∙ check_accepted (capped_limits m) s rs number _ q,
         h.1 ∙ check_accepted (capped_limits m) s rs (λ j. out) _ q,
       )

@@ -4,15 +4,9 @@ use mathlib.Core.List.{List, [], ◌∷◌, ◌++◌, flat_map}
 use Rattle.laws.specs.Refusals.{Refusal, refusal, decide}
 use Rattle.sheet.specs.Refusals.{refusals}
 use Rattle.sheet.specs.Sheet.{meaning, flags_of}
-use Rattle.sheet.specs.declared.Checked.{Checked}
-use Rattle.sheet.specs.declared.Checked.TheVariants as C
 use Rattle.encode.specs.Encode.{encode}
 use Rattle.label.specs.Label.{label_refusals, cut, block_width, block_height}
-use Rattle.label.specs.declared.Sized.{Sized}
-use Rattle.label.specs.declared.Sized.TheVariants as L
 use Rattle.number.specs.Number.{too_large, num_text}
-use Rattle.number.specs.declared.Written.{Written}
-use Rattle.number.specs.declared.Written.TheVariants as N
 use Rattle.label_spots.specs.declared.Geometry.{Geometry}
 use Rattle.records.specs.Records.{fields}
 use Rattle.routing.specs.Sheets.{frame_of, records_of}
@@ -25,47 +19,10 @@ use Rattle.draw.specs.Drawn.{far_centre, draw_refusals}
 use Rattle.layout.specs.Layout.{Layout, plan_of, last_kind, layout_of}
 use Rattle.plan.specs.Measured.{layout_beyond}
 use Rattle.plan.specs.Planned.{plan_refusals}
-use Rattle.outputs.specs.declared.RouteAnswer.{RouteAnswer}
-use Rattle.outputs.specs.declared.RouteAnswer.TheVariants as D
-use Rattle.calls.specs.declared.Counted.{Counted}
-use Rattle.calls.specs.declared.Counted.TheVariants as K
-use Rattle.outputs.specs.declared.LaidOut.{LaidOut}
-use Rattle.outputs.specs.declared.LaidOut.TheVariants as Z
 use Rattle.sheet.specs.declared.Limits.{Limits}
 pub use Rattle.sheet.specs.Refusals.{main_screen, service_panel}
+pub use Rattle.refusal.specs.Refused.{Outcome, values, number}
 pub use Rattle.outputs.specs.Answers.{short, onto}
-
--- What a call returns: the values, or the number of the refusal.
-pub data Outcome (A : Type 0) : Type 0 where
-  values : A → Outcome A
-  number : ℕ → Outcome A
-
--- "Where an answer is an enum, a definition sets out this paper's number and values for each of its cases."
-abbrev pub checked_as : Checked → Outcome (Unit {0})
-checked_as C.Accepted = values tt
-checked_as (C.Refused n) = number n
-
-abbrev pub sized_as : Sized → Outcome (Float × Float)
-sized_as (L.Size w h) = values (w, h)
-sized_as (L.Refused n) = number n
-
-abbrev pub written_as : Written → Outcome ℕ
-written_as (N.Length n) = values n
-written_as (N.Refused n) = number n
-
--- f64 numbers written, bytes written
-abbrev pub routed_as : RouteAnswer → Outcome (ℕ × ℕ)
-routed_as (D.Lengths n m) = values (n, m)
-routed_as (D.Refused n) = number n
-
-abbrev pub counted_as : Counted → Outcome ℕ
-counted_as (K.Count n) = values n
-counted_as (K.Refused n) = number n
-
--- the number of states, width, height
-abbrev pub laid_out_as : LaidOut → Outcome (ℕ × Float × Float)
-laid_out_as (Z.Size n w h) = values (n, w, h)
-laid_out_as (Z.Refused n) = number n
 
 -- ---- the limits that count: document 02, T-05, "The limits become a value given to every call that takes a sheet or a label block"
 

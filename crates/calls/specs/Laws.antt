@@ -1,5 +1,5 @@
 -- The calls by the definitions of the crates below. Assumes nothing.
-use Rattle.std.specs.Prelude.{◌≡◌, List, ℕ, ◌≤◌, length, Float}
+use Rattle.std.specs.Prelude.{◌≡◌, refl, List, ℕ, ◌≤◌, length, Float}
 use Rattle.std.proofs.Common.{arith, lt-ltb, le-ltb, le-leb}
 use Rattle.std.proofs.lemmas.Bool.{lt-leb}
 use Rattle.laws.specs.Cases.{by_bool, by_lt}
@@ -10,11 +10,9 @@ use Rattle.sheet.specs.Order.{accepted_exactly}
 use Rattle.sheet.specs.Accepted.{OnMainScreen, on_main_screen}
 use Rattle.sheet.specs.Over.{clear_higher}
 use Rattle.sheet.specs.declared.Limits.{Limits}
-use Rattle.sheet.specs.declared.Checked.TheVariants as C
 use Rattle.label.specs.Label.{label_refusals, cut, block_width, block_height, sized}
-use Rattle.label.specs.declared.Sized.TheVariants as L
 use Rattle.number.specs.Number.{too_large, num_text, written, written_after}
-use Rattle.calls.specs.Calls.{main_screen, smaller, capped_limits, checked_as, sized_as, written_as, check, label_size, write_num, write_num_after}
+use Rattle.calls.specs.Calls.{main_screen, smaller, capped_limits, check, label_size, write_num, write_num_after}
 
 -- ---- the limits that count
 
@@ -66,15 +64,15 @@ clear-capped l m s a b c = clear_higher l (capped_limits m) s (capped-largest l 
 
 -- ---- the calls
 
-pub check_is_lem : (s : List ℕ) (m : Limits) {k : Limits} → k ≡ capped_limits m → checked_as (check_of k s) ≡ check s m
+pub check_is_lem : (s : List ℕ) (m : Limits) {k : Limits} → k ≡ capped_limits m → check_of k s ≡ check s m
 unfolding check_of check
-check_is_lem s m {k} e = rw e (decide-map checked_as (refusals (capped_limits m) s) C.Refused C.Accepted)
+check_is_lem s m {k} e = rw e refl
 
-pub label_is : (text lengths : List ℕ) (m : Limits) {k : Limits} → k ≡ capped_limits m → sized_as (sized k text lengths) ≡ label_size text lengths m
+pub label_is : (text lengths : List ℕ) (m : Limits) {k : Limits} → k ≡ capped_limits m → sized k text lengths ≡ label_size text lengths m
 unfolding sized label_size
-label_is text lengths m {k} e = rw e (decide-map sized_as (label_refusals (capped_limits m) text lengths) L.Refused (L.Size (block_width (cut text lengths)) (block_height (length lengths))))
+label_is text lengths m {k} e = rw e refl
 
-pub num_is : (v : Float) (out : List ℕ) → (written_as (written v (length out)) ≡ write_num v out) × (written_after v out ≡ write_num_after v out)
+pub num_is : (v : Float) (out : List ℕ) → (written v (length out) ≡ write_num v out) × (written_after v out ≡ write_num_after v out)
 unfolding written written_after write_num write_num_after decide
 num_is v out =
     by_bool (too_large v)

@@ -8,15 +8,14 @@ use Rattle.totals.specs.Totals.{totals_of}
 use Rattle.drawing_text.specs.Lines.{list_text, list_writable}
 use Rattle.draw.specs.Drawn.{draw_refusals}
 use Rattle.outputs.specs.Answers.{written_of, out_written}
+use Rattle.refusal.specs.Refused.{Outcome, values, number}
 use Rattle.calls.specs.Calls.{drawn_of}
-use Rattle.number.specs.declared.Written.{Written}
-use Rattle.number.specs.declared.Written.TheVariants as N
 
-abbrev pub listing_at : Limits → List ℕ → Float → Float → List Float → List Float → ℕ → Written
+abbrev pub listing_at : Limits → List ℕ → Float → Float → List Float → List Float → ℕ → Outcome ℕ
 listing_at m s w h xs ys room =
     let gs = drawn_of s xs ys in
     let totals = totals_of (meaning s) gs in
-    decide (draw_refusals m s xs ys) N.Refused
+    decide (draw_refusals m s xs ys) number
     (written_of (list_writable w h (centres xs ys) (flags_of (meaning s)) gs totals) (list_text w h (centres xs ys) (flags_of (meaning s)) gs totals) room)
 
 abbrev pub listed_after : Limits → List ℕ → Float → Float → List Float → List Float → List ℕ → List ℕ

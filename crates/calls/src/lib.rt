@@ -2,25 +2,16 @@
 #![tactic(auto)]
 
 ghost use Rattle.std.specs.Prelude.{◌≡◌, ◌≤◌, length};
+ghost use Rattle.refusal.specs.Refused.{outcome};
 ghost use Rattle.sheet.specs.Sheet.{states_of};
 ghost use Rattle.write_sheet.specs.Sheets.{Savable};
 ghost use Rattle.calls.specs.Calls as S;
 ghost use Rattle.calls.specs.Listed as F;
 ghost use Rattle.calls.specs.Saved as W;
 
-use draw::Drawing;
-use number::Written;
-pub use outputs::{LaidOut, RouteAnswer};
-use plan::Planned;
 use records::RECORD_NUMBERS;
-use sheet::{Checked, Limits};
-
-// The clutter, or the number of the refusal.
-#[derive(Clone, Copy)]
-pub enum Counted {
-    Count(usize),
-    Refused(u8),
-}
+use refusal::Refusal;
+use sheet::Limits;
 
 // ---- limits
 
@@ -45,23 +36,23 @@ fn capped_limits(limits: Limits) -> Limits
 
 // ---- check, size a label block, write a number
 
-// Checks a sheet: accepted, or the number of the refusal.
-pub fn check(sheet: &[u8], limits: Limits) -> sheet::Checked
-    ensures { S.checked_as result ≡ S.check sheet.now limits }
+// Checks a sheet: accepted or refused.
+pub fn check(sheet: &[u8], limits: Limits) -> Result<(), Refusal>
+    ensures { outcome result ≡ S.check sheet.now limits }
 {
     sheet_check::check_within(sheet, capped_limits(limits))
 }
 
 // The width and height of a label block: its text, and the length of each line.
-pub fn label_size(text: &[u8], lengths: &[usize], limits: Limits) -> label::Sized
-    ensures { S.sized_as result ≡ S.label_size text.now lengths.now limits }
+pub fn label_size(text: &[u8], lengths: &[usize], limits: Limits) -> Result<(f64, f64), Refusal>
+    ensures { outcome result ≡ S.label_size text.now lengths.now limits }
 {
     label::label_size(text, lengths, capped_limits(limits))
 }
 
-// Writes a number into `out`: the bytes written, or the number of the refusal.
-pub fn write_num(v: f64, out: &mut [u8]) -> number::Written
-    ensures { (S.written_as result ≡ S.write_num v out.old)
+// Writes a number into `out`: the bytes written.
+pub fn write_num(v: f64, out: &mut [u8]) -> Result<usize, Refusal>
+    ensures { (outcome result ≡ S.write_num v out.old)
         × (out.new ≡ S.write_num_after v out.old) }
 {
     number::write_num(v, out)
@@ -69,7 +60,7 @@ pub fn write_num(v: f64, out: &mut [u8]) -> number::Written
 
 // ---- routing
 
-// Routes a sheet at the given centres: its records and their paths, or the number of the refusal.
+// Routes a sheet at the given centres: its records and their paths.
 pub fn route(
     sheet: &[u8],
     limits: Limits,
@@ -77,68 +68,50 @@ pub fn route(
     ys: &[f64],
     records: &mut [f64],
     text: &mut [u8],
-) -> RouteAnswer
+) -> Result<(usize, usize), Refusal>
     ensures { let s = sheet.now in
         let x = xs.now in
         let y = ys.now in
         let recordRoom = length records.old in
         let textRoom = length text.old in
-        (S.routed_as result ≡ S.route s limits x y recordRoom textRoom)
+        (outcome result ≡ S.route s limits x y recordRoom textRoom)
         × (records.new ≡ S.records_after s limits x y records.old textRoom)
         × (text.new ≡ S.text_after s limits x y recordRoom text.old) }
 {
     let m = capped_limits(limits);
     let mut drawing = [0.0f64; RECORD_NUMBERS * 256];
-    let drawn = draw::draw(sheet, m, xs, ys, &mut drawing);
-    match drawn {
-        Drawing::Refused(n) => RouteAnswer::Refused(n),
-        Drawing::Records(count) => outputs::write_route(&drawing, count, records, text),
-    }
+    let count = draw::draw(sheet, m, xs, ys, &mut drawing)?;
+    outputs::write_route(&drawing, count, records, text)
 }
 
 // ---- clutter
 
-// Counts the clutter of a sheet routed at the given centres, or gives the number of the refusal.
-pub fn clutter(sheet: &[u8], limits: Limits, xs: &[f64], ys: &[f64]) -> Counted
-    ensures { S.counted_as result ≡ S.clutter sheet.now limits xs.now ys.now }
+// Counts the clutter of a sheet routed at the given centres.
+pub fn clutter(sheet: &[u8], limits: Limits, xs: &[f64], ys: &[f64]) -> Result<usize, Refusal>
+    ensures { outcome result ≡ S.clutter sheet.now limits xs.now ys.now }
 {
     let m = capped_limits(limits);
     let mut drawing = [0.0f64; RECORD_NUMBERS * 256];
-    let drawn = draw::draw(sheet, m, xs, ys, &mut drawing);
-    match drawn {
-        Drawing::Refused(n) => Counted::Refused(n),
-        Drawing::Records(count) => {
-            let n = meaning::state_count(sheet);
-            Counted::Count(outputs::clutter_at(xs, ys, n, &drawing, count))
-        }
-    }
+    let count = draw::draw(sheet, m, xs, ys, &mut drawing)?;
+    let n = meaning::state_count(sheet);
+    Ok(outputs::clutter_at(xs, ys, n, &drawing, count))
 }
 
 // ---- layout
 
-// Lays out a sheet by kind: the centres of its states and the size, or the number of the refusal.
-pub fn layout(sheet: &[u8], limits: Limits, kind: u8, xs: &mut [f64], ys: &mut [f64]) -> LaidOut
+// Lays out a sheet by kind: the centres of its states and the size.
+pub fn layout(sheet: &[u8], limits: Limits, kind: u8, xs: &mut [f64], ys: &mut [f64]) -> Result<(usize, f64, f64), Refusal>
     ensures { let xRoom = length xs.old in
         let yRoom = length ys.old in
-        (S.laid_out_as result ≡ S.layout sheet.now limits kind xRoom yRoom)
+        (outcome result ≡ S.layout sheet.now limits kind xRoom yRoom)
         × (xs.new ≡ S.xs_after sheet.now limits kind xs.old yRoom)
         × (ys.new ≡ S.ys_after sheet.now limits kind xRoom ys.old) }
 {
     let m = capped_limits(limits);
     let mut across = [0.0f64; 64];
     let mut down = [0.0f64; 64];
-    let planned = plan::plan(sheet, m, kind, &mut across, &mut down);
-    match planned {
-        Planned::Refused(n) => LaidOut::Refused(n),
-        Planned::Size(n, width, height) => outputs::write_layout(
-            &across[..n],
-            &down[..n],
-            width,
-            height,
-            xs,
-            ys,
-        ),
-    }
+    let (n, width, height) = plan::plan(sheet, m, kind, &mut across, &mut down)?;
+    outputs::write_layout(&across[..n], &down[..n], width, height, xs, ys)
 }
 
 // ---- listing
@@ -153,7 +126,7 @@ fn list_by(
     ys: &[f64],
     flags: &mut [u8],
     out: &mut [u8],
-) -> Written
+) -> Result<usize, Refusal>
     requires { let states = length xs.now in
         (length ys.now ≡ states)
         × (length flags.old ≡ states)
@@ -163,72 +136,52 @@ fn list_by(
     ensures { let s = sheet.now in
         let x = xs.now in
         let y = ys.now in
-        (result ≡ F.listing_at m s width height x y (length out.old))
+        (outcome result ≡ F.listing_at m s width height x y (length out.old))
         × (out.new ≡ F.listed_after m s width height x y out.old) }
 {
     meaning::flags_into(sheet, flags);
     let mut drawing = [0.0f64; RECORD_NUMBERS * 256];
-    let drawn = draw::draw(sheet, m, xs, ys, &mut drawing);
-    match drawn {
-        Drawing::Refused(n) => Written::Refused(n),
-        Drawing::Records(count) => {
-            let totals = totals::totals_of(sheet, &drawing, count);
-            outputs::write_listing(width, height, xs, ys, flags, &drawing, count, totals, out)
-        }
-    }
+    let count = draw::draw(sheet, m, xs, ys, &mut drawing)?;
+    let totals = totals::totals_of(sheet, &drawing, count);
+    outputs::write_listing(width, height, xs, ys, flags, &drawing, count, totals, out)
 }
 
-// Lists the drawing of a sheet, laid out by kind: the bytes written, or the number of the refusal.
-pub fn list(sheet: &[u8], limits: Limits, kind: u8, out: &mut [u8]) -> Written
-    ensures { (S.written_as result ≡ S.list sheet.now limits kind (length out.old))
+// Lists the drawing of a sheet, laid out by kind: the bytes written.
+pub fn list(sheet: &[u8], limits: Limits, kind: u8, out: &mut [u8]) -> Result<usize, Refusal>
+    ensures { (outcome result ≡ S.list sheet.now limits kind (length out.old))
         × (out.new ≡ S.list_after sheet.now limits kind out.old) }
 {
     let m = capped_limits(limits);
     let mut xs = [0.0f64; 64];
     let mut ys = [0.0f64; 64];
     let mut flags = [0u8; 64];
-    let planned = plan::plan(sheet, m, kind, &mut xs, &mut ys);
-    match planned {
-        Planned::Refused(n) => Written::Refused(n),
-        Planned::Size(n, width, height) => list_by(
-            sheet,
-            m,
-            width,
-            height,
-            &xs[..n],
-            &ys[..n],
-            &mut flags[..n],
-            out,
-        ),
-    }
+    let (n, width, height) = plan::plan(sheet, m, kind, &mut xs, &mut ys)?;
+    list_by(sheet, m, width, height, &xs[..n], &ys[..n], &mut flags[..n], out)
 }
 
 // ---- writing a sheet
 
 // Writes an accepted sheet afresh: the bytes written, or 7.
-fn write_accepted(sheet: &[u8], out: &mut [u8]) -> Written
+fn write_accepted(sheet: &[u8], out: &mut [u8]) -> Result<usize, Refusal>
     requires { Savable sheet.now }
-    ensures { (result ≡ W.saved_of sheet.now (length out.old))
+    ensures { (outcome result ≡ W.saved_of sheet.now (length out.old))
         × (out.new ≡ W.saved_after sheet.now out.old) }
 {
     let states = write_sheet::states_size(sheet);
     let arrows = write_sheet::arrows_size(sheet);
     let bytes = 16 * (1 + states + arrows);
     if out.len() < bytes {
-        return Written::Refused(7);
+        return Err(Refusal::Room);
     }
     write_sheet::write_afresh(sheet, out, states, arrows);
-    Written::Length(bytes)
+    Ok(bytes)
 }
 
-// Writes a sheet afresh into `out`, as the editor saves it: the bytes written, or the number of the refusal.
-pub fn write_sheet(sheet: &[u8], limits: Limits, out: &mut [u8]) -> Written
-    ensures { (S.written_as result ≡ S.write_sheet sheet.now limits (length out.old))
+// Writes a sheet afresh into `out`, as the editor saves it: the bytes written.
+pub fn write_sheet(sheet: &[u8], limits: Limits, out: &mut [u8]) -> Result<usize, Refusal>
+    ensures { (outcome result ≡ S.write_sheet sheet.now limits (length out.old))
         × (out.new ≡ S.write_sheet_after sheet.now limits out.old) }
 {
-    let checked = sheet_check::check_within(sheet, capped_limits(limits));
-    match checked {
-        Checked::Refused(n) => Written::Refused(n),
-        Checked::Accepted => write_accepted(sheet, out),
-    }
+    sheet_check::check_within(sheet, capped_limits(limits))?;
+    write_accepted(sheet, out)
 }
