@@ -14,7 +14,6 @@ use Rattle.sheet.specs.Meaning.{arrow_at}
 use Rattle.sheet.specs.declared.Limits.{Limits}
 use Rattle.sheet.specs.Order.{accepted_exactly}
 use Rattle.sheet.specs.Accepted.{right_length, few, within-limits}
-use Rattle.sheet.specs.declared.Checked.TheVariants.{Accepted}
 use Rattle.encode.specs.Encode.{records_for, encode}
 use Rattle.encode.proofs.Means.{count_is, encode-length, encode_right, meaning-encode}
 use Rattle.encode.proofs.Meets.{met_in_order}
@@ -56,7 +55,7 @@ module _ (s : List ℕ) (m : Limits) (room : ℕ) (c : Clear (refusals (capped_l
 -- ---- an accepted sheet
 
 module _ (s : List ℕ) (m : Limits) (c : Clear (refusals (capped_limits m) s)) where
-  is_accepted : check_of (capped_limits m) s ≡ Accepted
+  is_accepted : check_of (capped_limits m) s ≡ values tt
   is_accepted = (accepted_exactly (capped_limits m) s).1 c
 
   fresh-clear : Clear (refusals (capped_limits m) (fresh_sheet s))

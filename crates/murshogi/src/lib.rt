@@ -26,8 +26,8 @@ pub extern "C" fn murshogi_check(sheet: &[u8], limits: &[usize; 3]) -> u8
     let m = limits_of(limits);
     let c = calls::check(sheet, m);
     match c {
-        sheet::Checked::Accepted => 0,
-        sheet::Checked::Refused(n) => n,
+        Ok(()) => 0,
+        Err(refusal) => refusal.into(),
     }
 }
 
@@ -45,11 +45,11 @@ pub extern "C" fn murshogi_label_size(
     let m = limits_of(limits);
     let c = calls::label_size(text, lengths, m);
     match c {
-        label::Sized::Size(w, h) => {
+        Ok((w, h)) => {
             *size = [w, h];
             0
         }
-        label::Sized::Refused(n) => n,
+        Err(refusal) => refusal.into(),
     }
 }
 
@@ -78,12 +78,12 @@ pub extern "C" fn murshogi_layout(
     let m = limits_of(limits);
     let c = calls::layout(sheet, m, kind, x, y);
     match c {
-        calls::LaidOut::Size(n, w, h) => {
+        Ok((n, w, h)) => {
             *size = [w, h];
             *states = n;
             0
         }
-        calls::LaidOut::Refused(n) => n,
+        Err(refusal) => refusal.into(),
     }
 }
 
@@ -113,11 +113,11 @@ pub extern "C" fn murshogi_route(
     let m = limits_of(limits);
     let c = calls::route(sheet, m, x, y, records, text);
     match c {
-        calls::RouteAnswer::Lengths(n, m) => {
+        Ok((n, m)) => {
             *lengths = [n, m];
             0
         }
-        calls::RouteAnswer::Refused(n) => n,
+        Err(refusal) => refusal.into(),
     }
 }
 
@@ -137,11 +137,11 @@ pub extern "C" fn murshogi_clutter(
     let m = limits_of(limits);
     let c = calls::clutter(sheet, m, x, y);
     match c {
-        calls::Counted::Count(n) => {
+        Ok(n) => {
             *count = n;
             0
         }
-        calls::Counted::Refused(n) => n,
+        Err(refusal) => refusal.into(),
     }
 }
 
@@ -155,11 +155,11 @@ pub extern "C" fn murshogi_write_num(v: f64, out: &mut [u8], length: &mut usize)
 {
     let c = calls::write_num(v, out);
     match c {
-        number::Written::Length(n) => {
+        Ok(n) => {
             *length = n;
             0
         }
-        number::Written::Refused(n) => n,
+        Err(refusal) => refusal.into(),
     }
 }
 
@@ -181,11 +181,11 @@ pub extern "C" fn murshogi_list(
     let m = limits_of(limits);
     let c = calls::list(sheet, m, kind, out);
     match c {
-        number::Written::Length(n) => {
+        Ok(n) => {
             *length = n;
             0
         }
-        number::Written::Refused(n) => n,
+        Err(refusal) => refusal.into(),
     }
 }
 
@@ -206,10 +206,10 @@ pub extern "C" fn murshogi_write_sheet(
     let m = limits_of(limits);
     let c = calls::write_sheet(sheet, m, out);
     match c {
-        number::Written::Length(n) => {
+        Ok(n) => {
             *length = n;
             0
         }
-        number::Written::Refused(n) => n,
+        Err(refusal) => refusal.into(),
     }
 }

@@ -8,7 +8,6 @@ use Rattle.number.specs.Number.{too_large, num_text}
 use Rattle.sheet.specs.Sheet.{meaning}
 use Rattle.sheet.specs.Refusals.{refusals, check_of}
 use Rattle.sheet.specs.Order.{accepted_exactly}
-use Rattle.sheet.specs.declared.Checked.TheVariants.{Accepted}
 use Rattle.sheet.specs.declared.Limits.{Limits}
 use Rattle.layout.specs.Layout.{Layout, plan_of, last_kind}
 use Rattle.plan.specs.Measured.{layout_beyond}
@@ -22,7 +21,7 @@ states_only n = record { states = n; arrows = 0; lines = 0 }
 
 -- a sheet of states alone, with this layout, under all limits that allow them
 module _ (s : List ℕ) (kind : ℕ) (l : Layout)
-    (accepted : check_of (states_only (length l.xs)) s ≡ Accepted) (few : ltb 64 (length l.xs) ≡ false)
+    (accepted : check_of (states_only (length l.xs)) s ≡ values tt) (few : ltb 64 (length l.xs) ≡ false)
     (known : ltb last_kind kind ≡ false) (within : layout_beyond kind (plan_of (meaning s)) ≡ false)
     (placed : layout_for s kind ≡ l) (counted : length (meaning s).states ≡ length l.xs)
     (m : Limits) (fits : length l.xs ≤ m.states) where

@@ -14,7 +14,6 @@ use Rattle.sheet.specs.Sheet.{Graph, meaning, flags_of}
 use Rattle.sheet.specs.Refusals as Refusals
 use Rattle.sheet.specs.Refusals.{service_panel, AtMost, refusals, check_of}
 use Rattle.sheet.specs.Order.{accepted_exactly}
-use Rattle.sheet.specs.declared.Checked.TheVariants.{Accepted}
 use Rattle.sheet.specs.declared.Limits.{Limits}
 use Rattle.sheet.specs.Examples.{empty_sheet, small, empty_graph, small_graph, empty_means, small_means}
 use Rattle.shape.specs.Centres.{centres}
@@ -56,7 +55,7 @@ pub record WorkedEmpty (k : Limits) : Type 0 where
 
 -- ---- what refuses nothing
 
-small_accepted : check_of small_limits small ≡ Accepted
+small_accepted : check_of small_limits small ≡ values tt
 unfolding decide Refusals.check_of flat_map over any_for any_up any_of Refusals.repeats Refusals.is_set Refusals.wrong_record Refusals.wrong_bytes Refusals.indices Refusals.wrong_chains Refusals.large_arrow Refusals.over_limits Refusals.ill_arrow Refusals.ill_formed Sheet.chain_by Sheet.met_line Sheet.met_arrow Sheet.met Sheet.line_of Sheet.lines_from Sheet.arrow_of Sheet.states_of Sheet.arrows_of
 small_accepted = refl
 
@@ -68,7 +67,7 @@ small-clear k a =
 abbrev no_limits : Limits
 no_limits = record { states = 0; arrows = 0; lines = 0 }
 
-empty_accepted : check_of no_limits empty_sheet ≡ Accepted
+empty_accepted : check_of no_limits empty_sheet ≡ values tt
 unfolding decide Refusals.check_of flat_map any_for any_up any_of Refusals.repeats Refusals.is_set Refusals.wrong_bytes Refusals.indices Refusals.wrong_chains Refusals.over_limits Refusals.ill_formed Sheet.chain_by Sheet.met Sheet.states_of Sheet.arrows_of
 empty_accepted = refl
 

@@ -51,7 +51,7 @@ use Rattle.laws.specs.Zip.{zip_by}
 use Rattle.float.specs.Ops.{of_nat}
 use Rattle.sheet.specs.Sheet.{Arrow}
 use Rattle.sheet.specs.Refusals.{check_of}
-use Rattle.sheet.specs.declared.Checked.TheVariants.{Accepted}
+use Rattle.refusal.specs.Refused.{values}
 use Rattle.label_spots.specs.declared.Geometry.{Geometry}
 use Rattle.records.specs.Records.{fields}
 use Rattle.beyond.specs.Beyond as BeyondBeyond
@@ -95,7 +95,7 @@ pub record ComputedCall (c : Call) (l : List ℕ) (ps : List ℕ) (anchors : Lis
   pub targets : map (λ (a : Arrow). a.target) (graph c).arrows ≡ 1 ∷ 0 ∷ 2 ∷ 2 ∷ []
   pub lines : map (λ (a : Arrow). a.lines) (graph c).arrows ≡ ((97 ∷ []) ∷ []) ∷ (l ∷ []) ∷ ((99 ∷ []) ∷ []) ∷ ((100 ∷ []) ∷ []) ∷ []
   -- no refusal from 1 to 6, nor 8, nor 9
-  pub accepted : check_of (capped_limits c.limits) c.sheet ≡ Accepted
+  pub accepted : check_of (capped_limits c.limits) c.sheet ≡ values tt
   pub near : far_centre (length (graph c).states) c.xs c.ys ≡ false
   pub single : beyond (frame c) ≡ false
   -- the turns, by the numbers of their arrows; the places are free, what is drawn there is writable, and so long

@@ -1,13 +1,13 @@
 -- `murshogi::murshogi_check` meets its contract.
 use mathlib.Core.Path.{ap, sym, ◌∙◌}
-use Rattle.calls.specs.Calls.{checked_as}
+use Rattle.refusal.specs.Refused.{outcome}
 use Rattle.murshogi.specs.Exports.{returned}
 use Rattle.murshogi.proofs.murshogi_check.Goals as goal
 
-pub returns-in-Accepted : goal.returns-in-Accepted
-returns-in-Accepted c = let l = rw c.limits_of-m.ensures at c.check-c.ensures in
-    ap returned (ap checked_as (sym c.in-Accepted.is) ∙ l)
+pub returns-in-Ok : goal.returns-in-Ok
+returns-in-Ok c = let l = rw c.limits_of-m.ensures at c.check-c.ensures in
+    ap returned (ap outcome (sym c.in-Ok.is) ∙ l)
 
-pub returns-in-Refused : goal.returns-in-Refused
-returns-in-Refused c = let l = rw c.limits_of-m.ensures at c.check-c.ensures in
-    ap returned (ap checked_as (sym c.in-Refused.is) ∙ l)
+pub returns-in-Err : goal.returns-in-Err
+returns-in-Err c = let l = rw c.limits_of-m.ensures at c.check-c.ensures in
+    c.into.ensures ∙ ap returned (ap outcome (sym c.in-Err.is) ∙ l)
