@@ -5,17 +5,15 @@
 // every byte, or UNSET in every number, before the call.
 #![tactic(auto)]
 
-ghost use Rattle.std.specs.Prelude.{◌≡◌, List, ℕ, ◌+◌, ◌<◌, ◌≤◌, eqb, length, get_or, take, drop, Float};
+ghost use Rattle.std.specs.Prelude.{◌≡◌, List, Bool, ℕ, ◌+◌, ◌<◌, ◌≤◌, eqb, length, get_or, take, drop, Float};
+ghost use Rattle.refusal.specs.Refused.{outcome};
 ghost use Rattle.calls.specs.Calls as C;
 ghost use Rattle.cases.specs.Payload.{word_at, long_at};
 ghost use Rattle.call_cases.specs.Cases as S;
 
-use calls::Counted;
 use cases::{byte, fill_floats, fill_sizes, float, index, long, same, same_float, size};
-use label::Sized;
-use number::Written;
-use outputs::{LaidOut, RouteAnswer};
-use sheet::{Checked, Limits};
+use refusal::Refusal;
+use sheet::Limits;
 
 // No answer holds it.
 const UNSET: f64 = 7e250;
@@ -110,14 +108,22 @@ fn numbers_in(p: &[u8], at: usize, n: usize, out: &[f64]) -> bool
 
 // ---- check, size a label block, write a number
 
+// Whether a call has answered as a case says: 0 where the values are right, or the refusal's number.
+fn outcome_is<A, F: FnOnce(A) -> bool>(answered: Result<A, Refusal>, answer: u8, right: F) -> bool
+    requires { F.IsAlwaysCallable right }
+    ensures { (good : A → Bool) → ((values : A) (b : Bool) → F.post right values b → b ≡ good values)
+        → result ≡ S.outcome_right answer good (outcome answered) }
+{
+    match answered {
+        Ok(values) => right(values) && answer == 0,
+        Err(refusal) => answer == u8::from(refusal),
+    }
+}
+
 fn check_is(answer: u8, sheet: &[u8], m: Limits) -> bool
     ensures { result ≡ S.check_is answer sheet.now m }
 {
-    let c = calls::check(sheet, m);
-    match c {
-        Checked::Accepted => answer == 0,
-        Checked::Refused(n) => answer == n,
-    }
+    outcome_is(calls::check(sheet, m), answer, |()| true)
 }
 
 fn size_is(rest: &[u8], w: f64, h: f64) -> bool
@@ -129,15 +135,6 @@ fn size_is(rest: &[u8], w: f64, h: f64) -> bool
     same_float(rest, 10, h)
 }
 
-fn sized_is(s: Sized, answer: u8, rest: &[u8]) -> bool
-    ensures { result ≡ S.outcome_right answer (S.size_is rest.now) (C.sized_as s) }
-{
-    match s {
-        Sized::Size(w, h) => size_is(rest, w, h) && answer == 0,
-        Sized::Refused(n) => answer == n,
-    }
-}
-
 fn label_agrees(answer: u8, text: &[u8], m: Limits, rest: &[u8]) -> bool
     ensures { result ≡ S.label_agrees answer text.now m rest.now }
 {
@@ -147,22 +144,13 @@ fn label_agrees(answer: u8, text: &[u8], m: Limits, rest: &[u8]) -> bool
     }
     let mut lengths = [0usize; 16];
     fill_sizes(rest, 18, &mut lengths);
-    sized_is(calls::label_size(text, &lengths[..lines], m), answer, rest)
-}
-
-fn written_is(w: Written, answer: u8, length: usize) -> bool
-    ensures { result ≡ S.outcome_right answer (λ (n : ℕ). eqb n length) (C.written_as w) }
-{
-    match w {
-        Written::Length(n) => n == length && answer == 0,
-        Written::Refused(n) => answer == n,
-    }
+    outcome_is(calls::label_size(text, &lengths[..lines], m), answer, |(w, h)| size_is(rest, w, h))
 }
 
 // Writes a number into the middle of `out`.
-fn number_in(v: f64, room: usize, out: &mut [u8]) -> Written
+fn number_in(v: f64, room: usize, out: &mut [u8]) -> Result<usize, Refusal>
     requires { 16 + room ≤ length out.old }
-    ensures { (C.written_as result ≡ C.write_num v (take room (drop 16 out.old)))
+    ensures { (outcome result ≡ C.write_num v (take room (drop 16 out.old)))
         × (out.new ≡ S.around room (C.write_num_after v) out.old) }
 {
     let end = 16 + room;
@@ -174,7 +162,7 @@ fn number_is(answer: u8, v: f64, room: usize, text: &[u8], out: &mut [u8]) -> bo
     ensures { result ≡ S.number_is answer v room text.now out.old }
 {
     let w = number_in(v, room, out);
-    if !written_is(w, answer, text.len()) {
+    if !outcome_is(w, answer, |n| n == text.len()) {
         return false;
     }
     text_stands(out, text)
@@ -197,9 +185,9 @@ fn number_agrees(answer: u8, rest: &[u8]) -> bool
 // ---- list a drawing
 
 // Lists into the middle of `out`.
-fn list_in(sheet: &[u8], m: Limits, by: u8, room: usize, out: &mut [u8]) -> Written
+fn list_in(sheet: &[u8], m: Limits, by: u8, room: usize, out: &mut [u8]) -> Result<usize, Refusal>
     requires { 16 + room ≤ length out.old }
-    ensures { (C.written_as result ≡ C.list sheet.now m by room)
+    ensures { (outcome result ≡ C.list sheet.now m by room)
         × (out.new ≡ S.around room (C.list_after sheet.now m by) out.old) }
 {
     let end = 16 + room;
@@ -219,7 +207,7 @@ fn list_is(
     ensures { result ≡ S.list_is answer by sheet.now m room text.now out.old }
 {
     let w = list_in(sheet, m, by, room, out);
-    if !written_is(w, answer, text.len()) {
+    if !outcome_is(w, answer, |n| n == text.len()) {
         return false;
     }
     text_stands(out, text)
@@ -239,9 +227,9 @@ fn list_agrees(answer: u8, by: u8, sheet: &[u8], m: Limits, rest: &[u8]) -> bool
 // ---- write a sheet
 
 // Writes into the middle of `out`.
-fn sheet_in(sheet: &[u8], m: Limits, room: usize, out: &mut [u8]) -> Written
+fn sheet_in(sheet: &[u8], m: Limits, room: usize, out: &mut [u8]) -> Result<usize, Refusal>
     requires { 16 + room ≤ length out.old }
-    ensures { (C.written_as result ≡ C.write_sheet sheet.now m room)
+    ensures { (outcome result ≡ C.write_sheet sheet.now m room)
         × (out.new ≡ S.around room (C.write_sheet_after sheet.now m) out.old) }
 {
     let end = 16 + room;
@@ -253,7 +241,7 @@ fn sheet_is(answer: u8, sheet: &[u8], m: Limits, room: usize, text: &[u8], out: 
     ensures { result ≡ S.sheet_is answer sheet.now m room text.now out.old }
 {
     let w = sheet_in(sheet, m, room, out);
-    if !written_is(w, answer, text.len()) {
+    if !outcome_is(w, answer, |n| n == text.len()) {
         return false;
     }
     text_stands(out, text)
@@ -284,9 +272,9 @@ fn layout_in(
     ny: usize,
     xs: &mut [f64],
     ys: &mut [f64],
-) -> LaidOut
+) -> Result<(usize, f64, f64), Refusal>
     requires { (16 + nx ≤ length xs.old) × (16 + ny ≤ length ys.old) }
-    ensures { (C.laid_out_as result ≡ C.layout sheet.now m by nx ny)
+    ensures { (outcome result ≡ C.layout sheet.now m by nx ny)
         × (xs.new ≡ S.around nx (λ (l : List Float). C.xs_after sheet.now m by l ny) xs.old)
         × (ys.new ≡ S.around ny (C.ys_after sheet.now m by nx) ys.old) }
 {
@@ -307,15 +295,6 @@ fn laid_is(rest: &[u8], n: usize, w: f64, h: f64) -> bool
     same_float(rest, 14, h)
 }
 
-fn laid_out_is(l: LaidOut, answer: u8, rest: &[u8]) -> bool
-    ensures { result ≡ S.outcome_right answer (S.laid_is rest.now) (C.laid_out_as l) }
-{
-    match l {
-        LaidOut::Size(n, w, h) => laid_is(rest, n, w, h) && answer == 0,
-        LaidOut::Refused(n) => answer == n,
-    }
-}
-
 fn layout_is(
     answer: u8,
     by: u8,
@@ -330,7 +309,7 @@ fn layout_is(
 {
     let n = index(rest, 4);
     let l = layout_in(sheet, m, by, index(rest, 0), index(rest, 2), xs, ys);
-    if !laid_out_is(l, answer, rest) {
+    if !outcome_is(l, answer, |(n, w, h)| laid_is(rest, n, w, h)) {
         return false;
     }
     if !numbers_in(rest, 22, n, xs) {
@@ -365,10 +344,10 @@ fn route_in(
     bytes: usize,
     records: &mut [f64],
     out: &mut [u8],
-) -> RouteAnswer
+) -> Result<(usize, usize), Refusal>
     requires { (16 + room ≤ length records.old) × (16 + bytes ≤ length out.old) }
     ensures { let s = sheet.now in
-        (C.routed_as result ≡ C.route s m xs.now ys.now room bytes)
+        (outcome result ≡ C.route s m xs.now ys.now room bytes)
         × (records.new
         ≡ S.around room (λ (l : List Float). C.records_after s m xs.now ys.now l bytes) records.old)
         × (out.new ≡ S.around bytes (C.text_after s m xs.now ys.now room) out.old) }
@@ -376,15 +355,6 @@ fn route_in(
     let end = 16 + room;
     let stop = 16 + bytes;
     calls::route(sheet, m, xs, ys, &mut records[16..end], &mut out[16..stop])
-}
-
-fn routed_is(r: RouteAnswer, answer: u8, n: usize, text: &[u8]) -> bool
-    ensures { result ≡ S.outcome_right answer (S.lengths_are n text.now) (C.routed_as r) }
-{
-    match r {
-        RouteAnswer::Lengths(k, m) => lengths_are(n, text, k, m) && answer == 0,
-        RouteAnswer::Refused(k) => answer == k,
-    }
 }
 
 fn lengths_are(n: usize, text: &[u8], k: usize, m: usize) -> bool
@@ -419,7 +389,7 @@ fn route_is(
         records,
         out,
     );
-    if !routed_is(r, answer, n, text) {
+    if !outcome_is(r, answer, |(k, m)| lengths_are(n, text, k, m)) {
         return false;
     }
     if !numbers_in(rest, 6, n, records) {
@@ -461,11 +431,8 @@ fn route_agrees(answer: u8, sheet: &[u8], m: Limits, xs: &[f64], ys: &[f64], res
 fn clutter_agrees(answer: u8, sheet: &[u8], m: Limits, xs: &[f64], ys: &[f64], rest: &[u8]) -> bool
     ensures { result ≡ S.clutter_agrees answer sheet.now m xs.now ys.now rest.now }
 {
-    let c = calls::clutter(sheet, m, xs, ys);
-    match c {
-        Counted::Count(n) => n == length_at(rest, 0) && answer == 0,
-        Counted::Refused(n) => answer == n,
-    }
+    let count = length_at(rest, 0);
+    outcome_is(calls::clutter(sheet, m, xs, ys), answer, |n| n == count)
 }
 
 // ---- a case

@@ -36,8 +36,8 @@ fn output(input: &[u8; ASKED], n: usize, text: &mut [u8; LENT]) -> usize
     let whole: &[u8] = input;
     let c = calls::list(&whole[..n], m, 0, text);
     match c {
-        number::Written::Length(m) => m,
-        number::Written::Refused(m) => put_refused(text, m),
+        Ok(length) => length,
+        Err(refusal) => put_refused(text, refusal.into()),
     }
 }
 

@@ -2,16 +2,16 @@
 // service panel's limits, each with what the program gives.
 #![tactic(auto)]
 
-use calls::{Counted, LaidOut};
-use number::Written;
-use sheet::{Checked, Limits};
+use refusal::Refusal;
+use sheet::Limits;
 use std::io;
 
 fn say(rt: &impl Print, text: &[u8]) -> io::Result<()> {
     rt.write_all(text)
 }
 
-fn refused(rt: &impl Print, n: u8) -> io::Result<()> {
+fn refused(rt: &impl Print, refusal: Refusal) -> io::Result<()> {
+    let n = u8::from(refusal);
     println!(rt; "refused {n}")
 }
 
@@ -19,8 +19,8 @@ fn refused(rt: &impl Print, n: u8) -> io::Result<()> {
 fn checked(rt: &impl Print, sheet: &[u8], limits: Limits) -> io::Result<()> {
     let c = calls::check(sheet, limits);
     match c {
-        Checked::Accepted => say(rt, b"accepted\n"),
-        Checked::Refused(n) => refused(rt, n),
+        Ok(()) => say(rt, b"accepted\n"),
+        Err(refusal) => refused(rt, refusal),
     }
 }
 
@@ -29,8 +29,8 @@ fn written(rt: &impl Print, v: f64) -> io::Result<()> {
     let mut out = [0u8; 32];
     let w = calls::write_num(v, &mut out);
     match w {
-        Written::Length(n) => shown(rt, &out, n),
-        Written::Refused(n) => refused(rt, n),
+        Ok(n) => shown(rt, &out, n),
+        Err(refusal) => refused(rt, refusal),
     }
 }
 
@@ -47,8 +47,8 @@ fn centred(rt: &impl Print, sheet: &[u8], x: f64) -> io::Result<()> {
     let ys = [0.0];
     let c = calls::clutter(sheet, sheet::main_screen(), &xs, &ys);
     match c {
-        Counted::Count(_) => say(rt, b"accepted\n"),
-        Counted::Refused(n) => refused(rt, n),
+        Ok(_) => say(rt, b"accepted\n"),
+        Err(refusal) => refused(rt, refusal),
     }
 }
 
@@ -58,8 +58,8 @@ fn apart(rt: &impl Print, sheet: &[u8]) -> io::Result<()> {
     let mut ys = [0.0f64; 2];
     let l = calls::layout(sheet, sheet::main_screen(), 0, &mut xs, &mut ys);
     match l {
-        LaidOut::Size(_, _, _) => written(rt, xs[1] - xs[0]),
-        LaidOut::Refused(n) => refused(rt, n),
+        Ok(_) => written(rt, xs[1] - xs[0]),
+        Err(refusal) => refused(rt, refusal),
     }
 }
 
@@ -68,8 +68,8 @@ fn listed(rt: &impl Print, sheet: &[u8]) -> io::Result<()> {
     let mut out = [0u8; 1024];
     let w = calls::list(sheet, sheet::main_screen(), 0, &mut out);
     match w {
-        Written::Length(n) => shown(rt, &out, n),
-        Written::Refused(n) => refused(rt, n),
+        Ok(n) => shown(rt, &out, n),
+        Err(refusal) => refused(rt, refusal),
     }
 }
 

@@ -1,14 +1,11 @@
 -- `call_cases::check_is` meets its contract. Assumes nothing.
-use Rattle.call_cases.specs.Cases.{check_is}
+use Rattle.std.proofs.Common.{rules}
+use Rattle.std.specs.Prelude.{true}
+use mathlib.Core.Path.{ap, ◌∙◌}
+use Rattle.refusal.specs.Refused.{Outcome}
+use Rattle.call_cases.specs.Cases.{outcome_right, check_is}
 use Rattle.call_cases.proofs.check_is.Goals as goal
 
-pub check-c-requires : goal.check-c-requires
-check-c-requires c = tt
-
-pub returns-in-Accepted : goal.returns-in-Accepted
+pub returns : goal.returns
 unfolding check_is
-returns-in-Accepted c = rw (← c.check-c.ensures, c.in-Accepted.is)
-
-pub returns-in-Refused : goal.returns-in-Refused
-unfolding check_is
-returns-in-Refused c = rw (← c.check-c.ensures, c.in-Refused.is)
+returns c = c.outcome_is.ensures (λ u. true) (λ u b p. search rules) ∙ ap (outcome_right c.args.answer (λ u. true)) c.check.ensures

@@ -1,4 +1,5 @@
 -- `call_cases::label_agrees` meets its contract. Assumes nothing.
+use Rattle.std.proofs.Common.{rules}
 use mathlib.Core.Path.{sym, ap, ◌∙◌}
 use mathlib.Core.List.{List}
 use Prim.Native.Nat.{ℕ}
@@ -29,9 +30,6 @@ slice_bounds-label_size-end c = sym (length-take-le _ _ (omega arith))
 pub label_size-requires : goal.label_size-requires
 label_size-requires c = tt
 
-pub sized_is-requires : goal.sized_is-requires
-sized_is-requires c = tt
-
 pub returns : goal.returns
 unfolding label_agrees
-returns c = rw (← c.index-lines.ensures.0, le-leb _ _ c.if-lines-gt16.false) (c.sized_is.ensures ∙ ap (λ (o : Outcome (Float × Float)). outcome_right c.args.answer (size_is c.args.rest.now) o) (c.label_size.ensures ∙ ap (λ (l : List ℕ). label_size c.args.text.now l c.args.m) (ap (take c.index-lines.result) c.fill_sizes.ensures ∙ each_first 8 (bits_at c.args.rest.now) 18 c.index-lines.result 16 c.if-lines-gt16.false)))
+returns c = rw (← c.index-lines.ensures.0, le-leb _ _ c.if-lines-gt16.false) (c.outcome_is.ensures (size_is c.args.rest.now) (λ v b p. search rules) ∙ ap (λ (o : Outcome (Float × Float)). outcome_right c.args.answer (size_is c.args.rest.now) o) (c.label_size.ensures ∙ ap (λ (l : List ℕ). label_size c.args.text.now l c.args.m) (ap (take c.index-lines.result) c.fill_sizes.ensures ∙ each_first 8 (bits_at c.args.rest.now) 18 c.index-lines.result 16 c.if-lines-gt16.false)))

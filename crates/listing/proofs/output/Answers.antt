@@ -1,22 +1,23 @@
 use Rattle.std.proofs.Common.{rules, arith, take, sym, ap, ◌∙◌}
-use Rattle.calls.specs.Calls.{written_as}
+use Rattle.refusal.specs.Refused.{outcome}
+use Rattle.listing.specs.Listing.{refused_text}
 use Rattle.listing.specs.Laws.{listed-output, refused-output}
 use Rattle.listing.proofs.output.Goals as goal
 
-pub returns-in-Length : goal.returns-in-Length
-returns-in-Length c =
+pub returns-in-Ok : goal.returns-in-Ok
+returns-in-Ok c =
     let a = c.args in
     let l = rw c.main_screen-m.ensures at c.list-c.ensures in
-    let p = listed-output (take a.n a.input.now) a.text.now (search rules) (ap written_as (sym c.in-Length.is) ∙ l.0) l.1 in
+    let p = listed-output (take a.n a.input.now) a.text.now (search rules) (ap outcome (sym c.in-Ok.is) ∙ l.0) l.1 in
     (search rules, omega (arith, c.list-c.auto), omega (arith, p.0), p.1)
 
-pub returns-in-Refused : goal.returns-in-Refused
-returns-in-Refused c =
+pub returns-in-Err : goal.returns-in-Err
+returns-in-Err c =
     let a = c.args in
     let l = rw c.main_screen-m.ensures at c.list-c.ensures in
     let k = c.list-c.auto in (
       search rules,
       omega (arith, c.put_refused.auto, k),
       omega (arith, c.put_refused.ensures.0, k),
-      c.put_refused.ensures.1 ∙ refused-output (take a.n a.input.now) a.text.now (search rules) (ap written_as (sym c.in-Refused.is) ∙ l.0),
+      c.put_refused.ensures.1 ∙ ap refused_text c.into.ensures ∙ refused-output (take a.n a.input.now) a.text.now (search rules) (ap outcome (sym c.in-Err.is) ∙ l.0),
     )
