@@ -13,7 +13,7 @@ use Rattle.float.specs.Constants.{f0}
 use Rattle.float.specs.Standins.{max}
 use Rattle.text.specs.Utf8.{well_formed}
 use Rattle.sheet.specs.Sheet.{chain, chain_by, next, count, piece, first_text, line_of, lines_from}
-use Rattle.sheet.specs.Chains.{chain-end, chain-cut, chain-step}
+use Rattle.sheet.specs.Chains.{chain_end, chain_cut, chain_step}
 use Rattle.text.specs.Automaton.{feed_of, gather_of}
 use Rattle.label.specs.declared.Measure.{Measure}
 use Rattle.label.specs.declared.Block.{Block}
@@ -116,15 +116,15 @@ fit-total most bytes l e = eqb-true bytes (total_length l) (and_second (not (any
 module _ {A B : Type 0} (g : A → B → A) (s : List ℕ) (f : ℕ → List B) (n i : ℕ) (a : A) where
   pub chain_over_end : i ≡ 0 → a ≡ over g a (flat_map f (chain_by s n i))
   unfolding flat_map over
-  chain_over_end e = rw (chain-end s n i e)
+  chain_over_end e = rw (chain_end s n i e)
 
   pub chain_over_cut : n ≡ 0 → a ≡ over g a (flat_map f (chain_by s n i))
   unfolding flat_map over
-  chain_over_cut e = rw (chain-cut s n i e)
+  chain_over_cut e = rw (chain_cut s n i e)
 
   pub chain_over_step : (b : A) → b ≡ over g a (f i) → (n ≡ 0 → ⊥) → (i ≡ 0 → ⊥) → over g b (flat_map f (chain_by s (n - 1) (next s i))) ≡ over g a (flat_map f (chain_by s n i))
   unfolding flat_map
-  chain_over_step b r h e = rw (chain-step s n i h e, r) (sym (over_join g a (f i) (flat_map f (chain_by s (n - 1) (next s i)))))
+  chain_over_step b r h e = rw (chain_step s n i h e, r) (sym (over_join g a (f i) (flat_map f (chain_by s (n - 1) (next s i)))))
 
 -- ---- where the walks of a line and of a block begin
 pub line_measure_start : (s : List ℕ) (k i n : ℕ) (m : Measure) → m ≡ measure_start → i ≡ first_text s k → n ≡ count s → measure_all m (flat_map (piece s) (chain_by s (n + 1) i)) ≡ measure_all measure_start (line_of s k)

@@ -12,7 +12,7 @@ use Rattle.sheet.specs.declared.Limits.{Limits}
 use Rattle.sheet.specs.declared.Checked.{Checked}
 use Rattle.sheet.specs.declared.Checked.TheVariants.{Accepted, Refused}
 use Rattle.sheet.specs.Sheet.{kind_of, chain_by, chain, next, count, Met, met_alone, met_arrow, met, first_state, first_arrow}
-use Rattle.sheet.specs.Chains.{chain-end, chain-cut, chain-step}
+use Rattle.sheet.specs.Chains.{chain_end, chain_cut, chain_step}
 use Rattle.sheet_check.specs.Walk.{Walked, walked, fresh, walk}
 
 -- ---- two lists in a row
@@ -47,16 +47,16 @@ walks_start {s} {f} {i} {m} e = record { rest = ap (λ (n : ℕ). walk s (flat_m
 module _ {s : List ℕ} {f : ℕ → List Met} {first : ℕ} {m₀ m : List ℕ} {i n : ℕ} (x : Walks s f first m₀ m i n) where
   pub walks_end : i ≡ 0 → walked true m ≡ walk s (flat_map f (chain s first)) m₀
   unfolding flat_map walk
-  walks_end e = rw (chain-end s n i e) at x.rest
+  walks_end e = rw (chain_end s n i e) at x.rest
 
   pub walks_cut : n ≡ 0 → walked true m ≡ walk s (flat_map f (chain s first)) m₀
   unfolding flat_map walk
-  walks_cut e = rw (chain-cut s n i e) at x.rest
+  walks_cut e = rw (chain_cut s n i e) at x.rest
 
   module _ {m' : List ℕ} {b : Bool} (h : n ≡ 0 → ⊥) (e : i ≡ 0 → ⊥) (q : walked b m' ≡ walk s (f i) m) where
     turned : walk s (f i ++ flat_map f (chain_by s (n - 1) (next s i))) m ≡ walk s (flat_map f (chain s first)) m₀
     unfolding flat_map
-    turned = rw (chain-step s n i h e) at x.rest
+    turned = rw (chain_step s n i h e) at x.rest
 
     pub walks_step : {j : ℕ} → b ≡ true → j ≡ next s i → length m' ≡ length m → Walks s f first m₀ m' j (n - 1)
     walks_step t r l = record {

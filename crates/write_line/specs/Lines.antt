@@ -6,7 +6,7 @@ use mathlib.Core.List.{List, [], ◌∷◌, ◌++◌, flat_map}
 use Rattle.laws.specs.Cases.{by_lt}
 use Rattle.laws.specs.Put.{put}
 use Rattle.sheet.specs.Sheet.{count, next, chain_by, first_text, piece, byte_one, line_of}
-use Rattle.sheet.specs.Chains.{chain-end, chain-cut, chain-step}
+use Rattle.sheet.specs.Chains.{chain_end, chain_cut, chain_step}
 use Rattle.sheet.specs.Records.{line_bytes}
 use Rattle.encode.specs.Encode.{first_index, space_of, all_records, piece_size, pieces, piece_records, line_records, line_size}
 use Rattle.encode.specs.Pieces.{pieces-count}
@@ -57,16 +57,16 @@ joined-start s k i m e q = rw (e, q)
 module _ (s : List ℕ) (left i : ℕ) where
   pub joined_end : i ≡ 0 → flat_map (piece s) (chain_by s left i) ≡ []
   unfolding flat_map
-  joined_end e = rw (chain-end s left i e)
+  joined_end e = rw (chain_end s left i e)
 
   pub joined-cut : left ≡ 0 → flat_map (piece s) (chain_by s left i) ≡ []
   unfolding flat_map
-  joined-cut e = rw (chain-cut s left i e)
+  joined-cut e = rw (chain_cut s left i e)
 
   pub joined_step : (j : ℕ) → j ≡ next s i → (left ≡ 0 → ⊥) → (i ≡ 0 → ⊥)
       → flat_map (piece s) (chain_by s left i) ≡ piece s i ++ flat_map (piece s) (chain_by s (left - 1) j)
   unfolding flat_map
-  joined_step j q h e = rw (chain-step s left i h e, q)
+  joined_step j q h e = rw (chain_step s left i h e, q)
 
 -- ---- a line
 

@@ -9,7 +9,7 @@ use Rattle.laws.specs.Any.{any_of, any_head, any_rest}
 use Rattle.laws.specs.Cases.{by_bool}
 use Rattle.laws.specs.Put.{put}
 use Rattle.sheet.specs.Sheet.{count, next, chain_by, chain}
-use Rattle.sheet.specs.Chains.{chain-end, chain-cut, chain-step}
+use Rattle.sheet.specs.Chains.{chain_end, chain_cut, chain_step}
 use Rattle.encode.specs.Encode.{first_index, space_of, all_records}
 use Rattle.encode.specs.Blocks.{InRecords}
 use Rattle.encode.specs.Kinds.{never}
@@ -36,7 +36,7 @@ module _ {A : Type 0} (s : List ℕ) (f : ℕ → A) where
 
   module _ {i left : ℕ} (h : left ≡ 0 → ⊥) (e : i ≡ 0 → ⊥) where
     left_is : map f (chain_by s left i) ≡ f i ∷ map f (chain_by s (left - 1) (next s i))
-    left_is = ap (map f) (chain-step s left i h e)
+    left_is = ap (map f) (chain_step s left i h e)
 
     module _ (bad : A → Bool) (b : any_of bad (map f (chain_by s left i)) ≡ false) where
       good_here : bad (f i) ≡ false
@@ -61,10 +61,10 @@ module _ {A : Type 0} (size : A → ℕ) (bad : A → Bool) (s : List ℕ) (f : 
     sums_done e = let b : n + 0 ≡ whole = rw e at w.space in omega arith
 
     pub sums_end : i ≡ 0 → n ≡ whole
-    sums_end e = sums_done (chain-end s left i e)
+    sums_end e = sums_done (chain_end s left i e)
 
     pub sums_cut : left ≡ 0 → n ≡ whole
-    sums_cut e = sums_done (chain-cut s left i e)
+    sums_cut e = sums_done (chain_cut s left i e)
 
     module _ (h : left ≡ 0 → ⊥) (e : i ≡ 0 → ⊥) where
       pub sums_good : bad (f i) ≡ false
@@ -92,10 +92,10 @@ module _ {A : Type 0} {size : A → ℕ} {write : ℕ → ℕ → A → List ℕ
     follows_same = w.writes.bytes.same
 
     pub follows_end : i ≡ 0 → (out ≡ put out₀ (16 * k₀) (all_records size write k₀ whole)) × (k ≡ k₀ + space_of size whole)
-    follows_end e = writes_end w.writes (ap (map f) (chain-end s left i e))
+    follows_end e = writes_end w.writes (ap (map f) (chain_end s left i e))
 
     pub follows_cut : left ≡ 0 → (out ≡ put out₀ (16 * k₀) (all_records size write k₀ whole)) × (k ≡ k₀ + space_of size whole)
-    follows_cut e = writes_end w.writes (ap (map f) (chain-cut s left i e))
+    follows_cut e = writes_end w.writes (ap (map f) (chain_cut s left i e))
 
     module _ (h : left ≡ 0 → ⊥) (e : i ≡ 0 → ⊥) where
       pub follows_good : bad (f i) ≡ false
