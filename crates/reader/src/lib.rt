@@ -1,7 +1,7 @@
 // The records of a sheet: one by its number, and those of a chain one after the other.
 #![tactic(auto)]
 
-ghost use Rattle.std.specs.Prelude.{◌≡◌, ◌≤◌, length};
+ghost use Rattle.std.specs.Prelude.{◌≡◌, ◌≤◌, nat_lt, length};
 ghost use Rattle.std.specs.Iterator.{YieldsFirst, item_count};
 ghost use Rattle.sheet.specs.Sheet as S;
 ghost use Rattle.reader.specs.Reading as R;
@@ -52,6 +52,13 @@ impl<'a> Chain<'a> {
             at: first,
             left,
         }
+    }
+
+    // Whether a record is still to come.
+    pub fn goes_on(&self) -> bool
+        ensures { result ≡ nat_lt 0 (length (R.chain_rest self.now)) }
+    {
+        self.at != 0 && self.left != 0
     }
 }
 
