@@ -13,7 +13,7 @@ fn sizes_from(s: &[u8], heads: &[u16], widths: &mut [f64], heights: &mut [f64])
         × (heights.new ≡ map (Z.height_from s.now) heads.now) }
 {
     for k in 0..heads.len() {
-        let b = label::block_at(s, heads[k] as usize);
+        let b = label::block_at(s, heads[k]);
         widths[k] = b.width;
         heights[k] = b.height;
     }

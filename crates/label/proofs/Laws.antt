@@ -1,9 +1,10 @@
 -- One step of each loop and where it begins, from what the calls give. Assumes nothing.
-use Rattle.std.proofs.Common.{◌≡◌, ℕ, suc, ◌+◌, ◌-◌, ◌<◌, ◌≤◌, Bool, true, false, not, ◌&&◌, eqb, ltb, List, ◌∷◌, map, length, get_or, take, drop, sym, refl, ap, ◌∙◌, add-one, arith, drop_of_length-le, drop-cons, drop-drop, le-ltb, lt-ltb, eq-eqb, ne_eqb, eqb-true}
+use Rattle.std.proofs.Common.{◌≡◌, ℕ, suc, ◌+◌, ◌-◌, ◌<◌, ◌≤◌, Bool, true, false, not, ◌&&◌, eqb, ltb, List, [], ◌∷◌, map, length, get_or, take, drop, sym, refl, ap, ◌∙◌, add-one, arith, drop_of_length-le, drop-cons, le-ltb, lt-ltb, eq-eqb, ne_eqb, eqb-true}
 use mathlib.Core.List.{flat_map}
 use lib.Ieee.{Float}
 use lib.ListN.{length-map}
 use borrow.Author.Tests.{eqb-false}
+use Rattle.std.specs.List.{fold}
 use Rattle.laws.specs.Cases.{by_bool}
 use Rattle.laws.specs.Loops.{over, over_join}
 use Rattle.laws.specs.Any.{any_of}
@@ -12,13 +13,12 @@ use Rattle.float.specs.Ops.{◌⊕◌}
 use Rattle.float.specs.Constants.{f0}
 use Rattle.float.specs.Standins.{max}
 use Rattle.text.specs.Utf8.{well_formed}
-use Rattle.sheet.specs.Sheet.{chain, chain_by, next, count, piece, first_text, line_of, lines_from}
-use Rattle.sheet.specs.Chains.{chain-end, chain-cut, chain-step}
+use Rattle.sheet.specs.Sheet.{chain, piece, first_text, line_of, lines_from}
 use Rattle.text.specs.Automaton.{feed_of, gather_of}
 use Rattle.label.specs.declared.Measure.{Measure}
 use Rattle.label.specs.declared.Block.{Block}
 use Rattle.refusal.specs.Refused.{Outcome, values, number}
-use Rattle.label.specs.Label.{char_width, line_width, wider_line, block_height, block, cut, total_length}
+use Rattle.label.specs.Label.{char_width, line_width, wider_line, block_height, block, block_width, cut, total_length}
 use Rattle.label.specs.Measuring.{measure, measure_of, measure_all, measure_start, measured_formed, measured-width, lengths_fit, lines_size}
 
 pub step_done : (m : Measure) (b st v : ℕ) (w : Float) → st ≡ feed_of m.st b → v ≡ gather_of m.st m.value b → st ≡ 0 → w ≡ char_width v → measure st v (m.width ⊕ w) ≡ measure_of m b
@@ -76,20 +76,20 @@ pub fit_end_at : (most left : ℕ) (l : List ℕ) (i : ℕ) → length l ≤ i �
 unfolding lengths_fit any_of total_length
 fit_end_at most left l i h = rw (drop_of_length-le l h)
 
--- ---- the lines from i on, which begin at `at`
-module _ (h w : Float) (text lengths : List ℕ) (at i : ℕ) where
+-- ---- the lines from i on, which are the text that is left
+module _ (h w : Float) (text lengths : List ℕ) (i : ℕ) where
   abbrev rest : List (List ℕ)
-  rest = cut (drop at text) (drop i lengths)
+  rest = cut text (drop i lengths)
 
   abbrev line : List ℕ
-  line = take (get_or lengths i 0) (drop at text)
+  line = take (get_or lengths i 0) text
 
   abbrev later : List (List ℕ)
-  later = cut (drop (at + get_or lengths i 0) text) (drop (i + 1) lengths)
+  later = cut (drop (get_or lengths i 0) text) (drop (i + 1) lengths)
 
   cut_at : i < length lengths → rest ≡ line ∷ later
   unfolding cut
-  cut_at k = rw (drop-cons lengths i 0 k, add-one i, drop-drop (get_or lengths i 0) at text)
+  cut_at k = rw (drop-cons lengths i 0 k, add-one i)
 
   -- a line that is not well-formed, and one that is
   pub line_ill : i < length lengths → (m : ℕ) → m ≡ (measure_all measure_start line).st → (m ≡ 0 → ⊥) → number 6 ≡ lines_size h w rest
@@ -112,28 +112,24 @@ pub fit-total : (most bytes : ℕ) (l : List ℕ) → lengths_fit most bytes l �
 unfolding lengths_fit
 fit-total most bytes l e = eqb-true bytes (total_length l) (and_second (not (any_of (ltb most) l)) (eqb bytes (total_length l)) e)
 
--- ---- a fold along a chain, over the bytes that each record brings
-module _ {A B : Type 0} (g : A → B → A) (s : List ℕ) (f : ℕ → List B) (n i : ℕ) (a : A) where
-  pub chain_over_end : i ≡ 0 → a ≡ over g a (flat_map f (chain_by s n i))
-  unfolding flat_map over
-  chain_over_end e = rw (chain-end s n i e)
+-- ---- folds along a chain, in the words of the sheet's meaning
+measure_pieces : (s : List ℕ) (m : Measure) (l : List ℕ) → fold (λ t i. measure_all t (piece s i)) m l ≡ measure_all m (flat_map (piece s) l)
+unfolding over flat_map
+measure_pieces s m [] = refl
+measure_pieces s m (i ∷ l) = measure_pieces s (measure_all m (piece s i)) l ∙ sym (over_join measure_of m (piece s i) (flat_map (piece s) l))
 
-  pub chain_over_cut : n ≡ 0 → a ≡ over g a (flat_map f (chain_by s n i))
-  unfolding flat_map over
-  chain_over_cut e = rw (chain-cut s n i e)
-
-  pub chain_over_step : (b : A) → b ≡ over g a (f i) → (n ≡ 0 → ⊥) → (i ≡ 0 → ⊥) → over g b (flat_map f (chain_by s (n - 1) (next s i))) ≡ over g a (flat_map f (chain_by s n i))
-  unfolding flat_map
-  chain_over_step b r h e = rw (chain-step s n i h e, r) (sym (over_join g a (f i) (flat_map f (chain_by s (n - 1) (next s i)))))
-
--- ---- where the walks of a line and of a block begin
-pub line_measure_start : (s : List ℕ) (k i n : ℕ) (m : Measure) → m ≡ measure_start → i ≡ first_text s k → n ≡ count s → measure_all m (flat_map (piece s) (chain_by s (n + 1) i)) ≡ measure_all measure_start (line_of s k)
+pub measure_of_line : (s : List ℕ) (k : ℕ) → fold (λ t i. measure_all t (piece s i)) measure_start (chain s (first_text s k)) ≡ measure_all measure_start (line_of s k)
 unfolding line_of
-line_measure_start s k i n m e f g = rw (e, f, g)
+measure_of_line s k = measure_pieces s measure_start (chain s (first_text s k))
 
-pub block_start : (s : List ℕ) (first n : ℕ) → n ≡ count s → over wider_line f0 (map (line_of s) (chain_by s (n + 1) first)) ≡ over wider_line f0 (lines_from s first)
+widest_map : (s : List ℕ) (w : Float) (l : List ℕ) → fold (λ v k. wider_line v (line_of s k)) w l ≡ over wider_line w (map (line_of s) l)
+unfolding over
+widest_map s w [] = refl
+widest_map s w (k ∷ l) = widest_map s (wider_line w (line_of s k)) l
+
+pub widest_of_chain : (s : List ℕ) (first : ℕ) → fold (λ v k. wider_line v (line_of s k)) f0 (chain s first) ≡ block_width (lines_from s first)
 unfolding lines_from
-block_start s first n g = rw g
+widest_of_chain s first = widest_map s f0 (chain s first)
 
 -- a line's measure widens the block as the line does
 pub wider-measured : (w v : Float) (line : List ℕ) (m : Measure) → m ≡ measure_all measure_start line → v ≡ max w m.width → v ≡ wider_line w line

@@ -8,7 +8,8 @@ ghost use Rattle.sheet.specs.Sheet.{line_of, lines_from};
 ghost use Rattle.label.specs.Label as S;
 ghost use Rattle.label.specs.Measuring as M;
 
-use reader::{next_of, record_of};
+use meaning::piece_at;
+use reader::Chain;
 use refusal::Refusal;
 
 // The font size of labels; the width of an ASCII character, 0.6 em of a monospace font, and of any other that is no accent; the distance
@@ -84,22 +85,11 @@ fn measure_byte(m: Measure, b: u8) -> Measure
     }
 }
 
-// The n bytes of s from a on, or as many as there are.
-fn measure_part(s: &[u8], a: usize, n: usize, m: Measure) -> Measure
-    ensures { result ≡ M.measure_all m (take n (drop a s.now)) }
+// The bytes of a piece of a line.
+fn measure_part(piece: &[u8], m: Measure) -> Measure
+    ensures { result ≡ M.measure_all m piece.now }
 {
-    let mut t = m;
-    let mut i = a;
-    let mut left = n;
-    while 0 < left {
-        if s.len() <= i {
-            return t;
-        }
-        t = measure_byte(t, s[i]);
-        i += 1;
-        left -= 1;
-    }
-    t
+    piece.iter().fold(m, |t, b| measure_byte(t, *b))
 }
 
 // The height of so many lines.
@@ -110,49 +100,24 @@ fn block_height(lines: usize) -> f64
 }
 
 // The line of record k, measured piece by piece.
-fn measure_line(s: &[u8], k: usize) -> Measure
-    requires { k < 65536 }
+fn measure_line(s: &[u8], k: u16) -> Measure
     ensures { result ≡ M.measure_all M.measure_start (line_of s.now k) }
 {
-    let mut m = measure_start();
-    let d = record_of(s, k);
-    let mut i = d.word4;
-    let mut left = sheet::word_at(s, 2) + 1;
-    while i != 0 {
-        if left == 0 {
-            return m;
-        }
-        let d = record_of(s, i);
-        m = measure_part(s, 16 * i + 4, d.one, m);
-        i = next_of(s, i);
-        left -= 1;
-    }
-    m
+    Chain::new(s, sheet::first_text_at(s, k)).fold(
+        measure_start(),
+        |m, i| measure_part(piece_at(s, i), m),
+    )
 }
 
 // The width of the widest line of the chain from `first` on.
-fn widest(s: &[u8], first: usize) -> f64
-    requires { first < 65536 }
+fn widest(s: &[u8], first: u16) -> f64
     ensures { result ≡ S.block_width (lines_from s.now first) }
 {
-    let mut w = 0.0;
-    let mut i = first;
-    let mut left = sheet::word_at(s, 2) + 1;
-    while i != 0 {
-        if left == 0 {
-            return w;
-        }
-        let m = measure_line(s, i);
-        w = float::max(w, m.width);
-        i = next_of(s, i);
-        left -= 1;
-    }
-    w
+    Chain::new(s, first).fold(0.0, |w, k| float::max(w, measure_line(s, k).width))
 }
 
 // The size of the label block whose lines are the chain from `first` on.
-pub fn block_at(s: &[u8], first: usize) -> Block
-    requires { first < 65536 }
+pub fn block_at(s: &[u8], first: u16) -> Block
     ensures { result ≡ S.block (lines_from s.now first) }
 {
     let width = widest(s, first);
@@ -165,15 +130,11 @@ fn lengths_fit(lengths: &[usize], most: usize, bytes: usize) -> bool
     ensures { result ≡ M.lengths_fit most bytes lengths.now }
 {
     let mut left = bytes;
-    for i in 0..lengths.len() {
-        let n = lengths[i];
-        if most < n {
+    for n in lengths {
+        if most < *n || left < *n {
             return false;
         }
-        if left < n {
-            return false;
-        }
-        left -= n;
+        left -= *n;
     }
     left == 0
 }
@@ -184,16 +145,16 @@ fn lines_size(text: &[u8], lengths: &[usize]) -> Result<(f64, f64), Refusal>
     ensures { let lines = S.cut text.now lengths.now in
         outcome result ≡ M.lines_size (S.block_height (length lengths.now)) f0 lines }
 {
-    let mut at = 0;
+    let mut rest = text;
     let mut width = 0.0;
-    for i in 0..lengths.len() {
-        let n = lengths[i];
-        let m = measure_part(text, at, n, measure_start());
+    for n in lengths {
+        let (line, behind) = rest.split_at(*n);
+        let m = measure_part(line, measure_start());
         if m.st != 0 {
             return Err(Refusal::Utf8);
         }
         width = float::max(width, m.width);
-        at += n;
+        rest = behind;
     }
     Ok((width, block_height(lengths.len())))
 }

@@ -1,12 +1,12 @@
 -- The lists that are read out of a sheet for the layers above, and how an arrow's lines are found from them. Assumes nothing.
-use Rattle.std.specs.Prelude.{◌≡◌, refl, Bool, true, false, cond, List, [], ◌∷◌, map, ℕ, zero, suc, ◌<◌, length, get_or}
+use Rattle.std.specs.Prelude.{◌≡◌, refl, List, [], ◌∷◌, map, ℕ, zero, suc, ◌<◌, length, get_or}
 use Rattle.std.proofs.Common.{sym, ap, ◌∙◌, not-suc-le-zero, le_of_suc-le-suc}
 use Rattle.std.proofs.lemmas.List.{length-map}
 use Rattle.sheet.specs.Sheet.{byte_one, first_line, Arrow, Graph, state_chain, arrow_chain, from_of, to_of, state_of, states_of, arrow_of, arrows_of, lines_from, meaning, flags_of}
 
--- an end of arrow record k: the state that it leads to, or the one that it leaves
-abbrev pub end_of : List ℕ → Bool → ℕ → ℕ
-end_of s to k = cond to (to_of s k) (from_of s k)
+-- what the calls of a closure return, by the number that they take
+abbrev pub Computes : {A : Type 0} → (ℕ → A → Type 0) → (ℕ → A) → Type 0
+Computes {A} post f = (k : ℕ) (r : A) → post k r → r ≡ f k
 
 -- the ends of the arrows, in their order
 abbrev pub sources : Graph → List ℕ
@@ -37,11 +37,11 @@ pub flags_are : (s : List ℕ) → flags_of (meaning s) ≡ map (byte_one s) (st
 unfolding states_of
 flags_are s = flags_go s (state_chain s)
 
-pub sources_are : (s : List ℕ) → sources (meaning s) ≡ map (end_of s false) (arrow_chain s)
+pub sources_are : (s : List ℕ) → sources (meaning s) ≡ map (from_of s) (arrow_chain s)
 unfolding arrows_of
 sources_are s = sources_go s (arrow_chain s)
 
-pub targets_are : (s : List ℕ) → targets (meaning s) ≡ map (end_of s true) (arrow_chain s)
+pub targets_are : (s : List ℕ) → targets (meaning s) ≡ map (to_of s) (arrow_chain s)
 unfolding arrows_of
 targets_are s = targets_go s (arrow_chain s)
 

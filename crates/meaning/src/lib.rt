@@ -1,209 +1,113 @@
-// What a sheet means, read out of its bytes by walks along its chains.
+// What a sheet means, read out of its bytes along its chains.
 #![tactic(auto)]
 
-ghost use Rattle.std.specs.Prelude.{◌≡◌, map, ◌+◌, ◌*◌, ◌<◌, ◌≤◌, length, set};
+ghost use Rattle.std.specs.Prelude.{◌≡◌, ◌≤◌, length, map};
 ghost use Rattle.laws.specs.Any.{any_of};
 ghost use Rattle.laws.specs.Put.{put};
 ghost use Rattle.text.specs.Automaton.{feed_all};
+ghost use Rattle.reader.specs.Reading.{chain_rest};
 ghost use Rattle.sheet.specs.Sheet as S;
 ghost use Rattle.sheet.specs.Refusals as R;
 ghost use Rattle.meaning.specs.Read as M;
 
-use reader::{next_of, record_of};
-use sheet::{LONGEST_LINE, Limits, word_at};
+use reader::{Chain, record_at};
+use sheet::{LONGEST_LINE, Limits, first_line_at, first_text_at, one_at, place_of, word_at};
 
 // How many records the chain from record `first` on has.
-pub fn chain_length(s: &[u8], first: usize) -> usize
-    requires { first < 65536 }
+pub fn chain_length(s: &[u8], first: u16) -> usize
     ensures { (result ≡ length (S.chain s.now first)) × (result ≤ 65536) }
 {
-    let mut i = first;
-    let mut left = word_at(s, 2) + 1;
-    let mut n = 0;
-    while i != 0 {
-        if left == 0 {
-            return n;
-        }
-        n += 1;
-        i = next_of(s, i);
-        left -= 1;
-    }
-    n
+    Chain::new(s, first).count()
 }
 
-// The place after the bytes of text record k, which start at 16 k + 4.
-pub fn piece_end(s: &[u8], k: usize) -> usize
-    requires { k < 65536 }
-    ensures { (result ≡ 16 * k + 4 + length (S.piece s.now k))
-        × (result ≤ 16 * k + 259)
-        × (16 * k + 4 < result → result ≤ length s.now) }
+// The bytes of text record k.
+pub fn piece_at(s: &[u8], k: u16) -> &[u8]
+    ensures { (result.now ≡ S.piece s.now k) × (length result.now ≤ 255) }
 {
-    let a = 16 * k + 4;
-    let d = record_of(s, k);
-    let e = a + d.one;
-    if e <= s.len() {
-        return e;
+    let from = place_of(k) + 4;
+    let end = from + usize::from(one_at(s, k));
+    if end <= s.len() {
+        return &s[from..end];
     }
-    if a <= s.len() {
-        return s.len();
+    if from <= s.len() {
+        return &s[from..];
     }
-    a
+    &[]
 }
 
 // How many bytes the line of record k has.
-pub fn line_length(s: &[u8], k: usize) -> usize
-    requires { k < 65536 }
+pub fn line_length(s: &[u8], k: u16) -> usize
     ensures { result ≡ length (S.line_of s.now k) }
 {
-    let d = record_of(s, k);
-    let mut i = d.word4;
-    let mut left = word_at(s, 2) + 1;
-    let mut n = 0;
-    while i != 0 {
-        if left == 0 {
-            return n;
-        }
-        n += piece_end(s, i) - (16 * i + 4);
-        i = next_of(s, i);
-        left -= 1;
-    }
-    n
+    Chain::new(s, first_text_at(s, k))
+        .map(|i| piece_at(s, i).len())
+        .sum()
 }
 
 // Whether a line of the chain from `first` on has more bytes than a line may.
-fn some_long(s: &[u8], first: usize) -> bool
-    requires { first < 65536 }
+fn some_long(s: &[u8], first: u16) -> bool
     ensures { result ≡ any_of R.long_line (S.lines_from s.now first) }
 {
-    let mut i = first;
-    let mut left = word_at(s, 2) + 1;
-    while i != 0 {
-        if left == 0 {
-            return false;
-        }
-        if LONGEST_LINE < line_length(s, i) {
-            return true;
-        }
-        i = next_of(s, i);
-        left -= 1;
-    }
-    false
+    Chain::new(s, first).any(|k| LONGEST_LINE < line_length(s, k))
 }
 
 // Whether arrow record k has more lines than the limit, or one that is too long.
-fn large_arrow(s: &[u8], k: usize, m: Limits) -> bool
-    requires { k < 65536 }
+#[tactic(auto, using(crate::proofs::Laws::length_lines, crate::proofs::Laws::lines_of_arrow), unfolding(sheet::specs::Refusals::large_arrow))]
+fn large_arrow(s: &[u8], k: u16, m: Limits) -> bool
     ensures { result ≡ R.large_arrow m (S.arrow_of s.now k) }
 {
-    let d = record_of(s, k);
-    let first = d.word8;
-    if m.lines < chain_length(s, first) {
-        return true;
-    }
-    some_long(s, first)
+    let first = first_line_at(s, k);
+    m.lines < chain_length(s, first) || some_long(s, first)
 }
 
 fn some_large(s: &[u8], m: Limits) -> bool
     ensures { result ≡ any_of (R.large_arrow m) (S.arrows_of s.now) }
 {
-    let mut i = word_at(s, 6);
-    let mut left = word_at(s, 2) + 1;
-    while i != 0 {
-        if left == 0 {
-            return false;
-        }
-        if large_arrow(s, i, m) {
-            return true;
-        }
-        i = next_of(s, i);
-        left -= 1;
-    }
-    false
+    Chain::new(s, word_at(s, 6)).any(|k| large_arrow(s, k, m))
 }
 
 // Whether the sheet has more of something than the limits, or a line that is too long.
+#[tactic(auto, unfolding(sheet::specs::Refusals::over_limits))]
 pub fn over_limits(s: &[u8], m: Limits) -> bool
     ensures { result ≡ R.over_limits m (S.meaning s.now) }
 {
-    if m.states < chain_length(s, word_at(s, 4)) {
-        return true;
-    }
-    if m.arrows < chain_length(s, word_at(s, 6)) {
-        return true;
-    }
-    some_large(s, m)
+    m.states < state_count(s) || m.arrows < arrow_count(s) || some_large(s, m)
 }
 
 // The state of the UTF-8 automaton after the line of record k.
-fn feed_line(s: &[u8], k: usize) -> u8
-    requires { k < 65536 }
+fn feed_line(s: &[u8], k: u16) -> u8
     ensures { result ≡ feed_all 0 (S.line_of s.now k) }
 {
-    let d = record_of(s, k);
-    let mut i = d.word4;
-    let mut left = word_at(s, 2) + 1;
-    let mut st: u8 = 0;
-    while i != 0 {
-        if left == 0 {
-            return st;
-        }
-        let d = record_of(s, i);
-        st = text::feed_part(s, 16 * i + 4, d.one, st);
-        i = next_of(s, i);
-        left -= 1;
-    }
-    st
+    Chain::new(s, first_text_at(s, k)).fold(0, |st, i| {
+        let n = usize::from(one_at(s, i));
+        text::feed_part(s, place_of(i) + 4, n, st)
+    })
 }
 
 // Whether the line of record k is not well-formed UTF-8.
-fn ill_line(s: &[u8], k: usize) -> bool
-    requires { k < 65536 }
+#[tactic(auto, using(text::specs::Table::well_formed_is))]
+fn ill_line(s: &[u8], k: u16) -> bool
     ensures { result ≡ R.ill_line (S.line_of s.now k) }
 {
     feed_line(s, k) != 0
 }
 
-// Whether a line of the chain from `first` on is not well-formed UTF-8.
-fn some_ill(s: &[u8], first: usize) -> bool
-    requires { first < 65536 }
-    ensures { result ≡ any_of R.ill_line (S.lines_from s.now first) }
+// Whether a line of arrow record k is not well-formed UTF-8.
+fn ill_arrow(s: &[u8], k: u16) -> bool
+    ensures { result ≡ R.ill_arrow (S.arrow_of s.now k) }
 {
-    let mut i = first;
-    let mut left = word_at(s, 2) + 1;
-    while i != 0 {
-        if left == 0 {
-            return false;
-        }
-        if ill_line(s, i) {
-            return true;
-        }
-        i = next_of(s, i);
-        left -= 1;
-    }
-    false
+    Chain::new(s, first_line_at(s, k)).any(|i| ill_line(s, i))
 }
 
 // Whether a line of the sheet is not well-formed UTF-8.
 pub fn ill_formed(s: &[u8]) -> bool
     ensures { result ≡ R.ill_formed (S.meaning s.now) }
 {
-    let mut i = word_at(s, 6);
-    let mut left = word_at(s, 2) + 1;
-    while i != 0 {
-        if left == 0 {
-            return false;
-        }
-        let d = record_of(s, i);
-        if some_ill(s, d.word8) {
-            return true;
-        }
-        i = next_of(s, i);
-        left -= 1;
-    }
-    false
+    Chain::new(s, word_at(s, 6)).any(|k| ill_arrow(s, k))
 }
 
 // The number of states.
+#[tactic(auto, using(crate::proofs::Laws::length_states))]
 pub fn state_count(s: &[u8]) -> usize
     ensures { result ≡ length (S.states_of s.now) }
 {
@@ -211,34 +115,23 @@ pub fn state_count(s: &[u8]) -> usize
 }
 
 // The number of arrows.
+#[tactic(auto, using(crate::proofs::Laws::length_arrows))]
 pub fn arrow_count(s: &[u8]) -> usize
     ensures { result ≡ length (S.arrows_of s.now) }
 {
     chain_length(s, word_at(s, 6))
 }
 
-// v at place k, where there is one.
-fn store_u8(out: &mut [u8], k: usize, v: u8)
-    ensures { out.new ≡ set out.old k v }
+// The value of each record of a chain, into `out` as far as it reaches.
+fn each_into<T: Copy + Drop, F: Fn(u16) -> T>(mut chain: Chain, out: &mut [T], value: F)
+    requires { F.IsAlwaysCallable value }
+    ensures { (f : _) → M.Computes (F.post value) f → out.new ≡ put out.old 0 (map f (chain_rest chain.entry)) }
 {
-    if k < out.len() {
-        out[k] = v;
-    }
-}
-
-fn store_u16(out: &mut [u16], k: usize, v: u16)
-    ensures { out.new ≡ set out.old k v }
-{
-    if k < out.len() {
-        out[k] = v;
-    }
-}
-
-fn store(out: &mut [usize], k: usize, v: usize)
-    ensures { out.new ≡ set out.old k v }
-{
-    if k < out.len() {
-        out[k] = v;
+    for place in out.iter_mut() {
+        let Some(k) = chain.next() else {
+            return;
+        };
+        *place = value(k);
     }
 }
 
@@ -246,81 +139,34 @@ fn store(out: &mut [usize], k: usize, v: usize)
 pub fn flags_into(s: &[u8], out: &mut [u8])
     ensures { out.new ≡ put out.old 0 (S.flags_of (S.meaning s.now)) }
 {
-    let mut i = word_at(s, 4);
-    let mut left = word_at(s, 2) + 1;
-    let mut k = 0;
-    while i != 0 {
-        if left == 0 {
-            return;
-        }
-        let d = record_of(s, i);
-        store_u8(out, k, d.one as u8);
-        k += 1;
-        i = next_of(s, i);
-        left -= 1;
-    }
-}
-
-// An end of arrow record k: where it leads to, or where it comes from.
-fn end_of(s: &[u8], k: usize, to: bool) -> usize
-    requires { k < 65536 }
-    ensures { result ≡ M.end_of s.now to k }
-{
-    let d = record_of(s, k);
-    if to {
-        return d.word6;
-    }
-    d.word4
-}
-
-// That end of each arrow, into `out` as far as it reaches.
-fn ends_into(s: &[u8], to: bool, out: &mut [usize])
-    ensures { out.new
-        ≡ put out.old 0 (map (M.end_of s.now to) (S.arrow_chain s.now)) }
-{
-    let mut i = word_at(s, 6);
-    let mut left = word_at(s, 2) + 1;
-    let mut k = 0;
-    while i != 0 {
-        if left == 0 {
-            return;
-        }
-        store(out, k, end_of(s, i, to));
-        k += 1;
-        i = next_of(s, i);
-        left -= 1;
-    }
+    each_into(Chain::new(s, word_at(s, 4)), out, |k| one_at(s, k));
 }
 
 // The state that each arrow leaves, into `out` as far as it reaches.
 pub fn sources_into(s: &[u8], out: &mut [usize])
     ensures { out.new ≡ put out.old 0 (M.sources (S.meaning s.now)) }
 {
-    ends_into(s, false, out);
+    each_into(
+        Chain::new(s, word_at(s, 6)),
+        out,
+        |k| usize::from(record_at(s, k).word4),
+    );
 }
 
 // The state that each arrow leads to, into `out` as far as it reaches.
 pub fn targets_into(s: &[u8], out: &mut [usize])
     ensures { out.new ≡ put out.old 0 (M.targets (S.meaning s.now)) }
 {
-    ends_into(s, true, out);
+    each_into(
+        Chain::new(s, word_at(s, 6)),
+        out,
+        |k| usize::from(record_at(s, k).word6),
+    );
 }
 
 // The first line record of each arrow, into `out` as far as it reaches.
 pub fn heads_into(s: &[u8], out: &mut [u16])
     ensures { out.new ≡ put out.old 0 (M.first_lines s.now) }
 {
-    let mut i = word_at(s, 6);
-    let mut left = word_at(s, 2) + 1;
-    let mut k = 0;
-    while i != 0 {
-        if left == 0 {
-            return;
-        }
-        let d = record_of(s, i);
-        store_u16(out, k, d.word8 as u16);
-        k += 1;
-        i = next_of(s, i);
-        left -= 1;
-    }
+    each_into(Chain::new(s, word_at(s, 6)), out, |k| first_line_at(s, k));
 }

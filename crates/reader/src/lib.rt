@@ -1,88 +1,82 @@
-// A reader over the sheet, which walks one chain through the sheet's bytes: a thin layer over plain bytes and an
-// index. Each function over the struct takes it apart and calls a function on slice and number.
+// The records of a sheet: one by its number, and those of a chain one after the other.
 #![tactic(auto)]
 
-ghost use Rattle.std.specs.Prelude.{◌≡◌, ◌<◌};
+ghost use Rattle.std.specs.Prelude.{◌≡◌, ◌≤◌, nat_lt, length};
+ghost use Rattle.std.specs.Iterator.{YieldsFirst, item_count};
 ghost use Rattle.sheet.specs.Sheet as S;
 ghost use Rattle.reader.specs.Reading as R;
 
-use sheet::{first_line_at, first_text_at, kind_at, next_at, one_at, word_at};
-
-// The sheet's bytes, and the number of the record at which the reader stands.
-#[derive(Clone, Copy)]
-pub struct Reader<'a> {
-    pub sheet: &'a [u8],
-    pub at: usize,
-}
+use sheet::{first_line_at, first_text_at, kind_at, next_at, one_at, place_of, word_at};
 
 // A record: its kind, its byte 1, and the words from byte 4 on.
 #[derive(Clone, Copy)]
 pub struct Record {
-    pub kind: usize,
-    pub one: usize,
-    pub word4: usize,
-    pub word6: usize,
-    pub word8: usize,
+    pub kind: u8,
+    pub one: u8,
+    pub word4: u16,
+    pub word6: u16,
+    pub word8: u16,
 }
 
 // Record k of the sheet.
-fn record_at(s: &[u8], k: usize) -> Record
-    requires { k < 65536 }
-    ensures { (result ≡ R.record_of s.now k) × R.Fits result }
+pub fn record_at(s: &[u8], k: u16) -> Record
+    ensures { result ≡ R.record_of s.now k }
 {
-    let kind = kind_at(s, k);
-    let one = one_at(s, k);
-    let word4 = first_text_at(s, k);
-    let word6 = word_at(s, 16 * k + 6);
-    let word8 = first_line_at(s, k);
     Record {
-        kind,
-        one,
-        word4,
-        word6,
-        word8,
+        kind: kind_at(s, k),
+        one: one_at(s, k),
+        word4: first_text_at(s, k),
+        word6: word_at(s, place_of(k) + 6),
+        word8: first_line_at(s, k),
     }
 }
 
-// A reader that stands at record k.
-pub fn new<'a>(sheet: &'a [u8], k: usize) -> Reader<'a>
-    ensures { (result.sheet ≡ sheet.entry) × (result.at ≡ k) }
-{
-    Reader { sheet, at: k }
+// The records of a chain: the sheet, the record that comes next, and how many may come.
+#[derive(Drop)]
+pub struct Chain<'a> {
+    sheet: &'a [u8],
+    at: u16,
+    left: usize,
 }
 
-// The record at the reader's place.
-pub fn read<'a>(r: Reader<'a>) -> Record
-    requires { r.at < 65536 }
-    ensures { (result ≡ R.record_of r.entry.sheet.now r.entry.at) × R.Fits result }
-{
-    record_at(r.sheet, r.at)
+impl<'a> Chain<'a> {
+    // The chain from record `first` on. It gives one record more than the sheet has at most: a longer one meets a record twice or leaves the sheet.
+    #[tactic(auto, using(sheet::specs::Chains::chain_within), unfolding(crate::specs::Reading::chain_rest))]
+    pub fn new(sheet: &'a [u8], first: u16) -> Chain<'a>
+        ensures list { R.chain_rest result ≡ S.chain sheet.now first }
+        ensures short { length (R.chain_rest result) ≤ 65536 }
+    {
+        let left = usize::from(word_at(sheet, 2)) + 1;
+        Chain {
+            sheet,
+            at: first,
+            left,
+        }
+    }
+
+    // Whether a record is still to come.
+    pub fn goes_on(&self) -> bool
+        ensures { result ≡ nat_lt 0 (length (R.chain_rest self.now)) }
+    {
+        self.at != 0 && self.left != 0
+    }
 }
 
-// The reader at the next record of the chain.
-pub fn step<'a>(r: Reader<'a>) -> Reader<'a>
-    requires { r.at < 65536 }
-    ensures { (result.sheet ≡ r.entry.sheet)
-        × (result.at ≡ S.next r.entry.sheet.now r.entry.at)
-        × (result.at < 65536) }
-{
-    let at = next_at(r.sheet, r.at);
-    Reader { sheet: r.sheet, at }
-}
+#[tactic(auto, using(sheet::specs::Chains::chain_end, sheet::specs::Chains::chain_cut, sheet::specs::Chains::chain_step), unfolding(crate::specs::Reading::chain_rest))]
+impl<'a> Iterator for Chain<'a> {
+    type Item = u16;
 
-// What a reader at record k reads.
-pub fn record_of(s: &[u8], k: usize) -> Record
-    requires { k < 65536 }
-    ensures { (result ≡ R.record_of s.now k) × R.Fits result }
-{
-    read(new(s, k))
-}
+    ghost next_gives = { YieldsFirst R.chain_rest };
 
-// Where a reader at record k stands after a step.
-pub fn next_of(s: &[u8], k: usize) -> usize
-    requires { k < 65536 }
-    ensures { (result ≡ S.next s.now k) × (result < 65536) }
-{
-    let r = step(new(s, k));
-    r.at
+    ghost remaining = { item_count R.chain_rest };
+
+    fn next(&mut self) -> Option<u16> {
+        if self.at == 0 || self.left == 0 {
+            return None;
+        }
+        let k = self.at;
+        self.at = next_at(self.sheet, k);
+        self.left -= 1;
+        Some(k)
+    }
 }

@@ -41,130 +41,95 @@ pub fn service_panel() -> Limits
 }
 
 // The byte at i, 0 past the end.
-pub fn byte_at(s: &[u8], i: usize) -> usize
-    ensures { (result ≡ S.byte_at s.now i) × (result < 256) }
+pub fn byte_at(s: &[u8], i: usize) -> u8
+    ensures { result ≡ S.byte_at s.now i }
 {
-    if i < s.len() { s[i] as usize } else { 0 }
+    if i < s.len() { s[i] } else { 0 }
 }
 
 // The little-endian u16 at i.
-pub fn word_at(s: &[u8], i: usize) -> usize
+pub fn word_at(s: &[u8], i: usize) -> u16
     requires { i < 1048576 }
-    ensures { (result ≡ S.le16 s.now i) × (result < 65536) }
+    ensures { result ≡ S.le16 s.now i }
 {
-    byte_at(s, i) + 256 * byte_at(s, i + 1)
+    u16::from(byte_at(s, i)) + 256 * u16::from(byte_at(s, i + 1))
 }
 
-pub fn kind_at(s: &[u8], k: usize) -> usize
-    requires { k < 65536 }
-    ensures { (result ≡ S.kind_of s.now k) × (result < 256) }
+// Where record k begins.
+pub fn place_of(k: u16) -> usize
+    ensures { result ≡ 16 * k }
 {
-    byte_at(s, 16 * k)
+    16 * usize::from(k)
 }
 
-pub fn one_at(s: &[u8], k: usize) -> usize
-    requires { k < 65536 }
-    ensures { (result ≡ S.byte_one s.now k) × (result < 256) }
+pub fn kind_at(s: &[u8], k: u16) -> u8
+    ensures { result ≡ S.kind_of s.now k }
 {
-    byte_at(s, 16 * k + 1)
+    byte_at(s, place_of(k))
 }
 
-pub fn next_at(s: &[u8], k: usize) -> usize
-    requires { k < 65536 }
-    ensures { (result ≡ S.next s.now k) × (result < 65536) }
+pub fn one_at(s: &[u8], k: u16) -> u8
+    ensures { result ≡ S.byte_one s.now k }
 {
-    word_at(s, 16 * k + 2)
+    byte_at(s, place_of(k) + 1)
 }
 
-pub fn first_line_at(s: &[u8], k: usize) -> usize
-    requires { k < 65536 }
-    ensures { (result ≡ S.first_line s.now k) × (result < 65536) }
+pub fn next_at(s: &[u8], k: u16) -> u16
+    ensures { result ≡ S.next s.now k }
 {
-    word_at(s, 16 * k + 8)
+    word_at(s, place_of(k) + 2)
 }
 
-pub fn first_text_at(s: &[u8], k: usize) -> usize
-    requires { k < 65536 }
-    ensures { (result ≡ S.first_text s.now k) × (result < 65536) }
+pub fn first_line_at(s: &[u8], k: u16) -> u16
+    ensures { result ≡ S.first_line s.now k }
 {
-    word_at(s, 16 * k + 4)
+    word_at(s, place_of(k) + 8)
+}
+
+pub fn first_text_at(s: &[u8], k: u16) -> u16
+    ensures { result ≡ S.first_text s.now k }
+{
+    word_at(s, place_of(k) + 4)
 }
 
 // Whether some byte from a to e - 1 is not zero.
+#[tactic(auto, using(laws::specs::Chains::any_up_list), unfolding(crate::specs::Refusals::is_set))]
 fn some_set(s: &[u8], a: usize, e: usize) -> bool
     ensures { result ≡ R.some_set s.now a e }
 {
-    let mut i = a;
-    while i < e {
-        if byte_at(s, i) != 0 {
-            return true;
-        }
-        i += 1;
-    }
-    false
+    (a..e).any(|i| byte_at(s, i) != 0)
 }
 
 // Whether record k is wrong by its kind, its byte 1, or a byte that must be zero.
-fn wrong_record(s: &[u8], k: usize) -> bool
-    requires { k < 65536 }
+#[tactic(auto, unfolding(crate::specs::Refusals::wrong_record))]
+fn wrong_record(s: &[u8], k: u16) -> bool
     ensures { result ≡ R.wrong_record s.now k }
 {
-    let b = 16 * k;
-    let kind = kind_at(s, k);
+    let b = place_of(k);
     let one = one_at(s, k);
-    if kind == 1 {
-        if 3 < one {
-            return true;
-        }
-        return some_set(s, b + 4, b + 16);
+    match kind_at(s, k) {
+        1 => 3 < one || some_set(s, b + 4, b + 16),
+        2 => 0 < one || some_set(s, b + 10, b + 16),
+        3 => 0 < one || some_set(s, b + 6, b + 16),
+        4 => one < 1 || 12 < one || some_set(s, b + 4 + usize::from(one), b + 16),
+        _ => true,
     }
-    if kind == 2 {
-        if 0 < one {
-            return true;
-        }
-        return some_set(s, b + 10, b + 16);
-    }
-    if kind == 3 {
-        if 0 < one {
-            return true;
-        }
-        return some_set(s, b + 6, b + 16);
-    }
-    if kind == 4 {
-        if one < 1 {
-            return true;
-        }
-        if 12 < one {
-            return true;
-        }
-        return some_set(s, b + 4 + one, b + 16);
-    }
-    true
 }
 
 // Whether one of the n records is wrong.
-fn some_wrong(s: &[u8], n: usize) -> bool
-    requires { n < 65536 }
+#[tactic(auto, using(laws::specs::Chains::any_up_list))]
+fn some_wrong(s: &[u8], n: u16) -> bool
     ensures { result ≡ any_up (R.wrong_record s.now) 1 (n + 1) }
 {
-    let mut k = 1;
-    while k < n + 1 {
-        if wrong_record(s, k) {
-            return true;
-        }
-        k += 1;
-    }
-    false
+    (1..=n).any(|k| wrong_record(s, k))
 }
 
 // Whether a byte of the sheet refuses it.
+#[tactic(auto, unfolding(crate::specs::Refusals::wrong_bytes))]
 pub fn wrong_bytes(s: &[u8]) -> bool
     ensures { result ≡ R.wrong_bytes s.now }
 {
-    if some_set(s, 8, 16) {
-        return true;
-    }
-    some_wrong(s, word_at(s, 2))
+    some_set(s, 8, 16) || some_wrong(s, word_at(s, 2))
 }
 
 // Whether bit 0 of a state's flags is set.
@@ -178,10 +143,5 @@ pub fn is_start(flag: u8) -> bool
 pub fn start_index(flags: &[u8]) -> usize
     ensures { result ≡ M.start_index flags.now }
 {
-    for i in 0..flags.len() {
-        if is_start(flags[i]) {
-            return i;
-        }
-    }
-    0
+    flags.iter().position(|flag| is_start(*flag)).unwrap_or(0)
 }

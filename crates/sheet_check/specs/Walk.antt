@@ -1,5 +1,6 @@
 -- The walk over the records that the chains meet, with a mark for each record met: where it stands after a list of them.
 use Rattle.std.specs.Prelude.{Bool, true, false, cond, ◌&&◌, List, [], ◌∷◌, ℕ, leb, eqb, get_or, set}
+use Rattle.std.proofs.Common.{◌≡◌, MutBor}
 use Rattle.sheet.specs.Sheet.{count, kind_of, Met}
 
 -- whether no record was wrong so far, and the marks: 1 for each record met
@@ -18,6 +19,10 @@ fresh s x m = leb x.index (count s) && (eqb (kind_of s x.index) x.kind && eqb (g
 unfoldable pub walk : List ℕ → List Met → List ℕ → Walked
 walk s [] m = walked true m
 walk s (x ∷ xs) m = let rest = walk s xs (set m x.index 1) in cond (fresh s x m) rest (walked false m)
+
+-- what the calls of a visit do with the marks behind their `&mut`: those of the records that met gives of the number
+abbrev pub Visits : (ℕ → MutBor (List ℕ) → Bool → MutBor (List ℕ) → Type 0) → List ℕ → (ℕ → List Met) → Type 0
+Visits post s met = (i : ℕ) (before : MutBor (List ℕ)) (ok : Bool) (after : MutBor (List ℕ)) → post i before ok after → walked ok after.now ≡ walk s (met i) before.now
 
 -- record k has no mark
 unfoldable pub unmarked : List ℕ → ℕ → Bool

@@ -4,145 +4,98 @@
 ghost use Rattle.std.specs.Prelude.{◌≡◌, ◌+◌, ◌*◌, ◌<◌};
 ghost use mathlib.Core.List.{flat_map};
 ghost use Rattle.laws.specs.Loops.{any_up};
+ghost use Rattle.reader.specs.Reading.{chain_rest};
 ghost use Rattle.refusal.specs.Refused.{outcome};
 ghost use Rattle.sheet.specs.Sheet as S;
 ghost use Rattle.sheet.specs.Refusals as R;
 ghost use Rattle.sheet_check.specs.Walk as W;
 
-use reader::{next_of, record_of};
+use reader::Chain;
 use refusal::Refusal;
-use sheet::{Limits, word_at};
+use sheet::{Limits, first_line_at, first_text_at, kind_at, word_at};
 
 // Meets record i in a chain of the kind: whether it may be met, and its mark.
-fn meet(s: &[u8], kind: usize, i: usize, marks: &mut [u8]) -> bool
-    requires { i < 65536 }
+fn meet(s: &[u8], kind: u8, i: u16, marks: &mut [u8]) -> bool
     ensures { W.walked result marks.new ≡ W.walk s.now (S.met_alone kind i) marks.old }
 {
+    let at = usize::from(i);
     if word_at(s, 2) < i {
         return false;
     }
-    let d = record_of(s, i);
-    if d.kind != kind {
+    if kind_at(s, i) != kind {
         return false;
     }
-    if marks.len() <= i {
+    if marks.len() <= at {
         return false;
     }
-    if marks[i] != 0 {
+    if marks[at] != 0 {
         return false;
     }
-    marks[i] = 1;
+    marks[at] = 1;
+    true
+}
+
+// Visits the records of a chain until a visit fails.
+fn walk<F: Fn(u16, &mut [u8]) -> bool>(chain: Chain, marks: &mut [u8], visit: F) -> bool
+    requires { F.IsAlwaysCallable visit }
+    ensures { (s : _) (met : _) → W.Visits (F.post visit) s met → W.walked result marks.new ≡ W.walk s (flat_map met (chain_rest chain.entry)) marks.old }
+{
+    for i in chain {
+        if !visit(i, marks) {
+            return false;
+        }
+    }
     true
 }
 
 // Walks a chain whose records begin no other: states or texts.
-fn walk_alone(s: &[u8], kind: usize, first: usize, marks: &mut [u8]) -> bool
-    requires { first < 65536 }
+fn walk_alone(s: &[u8], kind: u8, first: u16, marks: &mut [u8]) -> bool
     ensures { let met = flat_map (S.met_alone kind) (S.chain s.now first) in
         W.walked result marks.new ≡ W.walk s.now met marks.old }
 {
-    let mut i = first;
-    let mut left = word_at(s, 2) + 1;
-    while i != 0 {
-        if left == 0 {
-            return true;
-        }
-        if !meet(s, kind, i, marks) {
-            return false;
-        }
-        i = next_of(s, i);
-        left -= 1;
-    }
-    true
+    walk(
+        Chain::new(s, first),
+        marks,
+        |i, marks| meet(s, kind, i, marks),
+    )
 }
 
 // Meets line record i and its texts.
-fn visit_line(s: &[u8], i: usize, marks: &mut [u8]) -> bool
-    requires { i < 65536 }
+fn visit_line(s: &[u8], i: u16, marks: &mut [u8]) -> bool
     ensures { W.walked result marks.new ≡ W.walk s.now (S.met_line s.now i) marks.old }
 {
-    if !meet(s, 3, i, marks) {
-        return false;
-    }
-    let d = record_of(s, i);
-    walk_alone(s, 4, d.word4, marks)
-}
-
-fn walk_lines(s: &[u8], first: usize, marks: &mut [u8]) -> bool
-    requires { first < 65536 }
-    ensures { let met = flat_map (S.met_line s.now) (S.chain s.now first) in
-        W.walked result marks.new ≡ W.walk s.now met marks.old }
-{
-    let mut i = first;
-    let mut left = word_at(s, 2) + 1;
-    while i != 0 {
-        if left == 0 {
-            return true;
-        }
-        if !visit_line(s, i, marks) {
-            return false;
-        }
-        i = next_of(s, i);
-        left -= 1;
-    }
-    true
+    meet(s, 3, i, marks) && walk_alone(s, 4, first_text_at(s, i), marks)
 }
 
 // Meets arrow record i and its lines.
-fn visit_arrow(s: &[u8], i: usize, marks: &mut [u8]) -> bool
-    requires { i < 65536 }
+fn visit_arrow(s: &[u8], i: u16, marks: &mut [u8]) -> bool
     ensures { W.walked result marks.new ≡ W.walk s.now (S.met_arrow s.now i) marks.old }
 {
-    if !meet(s, 2, i, marks) {
-        return false;
-    }
-    let d = record_of(s, i);
-    walk_lines(s, d.word8, marks)
-}
-
-fn walk_arrows(s: &[u8], first: usize, marks: &mut [u8]) -> bool
-    requires { first < 65536 }
-    ensures { let met = flat_map (S.met_arrow s.now) (S.chain s.now first) in
-        W.walked result marks.new ≡ W.walk s.now met marks.old }
-{
-    let mut i = first;
-    let mut left = word_at(s, 2) + 1;
-    while i != 0 {
-        if left == 0 {
-            return true;
-        }
-        if !visit_arrow(s, i, marks) {
-            return false;
-        }
-        i = next_of(s, i);
-        left -= 1;
-    }
-    true
+    meet(s, 2, i, marks)
+        && walk(
+            Chain::new(s, first_line_at(s, i)),
+            marks,
+            |k, marks| visit_line(s, k, marks),
+        )
 }
 
 // Walks both chains.
 fn walk_all(s: &[u8], marks: &mut [u8]) -> bool
     ensures { W.walked result marks.new ≡ W.walk s.now (S.met s.now) marks.old }
 {
-    if !walk_alone(s, 1, word_at(s, 4), marks) {
-        return false;
-    }
-    walk_arrows(s, word_at(s, 6), marks)
+    walk_alone(s, 1, word_at(s, 4), marks)
+        && walk(
+            Chain::new(s, word_at(s, 6)),
+            marks,
+            |k, marks| visit_arrow(s, k, marks),
+        )
 }
 
 // Whether one of the records 1 to n has no mark.
-fn some_unmarked(marks: &[u8], n: usize) -> bool
-    requires { n < 65536 }
+fn some_unmarked(marks: &[u8], n: u16) -> bool
     ensures { result ≡ any_up (W.unmarked marks.now) 1 (n + 1) }
 {
-    let mut k = 1;
-    while k < n + 1 {
-        if sheet::byte_at(marks, k) == 0 {
-            return true;
-        }
-        k += 1;
-    }
-    false
+    (1..=n).any(|k| sheet::byte_at(marks, usize::from(k)) == 0)
 }
 
 // Whether the chains refuse a sheet of at most 4,095 records.
@@ -161,13 +114,7 @@ fn wrong_chains(s: &[u8]) -> bool
 fn wrong_length(s: &[u8]) -> bool
     ensures { result ≡ R.wrong_length s.now }
 {
-    if s.len() < 16 {
-        return true;
-    }
-    if 65536 < s.len() {
-        return true;
-    }
-    s.len() != 16 * (1 + word_at(s, 2))
+    s.len() < 16 || 65536 < s.len() || s.len() != 16 * (1 + usize::from(word_at(s, 2)))
 }
 
 // Whether a sheet is one for a screen with the limits, or why not.

@@ -1,14 +1,14 @@
 -- What the code finds of a record's curve and of an arrow, where its walk along the arrows begins, and the totals from what it has counted. Assumes nothing.
 use mathlib.Core.Path.{◌≡◌, ap, ◌∙◌}
 use mathlib.Core.Bool.{Bool, true, false, cond}
-use mathlib.Core.List.{List, map}
-use Prim.Native.Nat.{ℕ, ◌+◌}
+use mathlib.Core.List.{List, [], ◌∷◌, map}
+use Prim.Native.Nat.{ℕ}
 use lib.Dec.{eqb}
 use lib.ListN.{length, length-map}
 use Rattle.laws.specs.Counting.{how_many}
 use Rattle.laws.specs.Loops.{over}
 use Rattle.label_spots.specs.declared.Geometry.{Geometry}
-use Rattle.sheet.specs.Sheet.{Arrow, Graph, chain, chain_by, count, from_of, to_of, first_line, first_arrow, line_of, lines_from, arrow_of, arrows_of}
+use Rattle.sheet.specs.Sheet.{Arrow, Graph, chain, arrow_chain, from_of, to_of, first_line, line_of, lines_from, arrow_of, arrows_of}
 use Rattle.sheet.specs.Meaning.{ends_below}
 use Rattle.reader.specs.declared.Record.{Record}
 use Rattle.reader.specs.Reading.{record_of}
@@ -40,9 +40,18 @@ module _ (s : List ℕ) (k n : ℕ) (d : Record) (e : d ≡ record_of s k) (b : 
   unfolding lines_add arrow_of
   lines_none h = rw (← ends, h)
 
-pub fold_start : {A : Type 0} (g : A → Arrow → A) (a : A) (s : List ℕ) (i m : ℕ) → i ≡ first_arrow s → m ≡ count s → over g a (map (arrow_of s) (chain_by s (m + 1) i)) ≡ over g a (arrows_of s)
+-- ---- the arrows still to come, of the chain
+pub fold_start : {A : Type 0} (g : A → Arrow → A) (a : A) (s l : List ℕ) → l ≡ arrow_chain s → over g a (map (arrow_of s) l) ≡ over g a (arrows_of s)
 unfolding arrows_of
-fold_start g a s i m e q = rw (e, q)
+fold_start g a s l e = rw e
+
+pub fold_end : {A : Type 0} (g : A → Arrow → A) (a : A) (s l : List ℕ) → l ≡ [] → over g a (map (arrow_of s) l) ≡ a
+unfolding over
+fold_end g a s l e = rw e
+
+pub fold_step : {A : Type 0} (g : A → Arrow → A) (a b : A) (s l more : List ℕ) (k : ℕ) → l ≡ k ∷ more → b ≡ g a (arrow_of s k) → over g b (map (arrow_of s) more) ≡ over g a (map (arrow_of s) l)
+unfolding over
+fold_step g a b s l more k e q = rw (e, q)
 
 -- t are the arrows as the code counted them
 pub totals_are : (g : Graph) (gs : List Geometry) (n : ℕ) (t : ArrowCounts) (a b c : ℕ) → n ≡ length g.states → t ≡ over (with_arrow n) none_counted g.arrows

@@ -11,7 +11,7 @@ ghost use Rattle.records.specs.Records.{decode_geometry, decode_records};
 ghost use Rattle.totals.specs.Totals as S;
 ghost use Rattle.totals.specs.Arrows as W;
 
-use reader::{next_of, record_of};
+use reader::{Chain, record_at};
 use shape::Curve;
 use sheet::word_at;
 
@@ -80,39 +80,34 @@ pub struct ArrowCounts {
 fn ends_below(n: usize, source: usize, target: usize) -> bool
     ensures { result ≡ ends_below n source target }
 {
-    if source < n {
-        return target < n;
-    }
-    false
+    source < n && target < n
 }
 
 // 1 where the arrow of record k is left out of a drawing of n states.
-fn left_out_add(s: &[u8], k: usize, n: usize) -> usize
-    requires { k < 65536 }
+fn left_out_add(s: &[u8], k: u16, n: usize) -> usize
     ensures { (result ≡ W.left_out_add n (G.arrow_of s.now k)) × (result ≤ 1) }
 {
-    let d = record_of(s, k);
-    if ends_below(n, d.word4, d.word6) {
+    let d = record_at(s, k);
+    if ends_below(n, usize::from(d.word4), usize::from(d.word6)) {
         return 0;
     }
     1
 }
 
 // The lines of the arrow of record k, none where it is left out.
-fn lines_add(s: &[u8], k: usize, n: usize) -> usize
-    requires { k < 65536 }
+fn lines_add(s: &[u8], k: u16, n: usize) -> usize
     ensures { (result ≡ W.lines_add n (G.arrow_of s.now k)) × (result ≤ 65536) }
 {
-    let d = record_of(s, k);
-    if ends_below(n, d.word4, d.word6) {
+    let d = record_at(s, k);
+    if ends_below(n, usize::from(d.word4), usize::from(d.word6)) {
         return meaning::chain_length(s, d.word8);
     }
     0
 }
 
 // One arrow more, that of record k.
-fn with_arrow(s: &[u8], k: usize, n: usize, t: ArrowCounts) -> ArrowCounts
-    requires { (k < 65536) × (t.left_out ≤ 65536) × (t.lines ≤ 4294967296) }
+fn with_arrow(s: &[u8], k: u16, n: usize, t: ArrowCounts) -> ArrowCounts
+    requires { (t.left_out ≤ 65536) × (t.lines ≤ 4294967296) }
     ensures { (result ≡ W.with_arrow n t (G.arrow_of s.now k))
         × (result.left_out ≤ t.left_out + 1)
         × (result.lines ≤ t.lines + 65536) }
@@ -133,15 +128,8 @@ fn count_arrows(s: &[u8], n: usize) -> ArrowCounts
         left_out: 0,
         lines: 0,
     };
-    let mut i = word_at(s, 6);
-    let mut left = word_at(s, 2) + 1;
-    while i != 0 {
-        if left == 0 {
-            return t;
-        }
-        t = with_arrow(s, i, n, t);
-        i = next_of(s, i);
-        left -= 1;
+    for k in Chain::new(s, word_at(s, 6)) {
+        t = with_arrow(s, k, n, t);
     }
     t
 }

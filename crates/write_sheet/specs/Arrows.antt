@@ -20,18 +20,20 @@ line-short l b = ltb-false 96 (length l) b
 
 first-line : (s : List ℕ) (i k : ℕ) → first_index k (lines_from s i) ≡ index_if (not (eqb i 0)) k
 unfolding lines_from
-first-line s i k = index-whole s (line_of s) i k
+first-line s i k = index-whole (line_of s) s i k
 
--- ---- arrow record i, and d, which was read there
-module _ (s : List ℕ) (i : ℕ) (d : Record) (e : d ≡ record_of s i) where
-  pub lines_short : long_arrow (arrow_of s i) ≡ false → any_of long_line (lines_from s d.word8) ≡ false
+-- ---- arrow record i, and the first line, which was read there
+module _ (s : List ℕ) (i f : ℕ) (e : f ≡ first_line s i) where
+  pub lines_short : long_arrow (arrow_of s i) ≡ false → any_of long_line (lines_from s f) ≡ false
   unfolding arrow_of
   lines_short b = rw e b
 
-  pub arrow_space : arrow_size (arrow_of s i) ≡ 1 + space_of line_size (lines_from s d.word8)
+  pub arrow_space : arrow_size (arrow_of s i) ≡ 1 + space_of line_size (lines_from s f)
   unfolding arrow_of
   arrow_space = rw e
 
+-- ---- and d, the whole record
+module _ (s : List ℕ) (i : ℕ) (d : Record) (e : d ≡ record_of s i) where
   -- the lines, and then the arrow's record before them
   pub arrow-written : (out : List ℕ) (k n : ℕ) {out' out'' : List ℕ} {t : ℕ} → t ≡ index_if (not (eqb d.word8 0)) (k + 1)
       → out' ≡ put out (16 * (k + 1)) (all_records line_size line_records (k + 1) (lines_from s d.word8))

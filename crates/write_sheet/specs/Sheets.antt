@@ -1,13 +1,9 @@
--- Whether a chain goes on, and what writing asks of a sheet.
-use Rattle.std.specs.Prelude.{◌≡◌, Bool, false, cond, not, List, ℕ, ◌≤◌, eqb}
+-- What writing asks of a sheet.
+use Rattle.std.specs.Prelude.{◌≡◌, Bool, false, List, ℕ, ◌≤◌}
 use Rattle.laws.specs.Any.{any_of}
 use Rattle.sheet.specs.Sheet.{Arrow, arrows_of, meaning}
 use Rattle.sheet.specs.Refusals.{long_line}
 use Rattle.encode.specs.Encode.{records_for}
-
--- whether a chain of at most `left` more records has one at index i
-abbrev pub goes_on : ℕ → ℕ → Bool
-goes_on i left = cond (eqb i 0) false (not (eqb left 0))
 
 -- an arrow with a line of more than 96 bytes
 abbrev pub long_arrow : Arrow → Bool

@@ -43,11 +43,11 @@ module _ (s : List ℕ) where
 
   first_state_lem : first_index 1 (states_of s) ≡ index_if (not (eqb (first_state s) 0)) 1
   unfolding states_of
-  first_state_lem = index-whole s (state_of s) (first_state s) 1
+  first_state_lem = index-whole (state_of s) s (first_state s) 1
 
   first-arrow : (k : ℕ) → first_index k (arrows_of s) ≡ index_if (not (eqb (first_arrow s) 0)) k
   unfolding arrows_of
-  first-arrow k = index-whole s (arrow_of s) (first_arrow s) k
+  first-arrow k = index-whole (arrow_of s) s (first_arrow s) k
 
   -- the states, the arrows, and then the header before them; i and j are where the chains begin as they were read
   pub sheet_written : (out : List ℕ) {out' out'' out''' : List ℕ} {n k i j t u : ℕ} → n ≡ records_for (meaning s) → k ≡ arrows_from (meaning s)

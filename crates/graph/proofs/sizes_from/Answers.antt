@@ -1,7 +1,7 @@
 -- `graph::sizes_from` meets its contract.
 use mathlib.Core.Path.{refl, ap, ◌∙◌}
 use mathlib.Core.List.{List}
-use Prim.Native.Nat.{ℕ, ◌-◌}
+use Prim.Native.Nat.{ℕ}
 use native.Mathlib.Omega.{arith}
 use lib.ListN.{length-set}
 use lib.Ieee.{Float}
@@ -13,12 +13,6 @@ use Rattle.graph.proofs.sizes_from.Goals as goal
 
 pub loop-k-init : goal.loop-k-init
 loop-k-init c = (search rules, search rules, search rules, search rules, refl, refl)
-
-pub overflow_cast-heads : goal.overflow_cast-heads
-overflow_cast-heads c = omega (arith, c.shared_slice_known-in-loop-k-1.given c.loop-k.k)
-
-pub block_at-b-requires : goal.block_at-b-requires
-block_at-b-requires c = omega (arith, c.shared_slice_known-in-loop-k-1.given c.loop-k.k)
 
 pub loop-k-preserved : goal.loop-k-preserved
 unfolding width_from height_from

@@ -1,25 +1,16 @@
--- `label::lengths_fit` meets its contract. The invariant: the test of the lengths that are left is the test of all.
-use Rattle.std.proofs.Common.{◌-◌, refl, ◌∙◌, arith}
+use Rattle.std.proofs.Common.{◌∙◌, arith}
 use Rattle.label.proofs.Laws.{fit_over_at, fit_short_at, fit_turn_at, fit_end_at}
+use Rattle.label.proofs.lengths_fit.Goals.{then-most-n-via-then-most-n, then-most-n-via-else-most-n+then-left-n}
 use Rattle.label.proofs.lengths_fit.Goals as goal
 
-pub loop-i-init : goal.loop-i-init
-loop-i-init c = (refl, omega arith, refl)
-
 pub returns-then-most-n : goal.returns-then-most-n
-returns-then-most-n c = fit_over_at c.args.most c.loop-i.left c.args.lengths.now c.loop-i.i (omega arith) c.if-most-n.true ∙ c.loop-i.invariant.2
+returns-then-most-n c = elim c.then-most-n.branch [
+  then-most-n-via-then-most-n w ↦ fit_over_at c.args.most c.loop-n.left c.args.lengths.now c.loop-n.n-index (omega arith) w.if-most-n.true ∙ c.loop-n.invariant
+  | then-most-n-via-else-most-n+then-left-n w ↦ fit_short_at c.args.most c.loop-n.left c.args.lengths.now c.loop-n.n-index (omega arith) w.if-left-n.true ∙ c.loop-n.invariant
+]
 
-pub returns-then-left-n : goal.returns-then-left-n
-returns-then-left-n c = fit_short_at c.args.most c.loop-i.left c.args.lengths.now c.loop-i.i (omega arith) c.if-left-n.true ∙ c.loop-i.invariant.2
-
-pub overflow_step-i : goal.overflow_step-i
-overflow_step-i c = omega arith
-
-pub loop-i-smaller : goal.loop-i-smaller
-loop-i-smaller c = omega arith
-
-pub loop-i-preserved : goal.loop-i-preserved
-loop-i-preserved c = (c.loop-i.invariant.0, omega arith, fit_turn_at c.args.most c.loop-i.left c.args.lengths.now c.loop-i.i (omega arith) c.if-most-n.false c.if-left-n.false ∙ c.loop-i.invariant.2)
+pub loop-n-preserved : goal.loop-n-preserved
+loop-n-preserved c = fit_turn_at c.args.most c.loop-n.left c.args.lengths.now c.loop-n.n-index (omega arith) c.if-most-n.false c.if-left-n.false ∙ c.loop-n.invariant
 
 pub returns : goal.returns
-returns c = fit_end_at c.args.most c.loop-i.left c.args.lengths.now c.loop-i.i (omega arith) ∙ c.loop-i.invariant.2
+returns c = fit_end_at c.args.most c.loop-n.left c.args.lengths.now c.loop-n.n-index (omega arith) ∙ c.loop-n.invariant

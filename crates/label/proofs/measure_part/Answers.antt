@@ -1,31 +1,9 @@
--- `label::measure_part` meets its contract. The invariant: the measure continued from here is the measure from the start.
-use Rattle.std.proofs.Common.{refl, arith}
-use Rattle.laws.specs.Loops.{folds_step, folds_none, folds_past}
+use Rattle.std.proofs.Common.{rules, sym, ◌∙◌}
+use Rattle.std.proofs.lemmas.Iterator.{YieldsList-from_slice}
+use Rattle.std.proofs.lemmas.Iterator.Consumers.{fold_from_yields_List}
+use Rattle.laws.specs.Chains.{over_list}
+use Rattle.label.specs.Measuring.{measure_of}
 use Rattle.label.proofs.measure_part.Goals as goal
 
-pub loop-left-init : goal.loop-left-init
-loop-left-init c = record { rest = refl }
-
-pub returns-then-s-i : goal.returns-then-s-i
-returns-then-s-i c = folds_past c.loop-left.invariant c.if-s-i.true
-
-pub bounds-s-i : goal.bounds-s-i
-bounds-s-i c = omega arith
-
-pub measure_byte-t-requires : goal.measure_byte-t-requires
-measure_byte-t-requires c = tt
-
-pub overflow_add-i : goal.overflow_add-i
-overflow_add-i c = omega arith
-
-pub overflow_sub-left : goal.overflow_sub-left
-overflow_sub-left c = omega arith
-
-pub loop-left-smaller : goal.loop-left-smaller
-loop-left-smaller c = omega arith
-
-pub loop-left-preserved : goal.loop-left-preserved
-loop-left-preserved c = folds_step c.loop-left.invariant 0 c.if-s-i.false c.loop-left-test.true c.measure_byte-t.ensures
-
 pub returns : goal.returns
-returns c = folds_none c.loop-left.invariant c.loop-left-test.false
+returns c = fold_from_yields_List _ measure_of c.args.m _ c.fold.ensures.ran (YieldsList-from_slice c.args.piece.now (cc)) (λ a x b q k. search rules) ∙ sym (over_list measure_of c.args.m c.args.piece.now)

@@ -1,25 +1,9 @@
-use mathlib.Core.Path.{ap}
-use native.Mathlib.Omega.{arith}
+use Rattle.std.proofs.Common.{rules, ap, ◌∙◌, map}
+use Rattle.laws.specs.Put.{put}
+use Rattle.sheet.specs.Sheet.{first_line, chain}
 use Rattle.meaning.specs.Read.{first_lines}
-use Rattle.meaning.proofs.Laws.{fills_start, fills_cut, fills_end, fills_step}
-use Rattle.reader.specs.declared.Record.{Record}
 use Rattle.meaning.proofs.heads_into.Goals as goal
 
-pub loop-i-init : goal.loop-i-init
-unfolding first_lines
-loop-i-init c = (fills_start c.word_at-i.ensures.0 c.word_at-left.ensures.0, omega arith, omega arith, omega arith)
-
-pub shape_of-out-then-left-eq0 : goal.shape_of-out-then-left-eq0
-shape_of-out-then-left-eq0 c = c.loop-i.invariant.0.same
-
-pub returns-then-left-eq0 : goal.returns-then-left-eq0
-returns-then-left-eq0 c = fills_cut c.loop-i.invariant.0 c.if-left-eq0.true
-
-pub loop-i-preserved : goal.loop-i-preserved
-loop-i-preserved c = (fills_step c.loop-i.invariant.0 c.if-left-eq0.false c.loop-i-test.true (ap (λ (x : Record). x.word8) c.record_of-d.ensures.0) c.store_u16.ensures c.next_of-i.ensures.0, omega arith, omega arith, omega arith)
-
-pub shape_of-out : goal.shape_of-out
-shape_of-out c = c.loop-i.invariant.0.same
-
 pub returns : goal.returns
-returns c = fills_end c.loop-i.invariant.0 c.loop-i-test.false
+unfolding first_lines
+returns c = c.each_into.ensures (first_line c.args.s.now) (λ k r h. search rules) ∙ ap (λ l. put c.args.out.now 0 (map (first_line c.args.s.now) l)) (c.new.ensures.list ∙ ap (chain c.args.s.now) c.word_at.ensures)

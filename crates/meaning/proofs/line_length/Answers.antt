@@ -1,28 +1,18 @@
-use mathlib.Core.Path.{◌≡◌, ◌∙◌, ap}
-use mathlib.Core.List.{flat_map}
-use Prim.Native.Nat.{ℕ, ◌+◌, ◌-◌, ◌*◌}
-use native.Mathlib.Omega.{arith}
-use lib.ListN.{length}
-use Rattle.sheet.specs.Sheet.{chain_by, piece}
-use Rattle.meaning.proofs.Laws.{bytes-end, bytes_cut, bytes-step, line-start}
-use Rattle.reader.specs.declared.Record.{Record}
+use Rattle.std.proofs.Common.{rules, arith, refl, sym, ap, ◌∙◌, length}
+use Rattle.std.proofs.lemmas.Iterator.{YieldsList-from_map}
+use Rattle.std.proofs.lemmas.Iterator.Consumers.{sum_by_from_yields_List, YieldsList-from_first, YieldsList-at}
+use Rattle.std.proofs.lemmas.Iterator.Adapters.{fits_from_length, at_most_from_yields_List}
+use borrow.Author.Tests.{tests}
+use Rattle.sheet.specs.Sheet.{piece, chain, first_text}
+use Rattle.reader.specs.Reading.{chain_rest}
+use Rattle.meaning.proofs.Laws.{length_line}
 use Rattle.meaning.proofs.line_length.Goals as goal
 
-pub loop-i-init : goal.loop-i-init
-loop-i-init c = (line-start c.args.s.now c.args.k c.record_of-d.result.word4 c.word_at-left.result (ap (λ (x : Record). x.word4) c.record_of-d.ensures.0) c.word_at-left.ensures.0, omega arith, omega arith)
-
-pub returns-then-left-eq0 : goal.returns-then-left-eq0
-returns-then-left-eq0 c = bytes_cut c.args.s.now c.loop-i.left c.loop-i.i c.loop-i.n c.if-left-eq0.true ∙ c.loop-i.invariant.0
-
-pub loop-i-preserved : goal.loop-i-preserved
-loop-i-preserved c = let s = c.args.s.now in
-    let p : c.piece_end.result - (16 * c.loop-i.i + 4) ≡ length (piece s c.loop-i.i) = omega (arith, c.piece_end.ensures.0) in (
-      ap (λ (j : ℕ). c.loop-i.n + (c.piece_end.result - (16 * c.loop-i.i + 4)) + length (flat_map (piece s) (chain_by s (c.loop-i.left - 1) j))) c.next_of-i.ensures.0
-          ∙ bytes-step s c.loop-i.left c.loop-i.i c.loop-i.n (c.piece_end.result - (16 * c.loop-i.i + 4)) p c.if-left-eq0.false c.loop-i-test.true
-          ∙ c.loop-i.invariant.0,
-      omega arith,
-      omega arith,
-    )
+pub sum-requires-clause-fits : goal.sum-requires-clause-fits
+sum-requires-clause-fits c =
+    fits_from_length _ _ 65536 _ (at_most_from_yields_List (YieldsList-at c.map.ensures.source (YieldsList-from_first (λ x. x) chain_rest _ refl)) c.new.ensures.short) c.map.ensures.closure (omega arith) (λ x r q k. search (rules, tests))
 
 pub returns : goal.returns
-returns c = bytes-end c.args.s.now c.loop-i.left c.loop-i.i c.loop-i.n c.loop-i-test.false ∙ c.loop-i.invariant.0
+returns c =
+    let list = c.new.ensures.list ∙ ap (chain c.args.s.now) c.first_text_at.ensures in
+    sum_by_from_yields_List (λ i. length (piece c.args.s.now i)) (chain c.args.s.now (first_text c.args.s.now c.args.k)) c.map.result _ c.sum.ensures.ran (YieldsList-from_map _ (λ i. length (piece c.args.s.now i)) (YieldsList-at c.map.ensures.source (YieldsList-from_first (λ x. x) chain_rest _ list)) c.map.ensures.closure (λ x r q k. search rules)) ∙ sym (length_line c.args.s.now c.args.k)

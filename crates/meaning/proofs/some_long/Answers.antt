@@ -1,33 +1,12 @@
-use mathlib.Core.Path.{sym, ◌∙◌, ap}
-use mathlib.Core.List.{map}
-use Prim.Native.Nat.{ℕ, ◌-◌}
-use native.Mathlib.Omega.{arith}
-use borrow.Author.Tests.{lt-ltb, le-ltb}
-use lib.Dec.{ltb}
-use Rattle.laws.specs.Any.{any_of}
-use Rattle.sheet.specs.Sheet.{chain_by, line_of}
+use Rattle.std.proofs.Common.{rules, sym, ◌∙◌}
+use Rattle.std.proofs.lemmas.Iterator.Consumers.{YieldsList-from_first}
+use Rattle.std.proofs.lemmas.Iterator.Search.{any_from_yields_List}
+use borrow.Author.Tests.{tests}
+use Rattle.sheet.specs.Sheet.{line_of}
 use Rattle.sheet.specs.Refusals.{long_line}
-use Rattle.sheet.specs.Chains.{along_end, along_cut, along_hit, along_miss}
-use Rattle.meaning.proofs.Laws.{lines_start}
+use Rattle.reader.specs.Reading.{chain_rest}
+use Rattle.meaning.proofs.Laws.{lines_any}
 use Rattle.meaning.proofs.some_long.Goals as goal
 
-pub loop-i-init : goal.loop-i-init
-loop-i-init c = (lines_start long_line c.args.s.now c.args.first c.word_at-left.result c.word_at-left.ensures.0, omega arith)
-
-pub returns-then-left-eq0 : goal.returns-then-left-eq0
-returns-then-left-eq0 c = along_cut c.args.s.now (line_of c.args.s.now) long_line c.loop-i.left c.loop-i.i c.if-left-eq0.true ∙ c.loop-i.invariant.0
-
-pub returns-then-line_length-gt-LONGEST_LINE : goal.returns-then-line_length-gt-LONGEST_LINE
-returns-then-line_length-gt-LONGEST_LINE c = along_hit c.args.s.now (line_of c.args.s.now) long_line c.loop-i.left c.loop-i.i c.if-left-eq0.false c.loop-i-test.true
-    (ap (ltb 96) (sym c.line_length.ensures) ∙ lt-ltb _ _ c.if-line_length-gt-LONGEST_LINE.true) ∙ c.loop-i.invariant.0
-
-pub loop-i-preserved : goal.loop-i-preserved
-loop-i-preserved c = let s = c.args.s.now in (
-  ap (λ (j : ℕ). any_of long_line (map (line_of s) (chain_by s (c.loop-i.left - 1) j))) c.next_of-i.ensures.0
-      ∙ along_miss s (line_of s) long_line c.loop-i.left c.loop-i.i c.if-left-eq0.false c.loop-i-test.true (ap (ltb 96) (sym c.line_length.ensures) ∙ le-ltb _ _ c.if-line_length-gt-LONGEST_LINE.false)
-      ∙ c.loop-i.invariant.0,
-  omega arith,
-)
-
 pub returns : goal.returns
-returns c = along_end c.args.s.now (line_of c.args.s.now) long_line c.loop-i.left c.loop-i.i c.loop-i-test.false ∙ c.loop-i.invariant.0
+returns c = any_from_yields_List (λ k. long_line (line_of c.args.s.now k)) _ _ _ c.any.ensures.ran (YieldsList-from_first (λ x. x) chain_rest _ c.new.ensures.list) (λ x b q k. search (rules, tests)) ∙ sym (lines_any long_line c.args.s.now c.args.first)

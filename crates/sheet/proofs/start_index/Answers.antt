@@ -1,18 +1,14 @@
--- `sheet::start_index` meets its contract.
-use mathlib.Core.Path.{refl, sym, ◌∙◌}
-use native.Mathlib.Omega.{arith}
-use Rattle.sheet.proofs.Laws.{start_hit, start_miss, start-past}
-use borrow.Author.Rules.{rules}
+use Rattle.std.proofs.Common.{rules, ◌∙◌, ap}
+use Rattle.std.proofs.lemmas.Iterator.{YieldsList-from_slice}
+use Rattle.std.proofs.lemmas.Iterator.Search.{position_from_yields_List}
+use Rattle.std.proofs.lemmas.Iterator.Adapters.{position_from-zero}
+use Rattle.std.specs.Option.{unwrap_or}
+use borrow.Author.Tests.{tests}
+use Rattle.sheet.specs.Meaning.{is_start}
+use Rattle.sheet.proofs.Laws.{start_position}
 use Rattle.sheet.proofs.start_index.Goals as goal
 
-pub loop-i-init : goal.loop-i-init
-loop-i-init c = (search rules, search rules, refl)
-
-pub returns-then-is_start : goal.returns-then-is_start
-returns-then-is_start c = start_hit c.args.flags.now c.loop-i.i (omega arith) (sym c.is_start.ensures ∙ c.if-is_start.true) ∙ c.loop-i.invariant.2
-
-pub loop-i-preserved : goal.loop-i-preserved
-loop-i-preserved c = (search rules, search rules, start_miss c.args.flags.now c.loop-i.i (omega arith) (sym c.is_start.ensures ∙ c.if-is_start.false) ∙ c.loop-i.invariant.2)
-
 pub returns : goal.returns
-returns c = start-past c.args.flags.now c.loop-i.i (omega arith) ∙ c.loop-i.invariant.2
+returns c =
+    let found = position_from_yields_List is_start _ _ c.position.result c.position.ensures.ran (YieldsList-from_slice c.args.flags.now cc) (λ x b q k. search (rules, tests)) ∙ position_from-zero is_start c.args.flags.now in
+    c.unwrap_or.ensures ∙ ap (λ o. unwrap_or o 0) found ∙ start_position 0 c.args.flags.now

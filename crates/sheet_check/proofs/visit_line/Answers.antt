@@ -1,20 +1,17 @@
-use mathlib.Core.Path.{ap}
-use borrow.Author.Tests.{not-true, not-false}
-use Rattle.sheet_check.specs.Walk.{walked}
-use Rattle.sheet.specs.Sheet.{met_alone, met_line, first_text}
+use Rattle.std.proofs.Common.{ap, ◌∙◌, ℕ}
+use mathlib.Core.List.{flat_map}
+use Rattle.sheet.specs.Sheet.{chain, met_alone, met_line, text_chain}
+use Rattle.sheet_check.specs.Walk.{walked, walk}
 use Rattle.sheet_check.proofs.Laws.{then_bad, then_on}
-use Rattle.reader.specs.declared.Record.{Record}
-use mathlib.Core.Bool.{not}
 use Rattle.sheet_check.proofs.visit_line.Goals as goal
 
-pub returns-then-not-meet : goal.returns-then-not-meet
+pub returns-then-meet : goal.returns-then-meet
 unfolding met_line
-returns-then-not-meet c = let s = c.args.s.now in
-    let i = c.args.i in
-    then_bad s (met_alone 3 i) (met_alone 4) (first_text s i) c.args.marks.now c.meet.new.marks c.meet.result c.meet.ensures (not-true _ (ap not c.if-not-meet.true))
+returns-then-meet c = let s = c.args.s.now in
+    then_on s (met_alone 3 c.args.i) (flat_map (met_alone 4) (text_chain s c.args.i)) c.args.marks.now c.meet.new.marks c.meet.result c.meet.ensures
+    (walked c.walk_alone.result c.walk_alone.new.marks) c.if-meet.true
+    (c.walk_alone.ensures ∙ ap (λ (j : ℕ). walk s (flat_map (met_alone 4) (chain s j)) c.meet.new.marks) c.first_text_at.ensures)
 
-pub returns : goal.returns
+pub returns-else-meet : goal.returns-else-meet
 unfolding met_line
-returns c = let s = c.args.s.now in
-    let i = c.args.i in
-    then_on s (met_alone 3 i) (met_alone 4) (first_text s i) c.args.marks.now c.meet.new.marks c.meet.result c.meet.ensures c.record_of-d.result.word4 (walked c.walk_alone.result c.walk_alone.new.marks) (not-false _ (ap not c.if-not-meet.false)) (ap (λ (x : Record). x.word4) c.record_of-d.ensures.0) c.walk_alone.ensures
+returns-else-meet c = then_bad c.args.s.now (met_alone 3 c.args.i) (flat_map (met_alone 4) (text_chain c.args.s.now c.args.i)) c.args.marks.now c.meet.new.marks c.meet.result c.meet.ensures c.if-meet.false

@@ -12,5 +12,5 @@ pub returns-then-not-walk_all : goal.returns-then-not-walk_all
 returns-then-not-walk_all c = chains_wrong c.args.s.now c.walk_all.new.marks c.requires (ap (λ (b : Bool). walked b c.walk_all.new.marks) (sym (not-true _ (ap not c.if-not-walk_all.true))) ∙ c.walk_all.ensures)
 
 pub returns : goal.returns
-returns c = c.some_unmarked.ensures ∙ ap (λ (n : ℕ). any_up (unmarked c.walk_all.new.marks) 1 (n + 1)) c.word_at.ensures.0
+returns c = c.some_unmarked.ensures ∙ ap (λ (n : ℕ). any_up (unmarked c.walk_all.new.marks) 1 (n + 1)) c.word_at.ensures
     ∙ chains_marked c.args.s.now c.walk_all.new.marks c.requires (ap (λ (b : Bool). walked b c.walk_all.new.marks) (sym (not-false _ (ap not c.if-not-walk_all.false))) ∙ c.walk_all.ensures)

@@ -1,17 +1,14 @@
--- `totals::count_arrows` meets its contract.
-use mathlib.Core.Path.{◌≡◌}
-use mathlib.Core.List.{map}
-use Prim.Native.Nat.{◌+◌, ◌-◌, ◌*◌, ◌≤◌, ◌<◌}
+-- The counts continued from the arrows to come are those of all.
+use Rattle.std.proofs.Common.{◌≡◌, map, length, ◌+◌, ◌*◌, ◌≤◌}
 use Rattle.laws.specs.Loops.{over}
-use Rattle.sheet.specs.Sheet.{chain_by, arrow_of, arrows_of}
+use Rattle.sheet.specs.Sheet.{arrow_of, arrows_of}
+use Rattle.reader.specs.Reading.{chain_rest}
 use Rattle.totals.specs.Arrows.{none_counted, with_arrow}
 use Rattle.totals.proofs.count_arrows.Given as goal
 
-abbrev pub invariant-loop-i : goal.invariant-loop-i
-invariant-loop-i l = (over (with_arrow l.n) l.t (map (arrow_of l.s) (chain_by l.s l.left l.i)) ≡ over (with_arrow l.n) none_counted (arrows_of l.s))
-    × (l.t.left_out + l.left ≤ 65536)
-    × (l.t.lines + 65536 * l.left ≤ 4294967296)
-    × (l.i < 65536)
-
-abbrev pub decreases-loop-i : goal.decreases-loop-i
-decreases-loop-i l = l.left
+abbrev pub invariant-loop-k : goal.invariant-loop-k
+invariant-loop-k l = record {
+  rest : over (with_arrow l.n) l.t (map (arrow_of l.s) (chain_rest l.k-iterator)) ≡ over (with_arrow l.n) none_counted (arrows_of l.s);
+  out : l.t.left_out + length (chain_rest l.k-iterator) ≤ 65536;
+  lines : l.t.lines + 65536 * length (chain_rest l.k-iterator) ≤ 4294967296;
+}

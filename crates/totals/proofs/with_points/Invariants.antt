@@ -1,6 +1,6 @@
 -- `totals::with_points` meets its contract.
 use mathlib.Core.Path.{◌≡◌}
-use Prim.Native.Nat.{◌+◌, ◌-◌, ◌≤◌}
+use Prim.Native.Nat.{◌+◌, ◌≤◌}
 use Rattle.laws.specs.Flat.{table, part}
 use Rattle.laws.specs.Counting.{how_many}
 use Rattle.records.specs.Records.{decode_geometry, decode_records}

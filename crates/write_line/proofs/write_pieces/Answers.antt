@@ -1,35 +1,53 @@
--- `write_line::write_pieces` meets its contract.
-use mathlib.Core.Path.{refl}
-use Prim.Native.Nat.{◌+◌, ◌-◌, ◌≤◌}
-use native.Mathlib.Omega.{arith}
-use lib.ListN.{take, drop}
+use Rattle.std.proofs.Common.{◌+◌, ◌*◌, List, ℕ, ◌≤◌, refl, ap, ◌∙◌, length, take, drop, ltb, arith}
+use Rattle.laws.specs.Put.{put}
+use Rattle.sheet.specs.Records.{text_bytes}
 use Rattle.encode.specs.Encode.{space_of, piece_size, pieces}
+use Rattle.write_line.specs.Writing.{index_if}
 use Rattle.write_line.specs.Writes.{writes_start, writes_end, writes_room}
-use Rattle.write_line.specs.Cuts.{pieces_end, piece_cut, cuts_step}
+use Rattle.write_line.specs.Cuts.{pieces_none, piece_cut, cuts_step}
+use Rattle.write_line.specs.Lines.{index_is}
 use Rattle.write_line.proofs.write_pieces.Goals as goal
 
-pub loop-a-init : goal.loop-a-init
-loop-a-init c = (writes_start refl, omega arith, omega arith, omega arith)
+pub loop-rest-init : goal.loop-rest-init
+loop-rest-init c = record { writes = writes_start refl; few = c.requires.0; room = c.requires.1 }
+
+pub overflow_add-j : goal.overflow_add-j
+overflow_add-j c = let l = c.loop-rest.rest.now in
+    let n = c.min.result in
+    let r : c.loop-rest.j + 1 ≤ c.args.k + space_of piece_size (pieces c.args.line.now) =
+    writes_room c.loop-rest.invariant.writes (take n l) (pieces (drop n l)) (piece_cut l n c.min.ensures c.loop-rest-test.true) in
+    omega (arith, c.loop-rest.invariant.few)
 
 pub put_piece-requires : goal.put_piece-requires
-put_piece-requires c = let l = c.args.line.now in
-    let a = c.loop-a.a in
-    let w = c.loop-a.invariant.0 in
-    let e = c.piece_stop-e.result in
-    let t = piece_cut l a e c.piece_stop-e.ensures.0 c.loop-a-test.true in
-    let r : c.loop-a.j + 1 ≤ c.args.k + space_of piece_size (pieces l) = writes_room w (take (e - a) (drop a l)) (pieces (drop e l)) t in
-    let b : c.index_if.result ≤ c.loop-a.j + 1 = c.index_if.ensures.1 in
-    (omega arith, omega arith, omega arith, omega (arith, w.bytes.same), omega arith)
+put_piece-requires c = let l = c.loop-rest.rest.now in
+    let n = c.min.result in
+    let r : c.loop-rest.j + 1 ≤ c.args.k + space_of piece_size (pieces c.args.line.now) =
+    writes_room c.loop-rest.invariant.writes (take n l) (pieces (drop n l)) (piece_cut l n c.min.ensures c.loop-rest-test.true) in
+    (omega (arith, c.split_at.ensures.front_len), omega (arith, c.loop-rest.invariant.room, c.loop-rest.invariant.writes.bytes.same))
 
-pub loop-a-preserved : goal.loop-a-preserved
-loop-a-preserved c = let x = c.loop-a in
-    let p = c.piece_stop-e in
-    let n = c.index_if.ensures.0 in
-    let t = c.loop-a-test.true in
-    (cuts_step c.args.line.now x.a p.result p.ensures.0 t x.invariant.0 n c.put_piece.ensures, omega arith, omega arith, omega arith)
+pub overflow_add-j-in-loop-rest : goal.overflow_add-j-in-loop-rest
+overflow_add-j-in-loop-rest c = let l = c.loop-rest.rest.now in
+    let n = c.min.result in
+    let r : c.loop-rest.j + 1 ≤ c.args.k + space_of piece_size (pieces c.args.line.now) =
+    writes_room c.loop-rest.invariant.writes (take n l) (pieces (drop n l)) (piece_cut l n c.min.ensures c.loop-rest-test.true) in
+    omega (arith, c.loop-rest.invariant.few)
 
-pub shape_of-out : goal.shape_of-out
-shape_of-out c = c.loop-a.invariant.0.bytes.same
+pub loop-rest-smaller : goal.loop-rest-smaller
+loop-rest-smaller c = omega (arith, c.split_at.ensures.back_len)
+
+pub loop-rest-preserved : goal.loop-rest-preserved
+loop-rest-preserved c = let l = c.loop-rest.rest.now in
+    let n = c.min.result in
+    let e = c.split_at.ensures in
+    let next = index_is (ltb 0 (length c.split_at.result.1.now)) (c.loop-rest.j + 1) c.unwrap_or-next.result c.then_some.result c.then_some.ensures c.unwrap_or-next.ensures in
+    let step = cuts_step l n c.min.ensures c.loop-rest-test.true c.loop-rest.invariant.writes
+    (next ∙ ap (λ (r : List ℕ). index_if (ltb 0 (length r)) (c.loop-rest.j + 1)) e.back)
+    (c.put_piece.ensures ∙ ap (λ (p : List ℕ). put c.loop-rest.out (16 * c.loop-rest.j) (text_bytes c.unwrap_or-next.result p)) e.front) in
+    record {
+      writes = rw e.back step;
+      few = c.loop-rest.invariant.few;
+      room = c.loop-rest.invariant.room;
+    }
 
 pub returns : goal.returns
-returns c = writes_end c.loop-a.invariant.0 (pieces_end c.args.line.now c.loop-a.a c.loop-a-test.false)
+returns c = writes_end c.loop-rest.invariant.writes (pieces_none c.loop-rest.rest.now c.loop-rest-test.false)

@@ -8,5 +8,5 @@ use Rattle.write_sheet.proofs.states_size.Goals as goal
 
 pub returns : goal.returns
 returns c = let s = c.args.s.now in
-    let e = c.chain_length.ensures.0 ∙ ap (λ (i : ℕ). length (chain s i)) c.word_at.ensures.0 in
+    let e = c.chain_length.ensures.0 ∙ ap (λ (i : ℕ). length (chain s i)) c.word_at.ensures in
     (states_space s _ e, c.chain_length.ensures.1)
