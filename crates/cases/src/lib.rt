@@ -2,7 +2,7 @@
 // read past its end gives 0, so a payload that is too short is found by its length, not here.
 #![tactic(auto)]
 
-ghost use Rattle.std.specs.Prelude.{◌≡◌, ◌<◌, length, from_bits};
+ghost use Rattle.std.specs.Prelude.{◌≡◌, ℕ, ◌<◌, length, from_bits};
 ghost use Rattle.std.specs.Float.{binary64};
 ghost use Rattle.cases.specs.Payload as S;
 
@@ -22,23 +22,11 @@ pub fn byte(p: &[u8], at: usize) -> u8
     if at < p.len() { p[at] } else { 0 }
 }
 
-fn low(b: u8) -> usize
-    ensures { (result ≡ b) × (result < 256) }
-{
-    b as usize
-}
-
-fn wide(b: u8) -> u64
-    ensures { (result ≡ b) × (result < 256) }
-{
-    b as u64
-}
-
 // The number in the two bytes from a place on, the least first.
 fn word(p: &[u8], at: usize) -> u64
     ensures { (result ≡ S.word_at p.now at) × (result < 65536) }
 {
-    wide(byte(p, at)) + 256 * wide(byte(p, after(at, 1)))
+    u64::from(byte(p, at)) + 256 * u64::from(byte(p, after(at, 1)))
 }
 
 // The number in the four bytes from a place on.
@@ -59,7 +47,7 @@ pub fn bits(p: &[u8], at: usize) -> u64
 pub fn index(p: &[u8], at: usize) -> usize
     ensures { (result ≡ S.word_at p.now at) × (result < 65536) }
 {
-    low(byte(p, at)) + 256 * low(byte(p, after(at, 1)))
+    word(p, at) as usize
 }
 
 // The number in the eight bytes from a place on, for a length or a limit.
@@ -86,33 +74,45 @@ pub fn float(p: &[u8], at: usize) -> f64
     of_bits(bits(p, at))
 }
 
+// What `read` has at places eight bytes apart, from one on, as many as `out` holds.
+fn fill<T: Copy, F: Fn(usize) -> T>(at: usize, out: &mut [T], read: F)
+    requires { F.IsAlwaysCallable read }
+    ensures { (r : ℕ → T) → ((place x : _) → F.post read place x → x ≡ r place) → out.new ≡ S.each 8 r at (length out.old) }
+{
+    let mut from = at;
+    for value in out.iter_mut() {
+        *value = read(from);
+        from = after(from, 8);
+    }
+}
+
 // The floats from a place on, as many as `out` holds.
 pub fn fill_floats(p: &[u8], at: usize, out: &mut [f64])
     ensures { out.new ≡ S.floats_at p.now at (length out.old) }
 {
-    let mut k = 0;
-    let mut from = at;
-    while k < out.len() {
-        out[k] = float(p, from);
-        from = after(from, 8);
-        k += 1;
-    }
+    fill(
+        at,
+        out,
+        |place: usize| -> f64
+            ensures { result ≡ S.float_at p.entry.now place }
+        { float(p, place) },
+    );
 }
 
 // The lengths from a place on, as many as `out` holds.
 pub fn fill_sizes(p: &[u8], at: usize, out: &mut [usize])
     ensures { out.new ≡ S.sizes_at p.now at (length out.old) }
 {
-    let mut k = 0;
-    let mut from = at;
-    while k < out.len() {
-        out[k] = size(p, from);
-        from = after(from, 8);
-        k += 1;
-    }
+    fill(
+        at,
+        out,
+        |place: usize| -> usize
+            ensures { result ≡ S.bits_at p.entry.now place }
+        { size(p, place) },
+    );
 }
 
-// Bit for bit, but zeros of either sign are equal; NaN is the one NaN.
+// Bit for bit, but zeros of either sign are equal; NaN is the one NaN. `==` of floats says neither, and no order of theirs does.
 pub fn same(a: f64, b: f64) -> bool
     ensures { result ≡ S.alike a b }
 {

@@ -14,11 +14,7 @@ const CIRCLE_GAP: f64 = 150.0;
 pub fn largest(sizes: &[f64]) -> f64
     ensures { result ≡ S.largest sizes.now }
 {
-    let mut most = 0.0;
-    for i in 0..sizes.len() {
-        most = float::max(most, sizes[i]);
-    }
-    most
+    sizes.iter().fold(0.0, |most, size| float::max(most, *size))
 }
 
 // The radius of the circle for n states, the widest label `label` wide.
@@ -58,12 +54,10 @@ fn fill(start: usize, r: f64, xs: &mut [f64], ys: &mut [f64])
         × (ys.new ≡ S.around_ring S.sin_at states start r) }
 {
     let n = xs.len();
-    let mut i: usize = 0;
-    while i < n {
+    for i in 0..n {
         let a = place_angle(n, ring_place(n, start, i));
         xs[i] = r * float::cos(a);
         ys[i] = r * float::sin(a);
-        i += 1;
     }
 }
 

@@ -2,6 +2,7 @@
 use Rattle.std.specs.Prelude.{Bool, List, [], ◌∷◌, ◌++◌, map, drop, get_or, Float}
 use Rattle.std.specs.Float.{nan}
 use Rattle.laws.specs.Filter.{filter_by}
+use Rattle.directions.specs.declared.Gap.{Gap}
 use Rattle.laws.specs.Loops.{over}
 use Rattle.laws.specs.Sort.{sorted}
 use Rattle.laws.specs.Zip.{zip_by}
@@ -44,24 +45,24 @@ unfoldable pub nexts : List Float → List Float
 nexts angles = drop 1 angles ++ ((get_or angles 0 nan ⊕ τ) ∷ [])
 
 -- from an angle to the next: how wide, and the middle
-abbrev pub gap : Float → Float → Float × Float
-gap a next = (next ⊖ a, midpoint a next)
+abbrev pub gap : Float → Float → Gap
+gap a next = record { width = next ⊖ a; middle = midpoint a next }
 
-abbrev pub width : Float × Float → Float
-width g = g.0
+abbrev pub width : Gap → Float
+width g = g.width
 
-abbrev pub middle : Float × Float → Float
-middle g = g.1
+abbrev pub middle : Gap → Float
+middle g = g.middle
 
-unfoldable pub gaps : List Float → List (Float × Float)
+unfoldable pub gaps : List Float → List Gap
 gaps angles = zip_by gap angles (nexts angles)
 
 -- of two gaps, whether the first is wider
-abbrev pub wider : Float × Float → Float × Float → Bool
+abbrev pub wider : Gap → Gap → Bool
 wider g h = precedes (width h) (width g)
 
 -- largest first; "every sort is stable, so equal gaps keep the order of their angles"
-unfoldable pub by_width : List Float → List (Float × Float)
+unfoldable pub by_width : List Float → List Gap
 by_width taken = sorted wider (gaps (rim_in_order taken))
 
 unfoldable pub middles : List Float → List Float

@@ -25,7 +25,7 @@ gaps-length (a ∷ l) = zip_length gap (a ∷ l) (nexts (a ∷ l)) (nexts-length
 pub middles-length : (taken : List Float) → length (middles taken) ≡ length taken
 unfolding middles by_width rim_in_order
 middles-length taken =
-    length-map (by_width taken) middle ∙ length-sorted (nan, nan) wider (gaps (rim_in_order taken)) ∙ gaps-length (rim_in_order taken)
+    length-map (by_width taken) middle ∙ length-sorted (gap nan nan) wider (gaps (rim_in_order taken)) ∙ gaps-length (rim_in_order taken)
     ∙ length-sorted nan precedes (map rem_euclid taken) ∙ length-map taken rem_euclid
 
 pub found-length : (taken : List Float) → length (found taken) ≡ length (first_directions taken) + length taken

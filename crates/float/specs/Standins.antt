@@ -7,8 +7,8 @@ use Rattle.laws.specs.Loops.{down as countdown}
 use Rattle.root.specs.Root.{root_bits}
 use Rattle.float.specs.Constants.{f0, f1, f2, f4, f25, π, τ}
 use Rattle.float.specs.Ops.{◌⊕◌, ◌⊖◌, ◌⊗◌, ◌⊘◌, rem, neg, lt, eq, ne, of_nat}
-use Rattle.float.specs.declared.Ordering.{Ordering}
-use Rattle.float.specs.declared.Ordering.TheVariants.{Less, Equal, Greater}
+use Rattle.std.specs.declared.cmp.Ordering.{Ordering}
+use Rattle.std.specs.declared.cmp.Ordering.TheVariants.{Less, Equal, Greater}
 
 -- ---- signs
 

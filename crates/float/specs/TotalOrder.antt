@@ -16,7 +16,7 @@ use Rattle.float.specs.Standins.{negative, abs, copysign, minus_first, precedes,
 use Rattle.laws.specs.Nan.{is_nan_lem, nan_test}
 use Rattle.float.specs.Signs.{abs-other}
 use Rattle.remainder.specs.Unique.{fits_sign}
-use Rattle.float.specs.declared.Ordering.TheVariants.{Less, Equal, Greater}
+use Rattle.std.specs.declared.cmp.Ordering.TheVariants.{Less, Equal, Greater}
 
 -- ---- the place of a float in the order: its bits without the sign, counted up from the middle, or down where the sign is set; NaN's bits are above infinity's
 abbrev pub sided : Bool → ℕ → ℕ

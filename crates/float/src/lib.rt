@@ -1,11 +1,13 @@
 // The stand-ins for the library's float functions. Each operation rounds once.
 #![tactic(auto)]
 
-ghost use Rattle.std.specs.Prelude.{◌≡◌, ◌*◌, ◌^◌, ◌<◌, ◌≤◌};
+ghost use Rattle.std.specs.Prelude.{◌≡◌, ℕ, ◌*◌, ◌^◌, ◌<◌, ◌≤◌};
 ghost use Rattle.std.specs.Float.Ieee.Scale.{finite};
 ghost use Rattle.root.specs.Rounded.{magnitude};
 ghost use Rattle.float.specs.Constants.{infinity};
 ghost use Rattle.float.specs.Standins as S;
+
+use std::cmp::Ordering;
 
 use root::{FRACTION, INFINITY_BITS, LEADING, SIGN};
 
@@ -16,14 +18,6 @@ pub const TAU: f64 = remainder::TAU;
 
 // The bits of 2^52, from which on every f64 is whole.
 const WHOLE_BITS: u64 = 0x4330_0000_0000_0000;
-
-// The order of two numbers, as Rust names it.
-#[derive(Clone, Copy)]
-pub enum Ordering {
-    Less,
-    Equal,
-    Greater,
-}
 
 pub fn infinity() -> f64
     ensures { result ≡ infinity }
@@ -178,27 +172,29 @@ fn reduced(a: f64) -> f64
     if r < -PI { r + TAU } else { r }
 }
 
-// The divisor of step k, for sine and for cosine.
-fn divisor(sine: bool, k: u32) -> u32
-    requires { (0 < k) × (k ≤ 14) }
-    ensures { (result ≡ S.divisor sine k) × (result ≤ 812) }
+// The divisor of step k for sine.
+fn sine_divisor(k: u32) -> u32
+    requires { k ≤ 14 }
+    ensures { result ≡ S.sine_divisor k }
 {
-    if sine {
-        2 * k * (2 * k + 1)
-    } else {
-        (2 * k - 1) * (2 * k)
-    }
+    2 * k * (2 * k + 1)
 }
 
-fn series(sine: bool, z: f64) -> f64
-    ensures { result ≡ S.series (S.divisor sine) z }
+// The divisor of step k for cosine.
+fn cosine_divisor(k: u32) -> u32
+    requires { (0 < k) × (k ≤ 14) }
+    ensures { result ≡ S.cosine_divisor k }
+{
+    (2 * k - 1) * (2 * k)
+}
+
+fn series<F: Fn(u32) -> u32>(divisor: F, z: f64) -> f64
+    requires { (k : _) → 0 < k → k ≤ 14 → F.pre divisor k }
+    ensures { (d : ℕ → ℕ) → ((k n : _) → F.post divisor k n → n ≡ d k) → result ≡ S.series d z }
 {
     let mut t = 1.0;
-    let mut k: u32 = 14;
-    while 0 < k {
-        let d = divisor(sine, k) as f64;
-        t = 1.0 - z / d * t;
-        k -= 1;
+    for k in (1..15).rev() {
+        t = 1.0 - z / divisor(k) as f64 * t;
     }
     t
 }
@@ -207,14 +203,14 @@ pub fn sin(a: f64) -> f64
     ensures { result ≡ S.sin a }
 {
     let r = reduced(a);
-    r * series(true, r * r)
+    r * series(sine_divisor, r * r)
 }
 
 pub fn cos(a: f64) -> f64
     ensures { result ≡ S.cos a }
 {
     let r = reduced(a);
-    series(false, r * r)
+    series(cosine_divisor, r * r)
 }
 
 fn halved(u: f64) -> f64
@@ -227,11 +223,8 @@ fn arc_series(z: f64) -> f64
     ensures { result ≡ S.arc_series z }
 {
     let mut t = 1.0 / 25.0;
-    let mut n: u32 = 12;
-    while 0 < n {
-        let d = (2 * (n - 1) + 1) as f64;
-        t = 1.0 / d - z * t;
-        n -= 1;
+    for k in (0..12u32).rev() {
+        t = 1.0 / (2 * k + 1) as f64 - z * t;
     }
     t
 }

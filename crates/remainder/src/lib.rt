@@ -33,12 +33,10 @@ fn reduce(m: u64, k: u64) -> u64
     ensures { result ≡ m * 2 ^ k % significand }
 {
     let mut r = m;
-    let mut left = k;
-    while 11 < left {
+    for _ in 0..k / 11 {
         r = r * 2048 % SIGNIFICAND;
-        left -= 11;
     }
-    (r << left) % SIGNIFICAND
+    (r << (k % 11)) % SIGNIFICAND
 }
 
 // The remainder of a number by its bits, from TAU on and finite: below 2 * TAU by one exact subtraction.

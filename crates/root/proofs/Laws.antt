@@ -7,7 +7,6 @@ use Prim.Native.Nat.{ℕ, zero, suc, ◌+◌, ◌-◌, ◌*◌, ◌/◌, ◌%◌
 use native.Mathlib.Nat.{not-suc-le-zero, mul-le-mul}
 use native.Mathlib.Omega.{arith}
 use borrow.Author.Tests.{lt-ltb, le-ltb}
-use Rattle.laws.specs.Loops.{less_one}
 use Rattle.root.specs.declared.Digits.{Digits}
 use Rattle.root.specs.declared.Scaled.{Scaled}
 use Rattle.root.specs.Root.{scale, scaled, evened, whole_root, nearest_root, packed, root_bits}
@@ -20,9 +19,9 @@ twice_fits q h = omega arith
 pub twice_one_fits : (q : ℕ) → q < 2 ^ 53 → 2 * q + 1 < 2 ^ 64
 twice_one_fits q h = omega arith
 
-pub sound_step : (x0 n : ℕ) (d : Digits) → 0 < n → Sound x0 n d → Sound x0 (n - 1) (digit_step d)
-sound_step x0 zero d h g = absurd (not-suc-le-zero h)
-sound_step x0 (suc n) d h g = rw less_one (step_sound x0 n d g)
+-- after k of n digits
+pub sound_step : (x0 n k : ℕ) (d : Digits) → k < n → Sound x0 (n - k) d → Sound x0 (n - (k + 1)) (digit_step d)
+sound_step x0 n k d h g = let e : n - k ≡ suc (n - (k + 1)) = omega arith in step_sound x0 (n - (k + 1)) d (subst (λ (m : ℕ). Sound x0 m d) e g)
 
 pub sound_end : (a n : ℕ) (d : Digits) → a < 2 ^ 54 → n ≤ 0 → Sound (a * 1024) n d → (d.q ≡ whole_root (a * 2 ^ 52)) × (d.q * d.q + d.r ≡ a * 2 ^ 52)
 sound_end a zero d h k g = sound_root a d h g
@@ -31,10 +30,13 @@ sound_end a (suc n) d h k g = absurd (not-suc-le-zero k)
 pub nearest_fits : (a p : ℕ) → a < 2 ^ 54 → p ≡ nearest_root (a * 2 ^ 52) → p ≤ 2 ^ 53
 nearest_fits a p h e = rw e (nearest_root_le (a * 2 ^ 52) (omega arith))
 
-pub scale-step : (n s e : ℕ) → 0 < n → s < 2 ^ 52 → scale (n - 1) (2 * s) (e - 1) ≡ scale n s e
+scale_more : (n s e : ℕ) → s < 2 ^ 52 → scale n (2 * s) (e - 1) ≡ scale (suc n) s e
 unfolding scale
-scale-step zero s e h k = absurd (not-suc-le-zero h)
-scale-step (suc n) s e h k = rw (less_one, lt-ltb _ _ k)
+scale_more n s e h = rw (lt-ltb _ _ h)
+
+-- after k of n doublings
+pub scale-step : (n k s e : ℕ) → k < n → s < 2 ^ 52 → scale (n - (k + 1)) (s * 2) (e - 1) ≡ scale (n - k) s e
+scale-step n k s e h l = let o : n - k ≡ suc (n - (k + 1)) = omega arith in let t : s * 2 ≡ 2 * s = omega arith in rw (o, t) (scale_more (n - (k + 1)) s e l)
 
 pub scale_stop : (n s e : ℕ) → 2 ^ 52 ≤ s → ◌≡◌ {A = Scaled} (record { s = s; e = e }) (scale n s e)
 unfolding scale

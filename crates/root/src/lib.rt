@@ -82,10 +82,8 @@ fn whole_root(a: u64) -> Digits
         r: 0,
         x: a * 1024,
     };
-    let mut left: u64 = 53;
-    while 0 < left {
+    for _ in 0..53u64 {
         d = digit(d);
-        left -= 1;
     }
     d
 }
@@ -98,16 +96,14 @@ fn scale_up(s0: u64, e0: u64) -> Scaled
 {
     let mut s = s0;
     let mut e = e0;
-    let mut left: u64 = 52;
-    while 0 < left {
+    for _ in 0..52u64 {
         if LEADING <= s {
-            return Scaled { s: s, e: e };
+            return Scaled { s, e };
         }
-        s = 2 * s;
+        s *= 2;
         e -= 1;
-        left -= 1;
     }
-    Scaled { s: s, e: e }
+    Scaled { s, e }
 }
 
 // The exponent and the significand of a number that is finite and above zero, split by shifts and masks.

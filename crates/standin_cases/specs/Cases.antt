@@ -3,8 +3,8 @@ use Rattle.std.specs.Prelude.{Bool, ◌&&◌, ◌||◌, List, [], ◌∷◌, ℕ
 use Rattle.float.specs.Constants.{τ}
 use Rattle.float.specs.Ops.{rem}
 use Rattle.float.specs.Standins as F
-use Rattle.float.specs.declared.Ordering.{Ordering}
-use Rattle.float.specs.declared.Ordering.TheVariants.{Less, Equal, Greater}
+use Rattle.std.specs.declared.cmp.Ordering.{Ordering}
+use Rattle.std.specs.declared.cmp.Ordering.TheVariants.{Less, Equal, Greater}
 use Rattle.cases.specs.Payload.{payload_byte, float_at, answer_stands, kind_row, row_right}
 
 unfoldable pub one_agrees : ℕ → List ℕ → Bool

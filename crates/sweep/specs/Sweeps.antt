@@ -7,6 +7,7 @@ use Rattle.laws.specs.Sort.{sorted}
 use Rattle.float.specs.Constants.{f0, f1, f2}
 use Rattle.float.specs.Ops.{◌⊕◌, ◌⊖◌, ◌⊘◌, of_nat}
 use Rattle.float.specs.Standins.{precedes}
+use Rattle.sweep.specs.declared.Weighted.{Weighted}
 use Rattle.columns.specs.Columns.{EndPair, source, target, pair_between, elem}
 
 -- ---- slots: one a state, its position relative to the centre of its column
@@ -57,16 +58,19 @@ barycentre n arrows slots reference column v =
 -- ---- one column
 
 -- by barycentre, then by slot, in the total order
-abbrev pub by_barycentre : List Float → ℕ × Float → ℕ × Float → Bool
-by_barycentre slots v w = cond (precedes v.1 w.1) true (cond (precedes w.1 v.1) false (precedes (slot slots v.0) (slot slots w.0)))
+abbrev pub by_barycentre : List Float → Weighted → Weighted → Bool
+by_barycentre slots v w = cond (precedes v.barycentre w.barycentre) true (cond (precedes w.barycentre v.barycentre) false (precedes (slot slots v.state) (slot slots w.state)))
 
-abbrev pub with_barycentre : ℕ → List EndPair → List Float → List ℕ → List ℕ → ℕ → ℕ × Float
-with_barycentre n arrows slots reference column v = (v, barycentre n arrows slots reference column v)
+abbrev pub with_barycentre : ℕ → List EndPair → List Float → List ℕ → List ℕ → ℕ → Weighted
+with_barycentre n arrows slots reference column v = record { state = v; barycentre = barycentre n arrows slots reference column v }
+
+abbrev pub state_of : Weighted → ℕ
+state_of v = v.state
 
 -- the states of a column in order, stable sorts by total order
 unfoldable pub ordered_column : ℕ → List EndPair → List Float → List ℕ → List ℕ → List ℕ
 ordered_column n arrows slots reference column =
-    map (λ (v : ℕ × Float). v.0) (sorted (by_barycentre slots) (map (with_barycentre n arrows slots reference column) column))
+    map state_of (sorted (by_barycentre slots) (map (with_barycentre n arrows slots reference column) column))
 
 -- ---- sweeps
 

@@ -1,25 +1,20 @@
 -- `circular::largest` meets its contract.
-use mathlib.Core.Path.{sym, ap, ◌∙◌}
-use Prim.Native.Nat.{ℕ, ◌+◌, ◌-◌}
-use native.Mathlib.Omega.{arith}
-use lib.ListN.{length, get_or}
-use lib.Ieee.{Float, nan}
-use Rattle.laws.specs.Loops.{up, up-over, up_step, up_done}
+use Rattle.std.proofs.Common.{rules, ◌≡◌, ◌∙◌, sym, subst, [], ◌∷◌}
+use Rattle.std.proofs.Math.Path.{refl}
+use Rattle.std.specs.List.{fold}
+use Rattle.std.proofs.lemmas.Fn.{fold_over, slice_gives, fronts}
+use Rattle.std.proofs.lemmas.Grind.{fold-append}
+use Rattle.laws.specs.Chains.{over_list}
 use Rattle.float.specs.Constants.{f0}
 use Rattle.float.specs.Standins.{max}
 use Rattle.circular.specs.Ring.{largest}
-use borrow.Author.Rules.{rules}
 use Rattle.circular.proofs.largest.Goals as goal
 
-pub loop-i-init : goal.loop-i-init
-unfolding largest
-loop-i-init c = (search rules, search rules, up-over max nan c.args.sizes.now f0)
-
-pub loop-i-preserved : goal.loop-i-preserved
-loop-i-preserved c = let t = c.args.sizes.now in
-    let f : ℕ → Float → Float = λ j b. max b (get_or t j nan) in
-    (search rules, search rules, ap (λ (b : Float). up f (c.loop-i.i + 1) (length t) b) c.max-most.ensures ∙ sym (up_step f c.loop-i.i (length t) c.loop-i.most (omega arith)) ∙ c.loop-i.invariant.2)
-
 pub returns : goal.returns
-returns c = let t = c.args.sizes.now in
-    sym (up_done (λ j b. max b (get_or t j nan)) c.loop-i.i (length t) c.loop-i.most (omega arith)) ∙ c.loop-i.invariant.2
+unfolding largest
+returns c =
+    subst (λ l. c.fold.result ≡ fold max f0 l) c.iter.ensures.rest
+    (fold_over fronts (λ y. y.now) _ (λ ys a. a ≡ fold max f0 ys) _
+    (λ ys a x b f k e. let s = fold-append max f0 ys (x.now ∷ []) in search rules)
+    _ _ _ _ (slice_gives c.iter.result) refl c.fold.ensures.ran)
+    ∙ sym (over_list _ _ _)

@@ -1,17 +1,15 @@
 -- `float::arc_series` meets its contract.
 use mathlib.Core.Path.{refl, sym, ◌∙◌}
-use native.Mathlib.Omega.{arith}
 use Rattle.laws.specs.Loops.{down_step, down_done}
 use Rattle.float.specs.Standins.{arc_series}
-use borrow.Author.Rules.{rules}
 use Rattle.float.proofs.arc_series.Goals as goal
 
-pub loop-n-init : goal.loop-n-init
+pub loop-k-init : goal.loop-k-init
 unfolding arc_series
-loop-n-init c = (search rules, refl)
+loop-k-init c = refl
 
-pub loop-n-preserved : goal.loop-n-preserved
-loop-n-preserved c = (search rules, sym (down_step _ _ _ (omega arith)) ∙ c.loop-n.invariant.1)
+pub loop-k-preserved : goal.loop-k-preserved
+loop-k-preserved c = sym (down_step _ _ _ c.loop-k-test.true) ∙ c.loop-k.invariant
 
 pub returns : goal.returns
-returns c = sym (down_done _ _ _ (omega arith)) ∙ c.loop-n.invariant.1
+returns c = sym (down_done _ _ _ c.loop-k-test.false) ∙ c.loop-k.invariant

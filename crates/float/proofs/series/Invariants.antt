@@ -1,12 +1,9 @@
 -- `float::series` meets its contract.
 use mathlib.Core.Path.{◌≡◌}
-use Prim.Native.Nat.{◌≤◌}
+use Prim.Native.Nat.{ℕ, ◌-◌}
 use Rattle.laws.specs.Loops.{down}
-use Rattle.float.specs.Standins.{series, divisor, term}
+use Rattle.float.specs.Standins.{series, term}
 use Rattle.float.proofs.series.Given as goal
 
 abbrev pub invariant-loop-k : goal.invariant-loop-k
-invariant-loop-k l = (l.k ≤ 14) × (down (λ j. term l.z (divisor l.sine j)) l.k l.t ≡ series (divisor l.sine) l.z)
-
-abbrev pub decreases-loop-k : goal.decreases-loop-k
-decreases-loop-k l = l.k
+invariant-loop-k g l = (d : ℕ → ℕ) → ((k n : ℕ) → goal.F-post g l.divisor k n → n ≡ d k) → down (λ j. term l.z (d j)) (l.k - 1) l.t ≡ series d l.z
