@@ -6,3 +6,4 @@ pub mod Encode
 pub mod Encoded
 pub mod Digits
 pub mod Ascii
+pub mod Writing
