@@ -105,3 +105,7 @@ module _ {A : Type 0} where
         let e : length txt ≤ length out = omega (arith, measured) in
         let f : (m ≡ length txt) × (q ≡ txt ++ drop (length txt) out) = written_fits v e in
         (rw (le-leb _ _ e) (ap written f.0), rw (le-leb _ _ e) f.1)
+
+  -- the slice by another name
+  pub left_as : {R : Type 0} {r s : R} {q p b : List A} → p ≡ q → (r ≡ s) × (q ≡ b) → (r ≡ s) × (p ≡ b)
+  left_as e h = (h.0, e ∙ h.1)
