@@ -7,3 +7,4 @@ pub mod Encoded
 pub mod Digits
 pub mod Ascii
 pub mod Writing
+pub mod Continues
