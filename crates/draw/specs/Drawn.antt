@@ -14,8 +14,7 @@ use Rattle.sheet.specs.declared.Limits.{Limits}
 use Rattle.records.specs.Records.{fields}
 use Rattle.routing.specs.Sheets.{frame_of, records_of}
 use Rattle.beyond.specs.Beyond.{beyond}
-use Rattle.draw.specs.declared.Drawing.{Drawing}
-use Rattle.draw.specs.declared.Drawing.TheVariants.{Records, Refused}
+use Rattle.refusal.specs.Refused.{Outcome, values, number}
 
 -- ---- 8: 'a finite x or y of an existing state's centre beyond 2^20 in size'
 
@@ -44,14 +43,14 @@ draw_refusals m s xs ys = refusals m s ++ centre_refusals (meaning s) xs ys
 -- ---- the call
 
 -- how many records there are, or the number of the refusal
-abbrev pub draw_answer : List Refusal → Graph → List Float → List Float → Drawing
-draw_answer rs g xs ys = decide rs Refused (Records (length (records_of g xs ys)))
+abbrev pub draw_answer : List Refusal → Graph → List Float → List Float → Outcome ℕ
+draw_answer rs g xs ys = decide rs number (values (length (records_of g xs ys)))
 
 -- the records from the front on, twenty numbers each, and behind them what stood there; a refused call leaves all as before
 abbrev pub left_by : List Refusal → Graph → List Float → List Float → List Float → List Float
 left_by rs g xs ys l = decide rs (λ n. l) (put l 0 (flat_map fields (records_of g xs ys)))
 
-abbrev pub draw_of : Limits → List ℕ → List Float → List Float → Drawing
+abbrev pub draw_of : Limits → List ℕ → List Float → List Float → Outcome ℕ
 draw_of m s xs ys = draw_answer (draw_refusals m s xs ys) (meaning s) xs ys
 
 abbrev pub draw_after : Limits → List ℕ → List Float → List Float → List Float → List Float

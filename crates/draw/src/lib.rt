@@ -2,17 +2,12 @@
 #![tactic(auto)]
 
 ghost use Rattle.std.specs.Prelude.{◌≡◌, ◌≤◌, length};
+ghost use Rattle.refusal.specs.Refused.{outcome};
 ghost use Rattle.sheet.specs.Sheet as G;
 ghost use Rattle.draw.specs.Drawn as S;
 
-use sheet::{Checked, Limits};
-
-// How many records a drawing has, or the number of the refusal.
-#[derive(Clone, Copy)]
-pub enum Drawing {
-    Records(usize),
-    Refused(u8),
-}
+use refusal::Refusal;
+use sheet::Limits;
 
 // ---- 8
 
@@ -71,7 +66,7 @@ fn draw_read(
     xs: &[f64],
     ys: &[f64],
     buf: &mut [f64],
-) -> Drawing
+) -> Result<usize, Refusal>
     requires fact { let states = length (G.states_of s.now) in
         (length flags.old ≡ states)
         × (states ≤ 64)
@@ -84,26 +79,25 @@ fn draw_read(
         × (arrows ≤ 256) }
     ensures { let graph = G.meaning s.now in
         let refusals = S.bow_refusals graph xs.now ys.now in
-        (result ≡ S.draw_answer refusals graph xs.now ys.now)
+        (outcome result ≡ S.draw_answer refusals graph xs.now ys.now)
         × (buf.new ≡ S.left_by refusals graph xs.now ys.now buf.old) }
 {
     graph::read_graph(s, flags, sources, targets, widths, heights);
     if beyond::beyond(flags, sources, targets, xs, ys) {
-        return Drawing::Refused(9);
+        return Err(Refusal::Bow);
     }
-    let n = geometry::geometry(flags, sources, targets, widths, heights, xs, ys, buf);
-    Drawing::Records(n)
+    Ok(geometry::geometry(flags, sources, targets, widths, heights, xs, ys, buf))
 }
 
 // Routes a sheet of n states whose centres are not far.
-fn draw_near(s: &[u8], n: usize, xs: &[f64], ys: &[f64], buf: &mut [f64]) -> Drawing
+fn draw_near(s: &[u8], n: usize, xs: &[f64], ys: &[f64], buf: &mut [f64]) -> Result<usize, Refusal>
     requires { (n ≡ length (G.states_of s.now))
         × (n ≤ 64)
         × (length (G.arrows_of s.now) ≤ 256)
         × (5120 ≤ length buf.old) }
     ensures { let graph = G.meaning s.now in
         let refusals = S.bow_refusals graph xs.now ys.now in
-        (result ≡ S.draw_answer refusals graph xs.now ys.now)
+        (outcome result ≡ S.draw_answer refusals graph xs.now ys.now)
         × (buf.new ≡ S.left_by refusals graph xs.now ys.now buf.old) }
 {
     let mut flags = [0u8; 64];
@@ -126,32 +120,29 @@ fn draw_near(s: &[u8], n: usize, xs: &[f64], ys: &[f64], buf: &mut [f64]) -> Dra
 }
 
 // Routes a sheet of at most 64 states and 256 arrows.
-fn draw_accepted(s: &[u8], xs: &[f64], ys: &[f64], buf: &mut [f64]) -> Drawing
+fn draw_accepted(s: &[u8], xs: &[f64], ys: &[f64], buf: &mut [f64]) -> Result<usize, Refusal>
     requires { (length (G.states_of s.now) ≤ 64)
         × (length (G.arrows_of s.now) ≤ 256)
         × (5120 ≤ length buf.old) }
     ensures { let graph = G.meaning s.now in
         let refusals = S.centre_refusals graph xs.now ys.now in
-        (result ≡ S.draw_answer refusals graph xs.now ys.now)
+        (outcome result ≡ S.draw_answer refusals graph xs.now ys.now)
         × (buf.new ≡ S.left_by refusals graph xs.now ys.now buf.old) }
 {
     let n = meaning::state_count(s);
     if far_centre(xs, ys, n) {
-        return Drawing::Refused(8);
+        return Err(Refusal::Centre);
     }
     draw_near(s, n, xs, ys, buf)
 }
 
 // Checks a sheet under the limits and routes it at the given centres: the records, twenty numbers each, from the front
 // of `buf` on, or a refusal. There is room for 64 states and 256 arrows.
-pub fn draw(s: &[u8], m: Limits, xs: &[f64], ys: &[f64], buf: &mut [f64]) -> Drawing
+pub fn draw(s: &[u8], m: Limits, xs: &[f64], ys: &[f64], buf: &mut [f64]) -> Result<usize, Refusal>
     requires { (m.states ≤ 64) × (m.arrows ≤ 256) × (5120 ≤ length buf.old) }
-    ensures { (result ≡ S.draw_of m s.now xs.now ys.now)
+    ensures { (outcome result ≡ S.draw_of m s.now xs.now ys.now)
         × (buf.new ≡ S.draw_after m s.now xs.now ys.now buf.old) }
 {
-    let c = sheet_check::check_within(s, m);
-    match c {
-        Checked::Refused(n) => Drawing::Refused(n),
-        Checked::Accepted => draw_accepted(s, xs, ys, buf),
-    }
+    sheet_check::check_within(s, m)?;
+    draw_accepted(s, xs, ys, buf)
 }

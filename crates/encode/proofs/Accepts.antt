@@ -7,7 +7,7 @@ use Rattle.laws.specs.Bools.{or_none}
 use Rattle.sheet.specs.Accepted.{not-over, not_ill}
 use Rattle.sheet.specs.Order.{accepted_exactly}
 use Rattle.laws.specs.Refusals.{Clear, without, clear_none}
-use Rattle.sheet.specs.declared.Checked.TheVariants.{Accepted}
+use Rattle.refusal.specs.Refused.{values}
 use Rattle.sheet.specs.declared.Limits.{Limits}
 use Rattle.encode.specs.Encode.{records_for, encode}
 use Rattle.encode.specs.Flags.{none_above}
@@ -41,5 +41,5 @@ module _ (m : Limits) (g : Graph) (w : Encodable m g) where
       clear_none)))))
 
   -- The written sheet is accepted.
-  pub encode_accepted : check_of m (encode g) ≡ Accepted
+  pub encode_accepted : check_of m (encode g) ≡ values tt
   encode_accepted = (accepted_exactly m (encode g)).1 encode-clear

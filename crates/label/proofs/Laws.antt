@@ -17,7 +17,7 @@ use Rattle.sheet.specs.Chains.{chain-end, chain-cut, chain-step}
 use Rattle.text.specs.Automaton.{feed_of, gather_of}
 use Rattle.label.specs.declared.Measure.{Measure}
 use Rattle.label.specs.declared.Block.{Block}
-use Rattle.label.specs.declared.Sized.TheVariants.{Size, Refused}
+use Rattle.refusal.specs.Refused.{Outcome, values, number}
 use Rattle.label.specs.Label.{char_width, line_width, wider_line, block_height, block, cut, total_length}
 use Rattle.label.specs.Measuring.{measure, measure_of, measure_all, measure_start, measured_formed, measured-width, lengths_fit, lines_size}
 
@@ -92,7 +92,7 @@ module _ (h w : Float) (text lengths : List ℕ) (at i : ℕ) where
   cut_at k = rw (drop-cons lengths i 0 k, add-one i, drop-drop (get_or lengths i 0) at text)
 
   -- a line that is not well-formed, and one that is
-  pub line_ill : i < length lengths → (m : ℕ) → m ≡ (measure_all measure_start line).st → (m ≡ 0 → ⊥) → Refused 6 ≡ lines_size h w rest
+  pub line_ill : i < length lengths → (m : ℕ) → m ≡ (measure_all measure_start line).st → (m ≡ 0 → ⊥) → number 6 ≡ lines_size h w rest
   unfolding lines_size any_of
   line_ill k m e z = let f : well_formed line ≡ false = measured_formed line ∙ sym (ap (λ (n : ℕ). eqb n 0) e) ∙ ne_eqb m 0 z in rw (cut_at k, f)
 
@@ -104,7 +104,7 @@ module _ (h w : Float) (text lengths : List ℕ) (at i : ℕ) where
       let u : v ≡ line_width line = d ∙ measured-width line in
       rw (cut_at k, f, u)
 
-  pub lines_end : length lengths ≤ i → Size w h ≡ lines_size h w rest
+  pub lines_end : length lengths ≤ i → values (w, h) ≡ lines_size h w rest
   unfolding lines_size any_of over cut
   lines_end k = rw (drop_of_length-le lengths k)
 

@@ -10,8 +10,7 @@ use Rattle.text.specs.Utf8.{code_points}
 use Rattle.sheet.specs.declared.Limits.{Limits}
 use Rattle.sheet.specs.Refusals.{ill_line}
 use Rattle.label.specs.declared.Block.{Block}
-use Rattle.label.specs.declared.Sized.{Sized}
-use Rattle.label.specs.declared.Sized.TheVariants.{Size, Refused}
+use Rattle.refusal.specs.Refused.{Outcome, values, number}
 
 -- Document 02, T-02: 'Characters U+0300 to U+036F now have width 0, in place of a full em; all others stay.'
 abbrev pub accent : ℕ → Bool
@@ -62,5 +61,5 @@ label_refusals m text lengths =
     ∷ refusal 6 (any_of ill_line (cut text lengths))
     ∷ []
 
-unfoldable pub sized : Limits → List ℕ → List ℕ → Sized
-sized m text lengths = decide (label_refusals m text lengths) Refused (Size (block_width (cut text lengths)) (block_height (length lengths)))
+unfoldable pub sized : Limits → List ℕ → List ℕ → Outcome (Float × Float)
+sized m text lengths = decide (label_refusals m text lengths) number (values (block_width (cut text lengths), block_height (length lengths)))

@@ -13,8 +13,7 @@ use Rattle.text.specs.Codes.{read_codes}
 use Rattle.sheet.specs.declared.Limits.{Limits}
 use Rattle.sheet.specs.Refusals.{ill_line}
 use Rattle.label.specs.declared.Measure.{Measure}
-use Rattle.label.specs.declared.Sized.{Sized}
-use Rattle.label.specs.declared.Sized.TheVariants.{Size, Refused}
+use Rattle.refusal.specs.Refused.{Outcome, values, number}
 use Rattle.label.specs.Label.{widened, line_width, wider_line, block_height, cut, total_length, sized}
 
 abbrev pub measure : ℕ → ℕ → Float → Measure
@@ -60,15 +59,15 @@ unfoldable pub lengths_fit : ℕ → ℕ → List ℕ → Bool
 lengths_fit most bytes lengths = not (any_of (nat_lt most) lengths) && bytes == total_length lengths
 
 -- the size of lines that come after some of width w, where the whole block has height h
-unfoldable pub lines_size : Float → Float → List (List ℕ) → Sized
-lines_size h w lines = cond (any_of ill_line lines) (Refused 6) (Size (over wider_line w lines) h)
+unfoldable pub lines_size : Float → Float → List (List ℕ) → Outcome (Float × Float)
+lines_size h w lines = cond (any_of ill_line lines) (number 6) (values (over wider_line w lines, h))
 
 module _ (m : Limits) (text lengths : List ℕ) where
-  pub sized-many : m.lines < length lengths → sized m text lengths ≡ Refused 5
+  pub sized-many : m.lines < length lengths → sized m text lengths ≡ number 5
   unfolding sized decide
   sized-many h = rw (lt-ltb m.lines (length lengths) h)
 
-  pub sized_unfit : length lengths ≤ m.lines → lengths_fit 96 (length text) lengths ≡ false → sized m text lengths ≡ Refused 5
+  pub sized_unfit : length lengths ≤ m.lines → lengths_fit 96 (length text) lengths ≡ false → sized m text lengths ≡ number 5
   unfolding sized decide lengths_fit
   sized_unfit h f =
       by_bool (any_of (nat_lt 96) lengths) (λ a. rw (le-ltb m.lines (length lengths) h, a))

@@ -1,5 +1,5 @@
 -- Label blocks worked out: the one of the Rust's documentation, accents and what stands beside them, and each refusal. Assumes nothing.
-use Rattle.std.specs.Prelude.{ℕ, Bool, false, ◌&&◌, T, List, [], ◌∷◌, ◌++◌, replicate, ◌==◌}
+use Rattle.std.specs.Prelude.{Float, ℕ, Bool, false, ◌&&◌, T, List, [], ◌∷◌, ◌++◌, replicate, ◌==◌}
 use mathlib.Core.List.{flat_map}
 use Rattle.std.specs.Float.{binary64}
 use Rattle.std.specs.Float.Ieee.{to_bits, of_bits, of_fields, of_int, round, add, mul, lt, eq, ne, size, span, climb, units, odd, sum, is_nan}
@@ -11,18 +11,17 @@ use Rattle.text.specs.Encode.{utf8}
 use Rattle.sheet.specs.Refusals.{main_screen}
 use Rattle.text.specs.Ascii.{ascii}
 use Rattle.label.specs.Label.{char_width, line_width, wider_line, cut, total_length, sized}
-use Rattle.label.specs.declared.Sized.{Sized}
-use Rattle.label.specs.declared.Sized.TheVariants.{Size, Refused}
+use Rattle.refusal.specs.Refused.{Outcome, values, number}
 
 -- the answer is a width and a height with these bits
-abbrev is_size : ℕ → ℕ → Sized → Bool
-is_size a b (Size w h) = to_bits binary64 w == a && to_bits binary64 h == b
-is_size a b (Refused n) = false
+abbrev is_size : ℕ → ℕ → Outcome (Float × Float) → Bool
+is_size a b (values (w, h)) = to_bits binary64 w == a && to_bits binary64 h == b
+is_size a b (number n) = false
 
 -- the answer is the refusal with this number
-abbrev is_refused : ℕ → Sized → Bool
-is_refused k (Size w h) = false
-is_refused k (Refused n) = n == k
+abbrev is_refused : ℕ → Outcome (Float × Float) → Bool
+is_refused k (values a) = false
+is_refused k (number n) = n == k
 
 -- at the main screen's limits
 abbrev gives : List ℕ → List ℕ → ℕ → ℕ → Bool

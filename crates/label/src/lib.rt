@@ -3,11 +3,13 @@
 
 ghost use Rattle.std.specs.Prelude.{◌≡◌, ◌<◌, ◌≤◌, length, take, drop};
 ghost use Rattle.float.specs.Constants.{f0};
+ghost use Rattle.refusal.specs.Refused.{outcome};
 ghost use Rattle.sheet.specs.Sheet.{line_of, lines_from};
 ghost use Rattle.label.specs.Label as S;
 ghost use Rattle.label.specs.Measuring as M;
 
 use reader::{next_of, record_of};
+use refusal::Refusal;
 
 // The font size of labels; the width of an ASCII character, 0.6 em of a monospace font, and of any other that is no accent; the distance
 // between lines.
@@ -32,13 +34,6 @@ pub struct Measure {
 pub struct Block {
     pub width: f64,
     pub height: f64,
-}
-
-// The answer of `label_size`: width and height, or the number of a refusal.
-#[derive(Clone, Copy)]
-pub enum Sized {
-    Size(f64, f64),
-    Refused(u8),
 }
 
 // Whether a code point is an accent, one of U+0300 to U+036F.
@@ -184,10 +179,10 @@ fn lengths_fit(lengths: &[usize], most: usize, bytes: usize) -> bool
 }
 
 // The size of the lines, one after the other in the text, or a refusal of the first that is not well-formed.
-fn lines_size(text: &[u8], lengths: &[usize]) -> Sized
+fn lines_size(text: &[u8], lengths: &[usize]) -> Result<(f64, f64), Refusal>
     requires { S.total_length lengths.now ≤ length text.now }
     ensures { let lines = S.cut text.now lengths.now in
-        result ≡ M.lines_size (S.block_height (length lengths.now)) f0 lines }
+        outcome result ≡ M.lines_size (S.block_height (length lengths.now)) f0 lines }
 {
     let mut at = 0;
     let mut width = 0.0;
@@ -195,23 +190,23 @@ fn lines_size(text: &[u8], lengths: &[usize]) -> Sized
         let n = lengths[i];
         let m = measure_part(text, at, n, measure_start());
         if m.st != 0 {
-            return Sized::Refused(6);
+            return Err(Refusal::Utf8);
         }
         width = float::max(width, m.width);
         at += n;
     }
-    Sized::Size(width, block_height(lengths.len()))
+    Ok((width, block_height(lengths.len())))
 }
 
 // The size of a label block of at most m's lines.
-pub fn label_size(text: &[u8], lengths: &[usize], m: sheet::Limits) -> Sized
-    ensures { result ≡ S.sized m text.now lengths.now }
+pub fn label_size(text: &[u8], lengths: &[usize], m: sheet::Limits) -> Result<(f64, f64), Refusal>
+    ensures { outcome result ≡ S.sized m text.now lengths.now }
 {
     if m.lines < lengths.len() {
-        return Sized::Refused(5);
+        return Err(Refusal::Limits);
     }
     if !lengths_fit(lengths, sheet::LONGEST_LINE, text.len()) {
-        return Sized::Refused(5);
+        return Err(Refusal::Limits);
     }
     lines_size(text, lengths)
 }

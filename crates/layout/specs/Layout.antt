@@ -1,5 +1,5 @@
 -- The layout of a graph by kind: layers or ring, the choice between them, and the fit. Document 01: "layout.rs".
-use Rattle.std.specs.Prelude.{Bool, cond, ◌||◌, List, [], map, ℕ, zero, suc, ◌+◌, ltb, eqb, length, Float}
+use Rattle.std.specs.Prelude.{◌≡◌, ◌<◌, Result, MatchResult, Bool, cond, ◌||◌, List, [], map, ℕ, zero, suc, ◌+◌, ltb, eqb, length, Float}
 use Rattle.laws.specs.Zip.{zip_by}
 use Rattle.float.specs.Constants.{f2, f2_5, margin}
 use Rattle.float.specs.Ops.{◌⊗◌, lt, of_nat}
@@ -13,6 +13,12 @@ use Rattle.clutter.specs.Clutter.{clutter_of}
 use Rattle.circular.specs.Ring.{largest, circular_xs, circular_ys}
 use Rattle.columns.specs.Columns.{EndPair, end_pair}
 use Rattle.layered.specs.Layered.{layered_xs, layered_ys}
+use Rattle.layout.specs.declared.Placement.{Placement}
+use Rattle.layout.specs.declared.Placement.TheVariants.{Layers, Ring}
+use Rattle.layout.specs.declared.Kind.{Kind}
+use Rattle.layout.specs.declared.Kind.TheVariants.{Auto, Layered, Circular}
+use Rattle.refusal.specs.declared.Refusal.{Refusal}
+use Rattle.refusal.specs.declared.Refusal.TheVariants as R
 use Rattle.fit.specs.Fit.{fit_xs, fit_ys, fit_size}
 
 -- ---- what is laid out: the states' flags, the arrows' ends, and the sizes of their labels
@@ -70,6 +76,10 @@ ring_by n start w = placing (circular_xs n start w) (circular_ys n start w)
 unfoldable pub ring : Plan → Placing
 ring p = ring_by (many p) (plan_start p) (widest p)
 
+abbrev pub placed : Placement → Plan → Placing
+placed Layers p = layers p
+placed Ring p = ring p
+
 -- ---- the drawing at these centres
 
 -- "Centres missing or not finite count as 0."
@@ -101,7 +111,17 @@ takes_ring p = is_dense p || is_tangled p
 abbrev pub last_kind : ℕ
 last_kind = 2
 
--- "0 Auto, 1 Layered, 2 Circular"; a kind that 11 refuses has no centres
+-- "0 Auto, 1 Layered, 2 Circular"
+abbrev pub kind_number : Kind → ℕ
+kind_number Auto = 0
+kind_number Layered = 1
+kind_number Circular = 2
+
+-- the kind of this number; a number that no kind has is refused by 11
+abbrev pub GivesKind : ℕ → Result Kind Refusal → Type 0
+GivesKind n r = MatchResult r (λ kind. kind_number kind ≡ n) (λ e. (e ≡ R.Kind) × (last_kind < n))
+
+-- by the number of a kind; one that 11 refuses has no centres
 unfoldable pub chosen : ℕ → Plan → Placing
 chosen zero p = cond (takes_ring p) (ring p) (layers p)
 chosen (suc zero) p = layers p

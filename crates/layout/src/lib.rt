@@ -9,12 +9,40 @@ ghost use Rattle.layout.specs.Choice as C;
 
 use fit::{MARGIN, Size};
 use records::RECORD_NUMBERS;
+use refusal::Refusal;
+
+// The layout kinds of document 01.
+#[derive(Clone, Copy, Debug, PartialEq, Eq)]
+pub enum Kind {
+    Auto,
+    Layered,
+    Circular,
+}
+
+impl TryFrom<u8> for Kind {
+    type Error = Refusal;
+
+    ghost try_from_gives = { S.GivesKind };
+
+    fn try_from(number: u8) -> Result<Kind, Refusal> {
+        match number {
+            0 => Ok(Kind::Auto),
+            1 => Ok(Kind::Layered),
+            2 => Ok(Kind::Circular),
+            _ => Err(Refusal::Kind),
+        }
+    }
+}
 
 // How much more cluttered than the ring the layers may be.
 const AUTO_TOLERANCE: usize = 2;
 
-// The last layout kind: 0 Auto, 1 Layered, 2 Circular.
-pub const LAST_KIND: u8 = 2;
+// Where the states go.
+#[derive(Clone, Copy, Debug, PartialEq, Eq)]
+pub enum Placement {
+    Layers,
+    Ring,
+}
 
 // ---- centres
 
@@ -46,6 +74,28 @@ pub fn ring_at(flags: &[u8], widths: &[f64], xs: &mut [f64], ys: &mut [f64])
         ≡ S.ring_by (length flags.now) (start_index flags.now) (largest widths.now) }
 {
     circular::circular(sheet::start_index(flags), circular::largest(widths), xs, ys);
+}
+
+// The centres of a placement.
+pub fn place(
+    placement: Placement,
+    flags: &[u8],
+    sources: &[usize],
+    targets: &[usize],
+    widths: &[f64],
+    heights: &[f64],
+    xs: &mut [f64],
+    ys: &mut [f64],
+)
+    requires { C.GraphSlices flags.now sources.now targets.now widths.now heights.now xs.old ys.old }
+    ensures { let plan = S.plan_by flags.now sources.now targets.now
+        widths.now heights.now in
+        S.placing xs.new ys.new ≡ S.placed placement plan }
+{
+    match placement {
+        Placement::Layers => layers_at(flags, sources, targets, widths, heights, xs, ys),
+        Placement::Ring => ring_at(flags, widths, xs, ys),
+    }
 }
 
 // ---- what is measured
@@ -116,8 +166,9 @@ fn clutter_at(
     )
 }
 
-// The clutter of the layers, which are left in the slices.
-fn layers_clutter(
+// The clutter of a placement, whose centres are left in the slices.
+fn placed_clutter(
+    placement: Placement,
     flags: &[u8],
     sources: &[usize],
     targets: &[usize],
@@ -129,28 +180,9 @@ fn layers_clutter(
     requires { C.GraphSlices flags.now sources.now targets.now widths.now heights.now xs.old ys.old }
     ensures { let plan = S.plan_by flags.now sources.now targets.now
         widths.now heights.now in
-        result ≡ S.clutter_at plan (S.layers plan) }
+        result ≡ S.clutter_at plan (S.placed placement plan) }
 {
-    layers_at(flags, sources, targets, widths, heights, xs, ys);
-    clutter_at(flags, sources, targets, widths, heights, xs, ys)
-}
-
-// The clutter of the ring, which is left in the slices.
-fn ring_clutter(
-    flags: &[u8],
-    sources: &[usize],
-    targets: &[usize],
-    widths: &[f64],
-    heights: &[f64],
-    xs: &mut [f64],
-    ys: &mut [f64],
-) -> usize
-    requires { C.GraphSlices flags.now sources.now targets.now widths.now heights.now xs.old ys.old }
-    ensures { let plan = S.plan_by flags.now sources.now targets.now
-        widths.now heights.now in
-        result ≡ S.clutter_at plan (S.ring plan) }
-{
-    ring_at(flags, widths, xs, ys);
+    place(placement, flags, sources, targets, widths, heights, xs, ys);
     clutter_at(flags, sources, targets, widths, heights, xs, ys)
 }
 
@@ -182,13 +214,14 @@ fn takes_ring(
     if dense(flags.len(), sources.len()) {
         return true;
     }
-    let layers = layers_clutter(flags, sources, targets, widths, heights, xs, ys);
-    let ring = ring_clutter(flags, sources, targets, widths, heights, xs, ys);
+    let layers = placed_clutter(Placement::Layers, flags, sources, targets, widths, heights, xs, ys);
+    let ring = placed_clutter(Placement::Ring, flags, sources, targets, widths, heights, xs, ys);
     ring + AUTO_TOLERANCE < layers
 }
 
-// Auto.
-fn auto_at(
+// The placement by kind; the slices are room for centres.
+fn choose(
+    kind: Kind,
     flags: &[u8],
     sources: &[usize],
     targets: &[usize],
@@ -196,41 +229,21 @@ fn auto_at(
     heights: &[f64],
     xs: &mut [f64],
     ys: &mut [f64],
-)
+) -> Placement
     requires { C.GraphSlices flags.now sources.now targets.now widths.now heights.now xs.old ys.old }
     ensures { let plan = S.plan_by flags.now sources.now targets.now
         widths.now heights.now in
-        S.placing xs.new ys.new ≡ S.chosen 0 plan }
-{
-    if takes_ring(flags, sources, targets, widths, heights, xs, ys) {
-        ring_at(flags, widths, xs, ys);
-        return;
-    }
-    layers_at(flags, sources, targets, widths, heights, xs, ys);
-}
-
-// The centres by kind.
-fn choose(
-    kind: u8,
-    flags: &[u8],
-    sources: &[usize],
-    targets: &[usize],
-    widths: &[f64],
-    heights: &[f64],
-    xs: &mut [f64],
-    ys: &mut [f64],
-)
-    requires { (kind ≤ S.last_kind)
-        × C.GraphSlices flags.now sources.now targets.now widths.now heights.now xs.old ys.old }
-    ensures { let plan = S.plan_by flags.now sources.now targets.now
-        widths.now heights.now in
-        S.placing xs.new ys.new ≡ S.chosen kind plan }
+        S.placed result plan ≡ S.chosen (S.kind_number kind) plan }
 {
     match kind {
-        0 => auto_at(flags, sources, targets, widths, heights, xs, ys),
-        1 => layers_at(flags, sources, targets, widths, heights, xs, ys),
-        2 => ring_at(flags, widths, xs, ys),
-        _ => {}
+        Kind::Layered => Placement::Layers,
+        Kind::Circular => Placement::Ring,
+        Kind::Auto => {
+            if takes_ring(flags, sources, targets, widths, heights, xs, ys) {
+                return Placement::Ring;
+            }
+            Placement::Layers
+        }
     }
 }
 
@@ -267,7 +280,7 @@ fn fit_at(
 
 // The layout by kind: the centres, and the size of the drawing.
 pub fn layout(
-    kind: u8,
+    kind: Kind,
     flags: &[u8],
     sources: &[usize],
     targets: &[usize],
@@ -276,10 +289,10 @@ pub fn layout(
     xs: &mut [f64],
     ys: &mut [f64],
 ) -> Size
-    requires { C.LayoutSlices kind flags.now sources.now targets.now widths.now heights.now xs.old ys.old }
+    requires { C.LayoutSlices flags.now sources.now targets.now widths.now heights.now xs.old ys.old }
     ensures { let plan = S.plan_by flags.now sources.now targets.now
         widths.now heights.now in
-        C.Left (S.layout_of kind plan) result xs.new ys.new }
+        C.Left (S.layout_of (S.kind_number kind) plan) result xs.new ys.new }
 {
     if flags.len() == 0 {
         return Size {
@@ -287,6 +300,7 @@ pub fn layout(
             height: 2.0 * MARGIN,
         };
     }
-    choose(kind, flags, sources, targets, widths, heights, xs, ys);
+    let placement = choose(kind, flags, sources, targets, widths, heights, xs, ys);
+    place(placement, flags, sources, targets, widths, heights, xs, ys);
     fit_at(flags, sources, targets, widths, heights, xs, ys)
 }

@@ -8,8 +8,7 @@ use Rattle.float.specs.Constants.{f100, f1e13}
 use Rattle.float.specs.Standins.{negative, abs, round}
 use Rattle.text.specs.Digits.{digits, digits_one}
 use Rattle.number.specs.Number.{too_large, writable, rounded_size, minus_text, fraction, decimal, num_text, written, written_after}
-use Rattle.number.specs.declared.Written.{Written}
-use Rattle.number.specs.declared.Written.TheVariants.{Length, Refused}
+use Rattle.refusal.specs.Refused.{Outcome, values, number}
 
 -- the hundredths below 10^13, and none elsewhere
 pub size_below : (v a r w : Float) (n : ℕ) → a ≡ abs v → lt a f1e13 ≡ true → r ≡ round (v ⊗ f100) → w ≡ abs r → n ≡ to_unsigned 64 w → n ≡ rounded_size v
@@ -39,11 +38,11 @@ unfolding num_text decimal
 num_text_is v n m e f = rw (f, e)
 
 -- refused by 10, or not
-pub num_refused : (v : Float) (w : Bool) (out : List ℕ) → w ≡ writable v → not w ≡ true → (Refused 10 ≡ written v (length out)) × (out ≡ written_after v out)
+pub num_refused : (v : Float) (w : Bool) (out : List ℕ) → w ≡ writable v → not w ≡ true → (number 10 ≡ written v (length out)) × (out ≡ written_after v out)
 unfolding written written_after
 num_refused v w out e t = let l : too_large v ≡ true = not-false (too_large v) (sym e ∙ not-true w t) in (rw l, rw l)
 
-pub goes_on_lem : (v : Float) (w : Bool) (r : Written) (q out : List ℕ) → w ≡ writable v → not w ≡ false
-    → (r ≡ answer Length (Refused 7) (num_text v) (length out)) × (q ≡ written_over (num_text v) out) → (r ≡ written v (length out)) × (q ≡ written_after v out)
+pub goes_on_lem : (v : Float) (w : Bool) (r : Outcome ℕ) (q out : List ℕ) → w ≡ writable v → not w ≡ false
+    → (r ≡ answer values (number 7) (num_text v) (length out)) × (q ≡ written_over (num_text v) out) → (r ≡ written v (length out)) × (q ≡ written_after v out)
 unfolding written written_after
 goes_on_lem v w r q out e t p = let l : too_large v ≡ false = not-true (too_large v) (sym e ∙ not-false w t) in (rw l p.0, rw l p.1)

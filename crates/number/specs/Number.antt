@@ -9,8 +9,7 @@ use Rattle.float.specs.Constants.{f100, f1e13}
 use Rattle.float.specs.Standins.{negative, abs, round}
 use Rattle.text.specs.Digits.{digits}
 use Rattle.text.specs.Ascii.{ascii}
-use Rattle.number.specs.declared.Written.{Written}
-use Rattle.number.specs.declared.Written.TheVariants.{Length, Refused}
+use Rattle.refusal.specs.Refused.{Outcome, values, number}
 
 -- Refusal 10: "a finite number of size 10^13 or more to be written"
 abbrev pub too_large : Float → Bool
@@ -61,8 +60,8 @@ num_text v = decimal (hundredths v)
 -- ---- the call `write_num`
 
 -- the length; 10 comes before 7, "a lent output shorter than the answer"
-unfoldable pub written : Float → ℕ → Written
-written v room = cond (too_large v) (Refused 10) (W.answer Length (Refused 7) (num_text v) room)
+unfoldable pub written : Float → ℕ → Outcome ℕ
+written v room = cond (too_large v) (number 10) (W.answer values (number 7) (num_text v) room)
 
 -- the text and what stood after it; as before where the call is refused
 unfoldable pub written_after : Float → List ℕ → List ℕ

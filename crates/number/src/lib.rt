@@ -6,15 +6,10 @@ ghost use Rattle.laws.specs.Writers.{as_usize};
 ghost use Rattle.text.specs.Writing.{Adds};
 ghost use Rattle.float.specs.Standins.{negative};
 ghost use Rattle.number.specs.Number as S;
+ghost use Rattle.refusal.specs.Refused.{outcome};
 
+use refusal::Refusal;
 use text::Writer;
-
-// What `write_num` answers: the length written, or the refusal's number.
-#[derive(Clone, Copy)]
-pub enum Written {
-    Length(usize),
-    Refused(u8),
-}
 
 // Whether a number may be written: not finite, or of size below 10^13.
 pub fn writable(v: f64) -> bool
@@ -95,17 +90,17 @@ fn num_length(v: f64) -> usize
 
 // The text of v at the start of `out`, and its length; refused, and nothing changed, where v is finite and 10^13 or
 // more in size, or the text does not fit.
-pub fn write_num(v: f64, out: &mut [u8]) -> Written
-    ensures { (result ≡ S.written v (length out.old))
+pub fn write_num(v: f64, out: &mut [u8]) -> Result<usize, Refusal>
+    ensures { (outcome result ≡ S.written v (length out.old))
         × (out.new ≡ S.written_after v out.old) }
 {
     if !writable(v) {
-        return Written::Refused(10);
+        return Err(Refusal::Number);
     }
     if out.len() < num_length(v) {
-        return Written::Refused(7);
+        return Err(Refusal::Room);
     }
     let mut w = Writer { out, at: 0 };
     put_num(&mut w, v);
-    Written::Length(w.at)
+    Ok(w.at)
 }

@@ -23,14 +23,9 @@ use Rattle.routing.specs.Sheets.{centre_at}
 use Rattle.routing_laws.specs.Frames.{or_zeros, centres-table}
 use Rattle.clutter.specs.Clutter.{clutter_of}
 use Rattle.drawing_text.specs.Lines.{paths_text, paths_writable}
+use Rattle.refusal.specs.Refused.{Outcome, values, number}
 use Rattle.outputs.specs.Answers as A
 use Rattle.outputs.specs.Answers.{short, onto}
-use Rattle.outputs.specs.declared.RouteAnswer.{RouteAnswer}
-use Rattle.outputs.specs.declared.RouteAnswer.TheVariants.{Lengths, Refused}
-use Rattle.outputs.specs.declared.LaidOut.{LaidOut}
-use Rattle.outputs.specs.declared.LaidOut.TheVariants as Z
-use Rattle.number.specs.declared.Written.{Written}
-use Rattle.number.specs.declared.Written.TheVariants as N
 
 -- ---- records
 
@@ -57,14 +52,14 @@ records-onto drawing l n h w i =
 -- ---- fill
 
 module _ (numbers : List Float) (gs : List Geometry) (records : List Float) (text : List ℕ) where
-  abbrev Filled : RouteAnswer → List Float → List ℕ → Type 0
+  abbrev Filled : Outcome (ℕ × ℕ) → List Float → List ℕ → Type 0
   Filled = A.FilledInto numbers gs records text
 
-  pub fill_10 : (w : Bool) → w ≡ paths_writable gs → not w ≡ true → Filled (Refused 10) records text
+  pub fill_10 : (w : Bool) → w ≡ paths_writable gs → not w ≡ true → Filled (number 10) records text
   unfolding decide
   fill_10 w e t = let o : not (paths_writable gs) ≡ true = ap not (sym e) ∙ t in (rw o, rw o, rw o)
 
-  fill_7 : not (paths_writable gs) ≡ false → (short (length records) numbers || short (length text) (paths_text gs)) ≡ true → Filled (Refused 7) records text
+  fill_7 : not (paths_writable gs) ≡ false → (short (length records) numbers || short (length text) (paths_text gs)) ≡ true → Filled (number 7) records text
   unfolding decide
   fill_7 o t = (rw (o, t), rw (o, t), rw (o, t))
 
@@ -72,7 +67,7 @@ module _ (numbers : List Float) (gs : List Geometry) (records : List Float) (tex
     may : not (paths_writable gs) ≡ false
     may = ap not (sym e) ∙ u
 
-    pub fill-records : (n : ℕ) → n ≡ length numbers → length records < n → Filled (Refused 7) records text
+    pub fill-records : (n : ℕ) → n ≡ length numbers → length records < n → Filled (number 7) records text
     fill-records n q h =
         let i : length records < length numbers = omega arith in
         fill_7 may (ap (λ (b : Bool). b || short (length text) (paths_text gs)) (lt-ltb _ _ i))
@@ -82,13 +77,13 @@ module _ (numbers : List Float) (gs : List Geometry) (records : List Float) (tex
       back : p ++ text ≡ text
       back = ap (λ (l : List ℕ). l ++ text) (empty v)
 
-      pub fill_text : length (p ++ text) < need → Filled (Refused 7) records (p ++ text)
+      pub fill_text : length (p ++ text) < need → Filled (number 7) records (p ++ text)
       fill_text h =
           let i : length text < length (paths_text gs) = omega (arith, measured-length v, length-append p text) in
           let f = fill_7 may (or-second (short (length records) numbers) (short (length text) (paths_text gs)) (lt-ltb _ _ i)) in
           (f.0, f.1, back ∙ f.2)
 
-      pub fill_done : (n m : ℕ) (a : List Float) (q : List ℕ) → n ≡ length numbers → n ≤ length records → need ≤ length (p ++ text) → a ≡ onto numbers records → Wrote (p ++ text) 0 q m (paths_text gs) → Filled (Lengths n m) a q
+      pub fill_done : (n m : ℕ) (a : List Float) (q : List ℕ) → n ≡ length numbers → n ≤ length records → need ≤ length (p ++ text) → a ≡ onto numbers records → Wrote (p ++ text) 0 q m (paths_text gs) → Filled (values (n, m)) a q
       unfolding decide
       fill_done n m a q e h i k x =
           let r : length numbers ≤ length records = omega arith in
@@ -106,23 +101,23 @@ centred-clutter xs ys a d p q gs h e f = rw (e, f, h) (ap (λ (cs : List «V»).
 -- ---- centres
 
 module _ (across down : List Float) (w h : Float) (xs ys : List Float) where
-  abbrev Placed : LaidOut → List Float → List Float → Type 0
+  abbrev Placed : Outcome (ℕ × Float × Float) → List Float → List Float → Type 0
   Placed = A.PlacedInto across down w h xs ys
 
-  place_7 : (short (length xs) across || short (length ys) down) ≡ true → Placed (Z.Refused 7) xs ys
+  place_7 : (short (length xs) across || short (length ys) down) ≡ true → Placed (number 7) xs ys
   unfolding decide
   place_7 t = (rw t, rw t, rw t)
 
   module _ (same : length down ≡ length across) where
-    pub place_xs : length xs < length across → Placed (Z.Refused 7) xs ys
+    pub place_xs : length xs < length across → Placed (number 7) xs ys
     place_xs i = place_7 (ap (λ (b : Bool). b || short (length ys) down) (lt-ltb _ _ i))
 
-    pub place_ys : length ys < length across → Placed (Z.Refused 7) xs ys
+    pub place_ys : length ys < length across → Placed (number 7) xs ys
     place_ys i =
         let j : length ys < length down = omega arith in
         place_7 (or-second (short (length xs) across) (short (length ys) down) (lt-ltb _ _ j))
 
-    pub place_done : (a b : List Float) → length across ≤ length xs → length across ≤ length ys → a ≡ put xs 0 across → b ≡ put ys 0 down → Placed (Z.Size (length across) w h) a b
+    pub place_done : (a b : List Float) → length across ≤ length xs → length across ≤ length ys → a ≡ put xs 0 across → b ≡ put ys 0 down → Placed (values (length across, w, h)) a b
     unfolding decide
     place_done a b i j e f =
         let k : length down ≤ length ys = omega arith in
@@ -132,10 +127,10 @@ module _ (across down : List Float) (w h : Float) (xs ys : List Float) where
 -- ---- listing
 
 module _ (writable : Bool) (txt out : List ℕ) where
-  abbrev WroteOut : Written → List ℕ → Type 0
+  abbrev WroteOut : Outcome ℕ → List ℕ → Type 0
   WroteOut = A.WrittenInto writable txt out
 
-  pub list_10 : (w : Bool) → w ≡ writable → not w ≡ true → WroteOut (N.Refused 10) out
+  pub list_10 : (w : Bool) → w ≡ writable → not w ≡ true → WroteOut (number 10) out
   unfolding decide
   list_10 w e t = let o : not writable ≡ true = ap not (sym e) ∙ t in (rw o, rw o)
 
@@ -146,13 +141,13 @@ module _ (writable : Bool) (txt out : List ℕ) where
     list_back : p ++ out ≡ out
     list_back = ap (λ (l : List ℕ). l ++ out) (empty v)
 
-    pub list_7 : length (p ++ out) < need → WroteOut (N.Refused 7) (p ++ out)
+    pub list_7 : length (p ++ out) < need → WroteOut (number 7) (p ++ out)
     unfolding decide
     list_7 h =
         let i : length out < length txt = omega (arith, measured-length v, length-append p out) in
         (rw (list_may, lt-ltb _ _ i), rw (list_may, lt-ltb _ _ i) list_back)
 
-    pub list_done : (m : ℕ) (q : List ℕ) → need ≤ length (p ++ out) → Wrote (p ++ out) 0 q m txt → WroteOut (N.Length m) q
+    pub list_done : (m : ℕ) (q : List ℕ) → need ≤ length (p ++ out) → Wrote (p ++ out) 0 q m txt → WroteOut (values m) q
     unfolding decide
     list_done m q i x =
         let t : length txt ≤ length out = omega (arith, measured-length v, ap length list_back) in

@@ -5,12 +5,7 @@ use Rattle.laws.specs.Refusals.{Refusal, refusal, decide}
 use Rattle.label_spots.specs.declared.Geometry.{Geometry}
 use Rattle.records.specs.Records.{fields, decode_records}
 use Rattle.drawing_text.specs.Lines.{paths_text, paths_writable}
-use Rattle.outputs.specs.declared.RouteAnswer.{RouteAnswer}
-use Rattle.outputs.specs.declared.RouteAnswer.TheVariants.{Lengths, Refused}
-use Rattle.outputs.specs.declared.LaidOut.{LaidOut}
-use Rattle.outputs.specs.declared.LaidOut.TheVariants as Z
-use Rattle.number.specs.declared.Written.{Written}
-use Rattle.number.specs.declared.Written.TheVariants as N
+use Rattle.refusal.specs.Refused.{Outcome, values, number}
 
 -- ---- a lent output
 
@@ -34,8 +29,8 @@ fill_refusals numbers gs room textRoom =
     ∷ refusal 7 (short room numbers || short textRoom (paths_text gs))
     ∷ []
 
-abbrev pub filled_as : List Float → List Geometry → ℕ → ℕ → RouteAnswer
-filled_as numbers gs room textRoom = decide (fill_refusals numbers gs room textRoom) Refused (Lengths (length numbers) (length (paths_text gs)))
+abbrev pub filled_as : List Float → List Geometry → ℕ → ℕ → Outcome (ℕ × ℕ)
+filled_as numbers gs room textRoom = decide (fill_refusals numbers gs room textRoom) number (values (length numbers, length (paths_text gs)))
 
 abbrev pub records_filled : List Float → List Geometry → List Float → ℕ → List Float
 records_filled numbers gs records textRoom = decide (fill_refusals numbers gs (length records) textRoom) (λ (n : ℕ). records) (onto numbers records)
@@ -44,7 +39,7 @@ abbrev pub text_filled : List Float → List Geometry → ℕ → List ℕ → L
 text_filled numbers gs room text = decide (fill_refusals numbers gs room (length text)) (λ (n : ℕ). text) (onto (paths_text gs) text)
 
 -- r is answered, and a and b stand in the lent slices
-abbrev pub FilledInto : List Float → List Geometry → List Float → List ℕ → RouteAnswer → List Float → List ℕ → Type 0
+abbrev pub FilledInto : List Float → List Geometry → List Float → List ℕ → Outcome (ℕ × ℕ) → List Float → List ℕ → Type 0
 FilledInto numbers gs records text r a b =
     (r ≡ filled_as numbers gs (length records) (length text))
     × (a ≡ records_filled numbers gs records (length text))
@@ -55,8 +50,8 @@ FilledInto numbers gs records text r a b =
 abbrev pub place_refusals : List Float → List Float → ℕ → ℕ → List Refusal
 place_refusals across down xRoom yRoom = refusal 7 (short xRoom across || short yRoom down) ∷ []
 
-abbrev pub placed_as : List Float → List Float → Float → Float → ℕ → ℕ → LaidOut
-placed_as across down w h xRoom yRoom = decide (place_refusals across down xRoom yRoom) Z.Refused (Z.Size (length across) w h)
+abbrev pub placed_as : List Float → List Float → Float → Float → ℕ → ℕ → Outcome (ℕ × Float × Float)
+placed_as across down w h xRoom yRoom = decide (place_refusals across down xRoom yRoom) number (values (length across, w, h))
 
 abbrev pub xs_placed : List Float → List Float → List Float → ℕ → List Float
 xs_placed across down xs yRoom = decide (place_refusals across down (length xs) yRoom) (λ (n : ℕ). xs) (onto across xs)
@@ -64,7 +59,7 @@ xs_placed across down xs yRoom = decide (place_refusals across down (length xs) 
 abbrev pub ys_placed : List Float → List Float → ℕ → List Float → List Float
 ys_placed across down xRoom ys = decide (place_refusals across down xRoom (length ys)) (λ (n : ℕ). ys) (onto down ys)
 
-abbrev pub PlacedInto : List Float → List Float → Float → Float → List Float → List Float → LaidOut → List Float → List Float → Type 0
+abbrev pub PlacedInto : List Float → List Float → Float → Float → List Float → List Float → Outcome (ℕ × Float × Float) → List Float → List Float → Type 0
 PlacedInto across down w h xs ys r a b =
     (r ≡ placed_as across down w h (length xs) (length ys))
     × (a ≡ xs_placed across down xs (length ys))
@@ -75,11 +70,11 @@ PlacedInto across down w h xs ys r a b =
 abbrev pub text_refusals : Bool → List ℕ → ℕ → List Refusal
 text_refusals writable txt room = refusal 10 (not writable) ∷ refusal 7 (short room txt) ∷ []
 
-abbrev pub written_of : Bool → List ℕ → ℕ → Written
-written_of writable txt room = decide (text_refusals writable txt room) N.Refused (N.Length (length txt))
+abbrev pub written_of : Bool → List ℕ → ℕ → Outcome ℕ
+written_of writable txt room = decide (text_refusals writable txt room) number (values (length txt))
 
 abbrev pub out_written : Bool → List ℕ → List ℕ → List ℕ
 out_written writable txt out = decide (text_refusals writable txt (length out)) (λ (n : ℕ). out) (onto txt out)
 
-abbrev pub WrittenInto : Bool → List ℕ → List ℕ → Written → List ℕ → Type 0
+abbrev pub WrittenInto : Bool → List ℕ → List ℕ → Outcome ℕ → List ℕ → Type 0
 WrittenInto writable txt out r b = (r ≡ written_of writable txt (length out)) × (b ≡ out_written writable txt out)

@@ -6,6 +6,7 @@ ghost use Rattle.std.specs.Prelude.{◌≡◌, ◌*◌, ◌≤◌, length, take}
 ghost use mathlib.Core.List.{flat_map};
 ghost use Rattle.laws.specs.Flat.{table};
 ghost use Rattle.laws.specs.Put.{put};
+ghost use Rattle.refusal.specs.Refused.{outcome};
 ghost use Rattle.records.specs.Records.{fields, decode_records};
 ghost use Rattle.records.specs.Back.{Small};
 ghost use Rattle.routing.specs.Sheets.{centre_at};
@@ -14,23 +15,9 @@ ghost use Rattle.shape.specs.Centres.{centres};
 ghost use Rattle.drawing_text.specs.Lines.{list_text, list_writable};
 ghost use Rattle.outputs.specs.Answers as F;
 
-use number::Written;
 use records::RECORD_NUMBERS;
+use refusal::Refusal;
 use totals::Totals;
-
-// The f64 numbers and the bytes written, or the number of the refusal.
-#[derive(Clone, Copy)]
-pub enum RouteAnswer {
-    Lengths(usize, usize),
-    Refused(u8),
-}
-
-// The number of states, width and height, or the number of the refusal.
-#[derive(Clone, Copy)]
-pub enum LaidOut {
-    Size(usize, f64, f64),
-    Refused(u8),
-}
 
 // ---- records and path text
 
@@ -46,36 +33,37 @@ fn write_records(drawing: &[f64], count: usize, records: &mut [f64])
     }
 }
 
-// The first `count` records of a drawing and their paths, where every number may be written and there is room for both.
+// The first `count` records of a drawing and their paths, where every number may be written and there is room for both:
+// the f64 numbers and the bytes written.
 pub fn write_route(
     drawing: &[f64],
     count: usize,
     records: &mut [f64],
     text: &mut [u8],
-) -> RouteAnswer
+) -> Result<(usize, usize), Refusal>
     requires { (20 * count ≤ length drawing.now) × F.AsWritten count drawing.now }
     ensures { let numbers = take (20 * count) drawing.now in
         let drawn = decode_records count drawing.now in
         let recordRoom = length records.old in
         let textRoom = length text.old in
-        (result ≡ F.filled_as numbers drawn recordRoom textRoom)
+        (outcome result ≡ F.filled_as numbers drawn recordRoom textRoom)
         × (records.new ≡ F.records_filled numbers drawn records.old textRoom)
         × (text.new ≡ F.text_filled numbers drawn recordRoom text.old) }
 {
     if !drawing_text::paths_writable(drawing, count) {
-        return RouteAnswer::Refused(10);
+        return Err(Refusal::Number);
     }
     let n = RECORD_NUMBERS * count;
     if records.len() < n {
-        return RouteAnswer::Refused(7);
+        return Err(Refusal::Room);
     }
     let need = drawing_text::put_paths(&mut text[..0], 0, drawing, count);
     if text.len() < need {
-        return RouteAnswer::Refused(7);
+        return Err(Refusal::Room);
     }
     write_records(drawing, count, records);
     let done = drawing_text::put_paths(text, 0, drawing, count);
-    RouteAnswer::Lengths(n, done)
+    Ok((n, done))
 }
 
 // ---- clutter
@@ -118,7 +106,7 @@ pub fn clutter_at(xs: &[f64], ys: &[f64], n: usize, drawing: &[f64], count: usiz
 
 // ---- centres
 
-// The centres, where there is room for both coordinates.
+// The centres, where there is room for both coordinates: how many states there are, width and height.
 pub fn write_layout(
     across: &[f64],
     down: &[f64],
@@ -126,29 +114,29 @@ pub fn write_layout(
     height: f64,
     xs: &mut [f64],
     ys: &mut [f64],
-) -> LaidOut
+) -> Result<(usize, f64, f64), Refusal>
     requires { length down.now ≡ length across.now }
     ensures { let xRoom = length xs.old in
         let yRoom = length ys.old in
-        (result ≡ F.placed_as across.now down.now width height xRoom yRoom)
+        (outcome result ≡ F.placed_as across.now down.now width height xRoom yRoom)
         × (xs.new ≡ F.xs_placed across.now down.now xs.old yRoom)
         × (ys.new ≡ F.ys_placed across.now down.now xRoom ys.old) }
 {
     let n = across.len();
     if xs.len() < n {
-        return LaidOut::Refused(7);
+        return Err(Refusal::Room);
     }
     if ys.len() < n {
-        return LaidOut::Refused(7);
+        return Err(Refusal::Room);
     }
     slices::copy(across, xs);
     slices::copy(down, ys);
-    LaidOut::Size(n, width, height)
+    Ok((n, width, height))
 }
 
 // ---- a listing
 
-// The listing of a drawing, where every number may be written and there is room for it.
+// The listing of a drawing, where every number may be written and there is room for it: the bytes written.
 pub fn write_listing(
     width: f64,
     height: f64,
@@ -159,7 +147,7 @@ pub fn write_listing(
     count: usize,
     totals: Totals,
     out: &mut [u8],
-) -> Written
+) -> Result<usize, Refusal>
     requires { (length ys.now ≡ length xs.now)
         × (length flags.now ≡ length xs.now)
         × (20 * count ≤ length drawing.now) }
@@ -167,11 +155,11 @@ pub fn write_listing(
         let nodes = centres xs.now ys.now in
         let text = list_text width height nodes flags.now drawn totals in
         let writable = list_writable width height nodes flags.now drawn totals in
-        (result ≡ F.written_of writable text (length out.old))
+        (outcome result ≡ F.written_of writable text (length out.old))
         × (out.new ≡ F.out_written writable text out.old) }
 {
     if !drawing_text::listing_writable(width, height, xs, ys, flags, drawing, count) {
-        return Written::Refused(10);
+        return Err(Refusal::Number);
     }
     let need = drawing_text::put_listing(
         &mut out[..0],
@@ -186,8 +174,7 @@ pub fn write_listing(
         totals,
     );
     if out.len() < need {
-        return Written::Refused(7);
+        return Err(Refusal::Room);
     }
-    let n = drawing_text::put_listing(out, 0, width, height, xs, ys, flags, drawing, count, totals);
-    Written::Length(n)
+    Ok(drawing_text::put_listing(out, 0, width, height, xs, ys, flags, drawing, count, totals))
 }

@@ -1,7 +1,7 @@
 -- What is read of a sheet is the plan of its graph; refusals one after another; what a layout answers. Assumes nothing.
 use Rattle.std.specs.Prelude.{◌≡◌, Bool, true, List, [], ℕ, zero, ◌≤◌, ◌<◌, ltb, length, Float}
 use Rattle.std.proofs.Math.Path.{refl, sym, ap}
-use Rattle.std.proofs.Common.{ap₂, ◌∙◌, lt-ltb, le-ltb, ne_eqb}
+use Rattle.std.proofs.Common.{ap₂, ◌∙◌, subst, arith, lt-ltb, le-ltb, ne_eqb}
 use Rattle.std.proofs.Math.Bool.{false, or-false}
 use Rattle.std.proofs.Math.ListN.{length-map}
 use Rattle.laws.specs.Put.{put}
@@ -11,7 +11,6 @@ use Rattle.sheet.specs.Sheet.{Graph, meaning, flags_of}
 use Rattle.sheet.specs.Refusals.{check_of}
 use Rattle.sheet.specs.Order.{check-refused, check_accepted}
 use Rattle.sheet.specs.declared.Limits.{Limits}
-use Rattle.sheet.specs.declared.Checked.TheVariants as C
 use Rattle.meaning.specs.Read.{sources, targets}
 use Rattle.graph.specs.Sizes.{widths, heights}
 use Rattle.routing.specs.Routing.{Frame}
@@ -19,12 +18,13 @@ use Rattle.routing.specs.Routing as Routing
 use Rattle.routing.specs.Sheets.{frame_of, sizes_of, SameFrame}
 use Rattle.routing_laws.specs.Frames.{frame_sheet, sizes_sheet}
 use Rattle.fit.specs.declared.Size.{Size}
-use Rattle.layout.specs.Layout.{Plan, many, plan_of, plan_by, layers, ring, is_dense, last_kind, layout_of}
+use Rattle.layout.specs.Layout.{Plan, many, plan_of, plan_by, layers, ring, is_dense, last_kind, kind_number, layout_of}
+use Rattle.layout.specs.declared.Kind.{Kind}
+use Rattle.layout.specs.declared.Kind.TheVariants.{Auto, Layered, Circular}
 use Rattle.layout.specs.Choice as Layout
 use Rattle.layout.specs.Alike.{same-plan}
 use Rattle.plan.specs.Measured.{beyond_at, any_beyond, measured, layout_beyond}
-use Rattle.plan.specs.declared.Planned.{Planned}
-use Rattle.plan.specs.declared.Planned.TheVariants as Planned
+use Rattle.refusal.specs.Refused.{Outcome, values, number}
 use Rattle.plan.specs.Planned.{measured_refusals, sheet_refusals, plan_refusals, laid_out, plan_answer, xs_by, ys_by}
 
 -- ---- what is read
@@ -40,39 +40,55 @@ plan-read g flags from to ws hs a b c d e = rw (a, b, c, d, e) (plan_sheet g)
 
 -- ---- what is answered and left under a list of refusals
 
-abbrev Left : List Refusal → ℕ → Graph → Planned → List Float → List Float → List Float → List Float → Type 0
+abbrev Left : List Refusal → ℕ → Graph → Outcome (ℕ × Float × Float) → List Float → List Float → List Float → List Float → Type 0
 Left rs kind g r xs ys xs' ys' = (r ≡ plan_answer rs kind g) × (xs' ≡ xs_by rs kind g xs) × (ys' ≡ ys_by rs kind g ys)
 
 left-refused : (rs : List Refusal) (n kind : ℕ) (g : Graph) (xs ys : List Float) → ((A : Type 0) (refuse : ℕ → A) (accept : A) → refuse n ≡ decide rs refuse accept)
-    → Left rs kind g (Planned.Refused n) xs ys xs ys
+    → Left rs kind g (number n) xs ys xs ys
 left-refused rs n kind g xs ys e =
-    (e Planned Planned.Refused (Planned.Size (length g.states) (laid_out kind g).width (laid_out kind g).height), e (List Float) (λ k. xs) (put xs 0 (laid_out kind g).xs), e (List Float) (λ k. ys) (put ys 0 (laid_out kind g).ys))
+    (e (Outcome (ℕ × Float × Float)) number (values (length g.states, (laid_out kind g).width, (laid_out kind g).height)), e (List Float) (λ k. xs) (put xs 0 (laid_out kind g).xs), e (List Float) (λ k. ys) (put ys 0 (laid_out kind g).ys))
 
-left_as : (rs qs : List Refusal) (kind : ℕ) (g : Graph) (r : Planned) (xs ys xs' ys' : List Float)
+left_as : (rs qs : List Refusal) (kind : ℕ) (g : Graph) (r : Outcome (ℕ × Float × Float)) (xs ys xs' ys' : List Float)
     → ((A : Type 0) (refuse : ℕ → A) (accept : A) → decide rs refuse accept ≡ decide qs refuse accept) → Left rs kind g r xs ys xs' ys' → Left qs kind g r xs ys xs' ys'
 left_as rs qs kind g r xs ys xs' ys' e h =
-    (h.0 ∙ e Planned Planned.Refused (Planned.Size (length g.states) (laid_out kind g).width (laid_out kind g).height), h.1 ∙ e (List Float) (λ k. xs) (put xs 0 (laid_out kind g).xs), h.2 ∙ e (List Float) (λ k. ys) (put ys 0 (laid_out kind g).ys))
+    (h.0 ∙ e (Outcome (ℕ × Float × Float)) number (values (length g.states, (laid_out kind g).width, (laid_out kind g).height)), h.1 ∙ e (List Float) (λ k. xs) (put xs 0 (laid_out kind g).xs), h.2 ∙ e (List Float) (λ k. ys) (put ys 0 (laid_out kind g).ys))
 
 module _ (m : Limits) (kind : ℕ) (s : List ℕ) (xs ys : List Float) where
   -- 11
-  pub plan_kind : last_kind < kind → Left (plan_refusals m kind s) kind (meaning s) (Planned.Refused 11) xs ys xs ys
+  pub plan_kind : last_kind < kind → Left (plan_refusals m kind s) kind (meaning s) (number 11) xs ys xs ys
   plan_kind h =
       left-refused (plan_refusals m kind s) 11 kind (meaning s) xs ys
       (λ A refuse accept. decide-first 11 (ltb last_kind kind) (sheet_refusals m kind s) refuse accept (lt-ltb last_kind kind h))
 
   -- 1 to 6
-  pub plan-refused : (n : ℕ) → kind ≤ last_kind → C.Refused n ≡ check_of m s → Left (plan_refusals m kind s) kind (meaning s) (Planned.Refused n) xs ys xs ys
+  plan-refused : (n : ℕ) → kind ≤ last_kind → number n ≡ check_of m s → Left (plan_refusals m kind s) kind (meaning s) (number n) xs ys xs ys
   plan-refused n h e =
       left-refused (plan_refusals m kind s) n kind (meaning s) xs ys
       (λ A refuse accept.
       check-refused m s (measured_refusals kind (meaning s)) refuse accept n e ∙ decide-rest 11 (ltb last_kind kind) (sheet_refusals m kind s) refuse accept (le-ltb last_kind kind h))
 
-  pub plan_accepted : (r : Planned) (xs' ys' : List Float) → kind ≤ last_kind → C.Accepted ≡ check_of m s
+  plan_accepted : (r : Outcome (ℕ × Float × Float)) (xs' ys' : List Float) → kind ≤ last_kind → values tt ≡ check_of m s
       → Left (measured_refusals kind (meaning s)) kind (meaning s) r xs ys xs' ys' → Left (plan_refusals m kind s) kind (meaning s) r xs ys xs' ys'
   plan_accepted r xs' ys' h e =
       left_as (measured_refusals kind (meaning s)) (plan_refusals m kind s) kind (meaning s) r xs ys xs' ys'
       (λ A refuse accept.
       check_accepted m s (measured_refusals kind (meaning s)) refuse accept e ∙ decide-rest 11 (ltb last_kind kind) (sheet_refusals m kind s) refuse accept (le-ltb last_kind kind h))
+
+-- the number of a kind is at most the last
+kind_most : (k : Kind) → kind_number k ≤ last_kind
+kind_most Auto = omega arith
+kind_most Layered = omega arith
+kind_most Circular = omega arith
+
+-- by a kind with the number that is given
+module _ (m : Limits) (k : Kind) {kind : ℕ} (e : kind_number k ≡ kind) (s : List ℕ) (xs ys : List Float) where
+  pub kind-refused : (n : ℕ) → number n ≡ check_of m s → Left (plan_refusals m kind s) kind (meaning s) (number n) xs ys xs ys
+  kind-refused n = plan-refused m kind s xs ys n (subst (λ (j : ℕ). j ≤ last_kind) e (kind_most k))
+
+  pub kind_accepted : (r : Outcome (ℕ × Float × Float)) (xs' ys' : List Float) → values tt ≡ check_of m s
+      → Left (measured_refusals (kind_number k) (meaning s)) (kind_number k) (meaning s) r xs ys xs' ys' → Left (plan_refusals m kind s) kind (meaning s) r xs ys xs' ys'
+  kind_accepted r xs' ys' a h =
+      subst (λ (j : ℕ). Left (plan_refusals m j s) j (meaning s) r xs ys xs' ys') e (plan_accepted m (kind_number k) s xs ys r xs' ys' (kind_most k) a h)
 
 -- ---- 9, step by step
 
@@ -116,14 +132,14 @@ same-refused kind g h e z = ap (layout_beyond kind) (same-plan g h e z)
 
 module _ (kind : ℕ) (g : Graph) {p : Plan} (e : p ≡ plan_of g) where
   -- refused by 9: nothing is stored
-  pub plan-beyond : (xs ys : List Float) → layout_beyond kind p ≡ true → Left (measured_refusals kind g) kind g (Planned.Refused 9) xs ys xs ys
+  pub plan-beyond : (xs ys : List Float) → layout_beyond kind p ≡ true → Left (measured_refusals kind g) kind g (number 9) xs ys xs ys
   plan-beyond xs ys b =
       left-refused (measured_refusals kind g) 9 kind g xs ys
       (λ A refuse accept. decide-first 9 (layout_beyond kind (plan_of g)) [] refuse accept (ap (layout_beyond kind) (sym e) ∙ b))
 
   -- laid out
   pub plan-size : (n : ℕ) (s : Size) (xs ys px py xs' ys' : List Float) → layout_beyond kind p ≡ false → n ≡ length (flags_of g) → Layout.Left (layout_of kind p) s px py
-      → xs' ≡ put xs 0 px → ys' ≡ put ys 0 py → Left (measured_refusals kind g) kind g (Planned.Size n s.width s.height) xs ys xs' ys'
+      → xs' ≡ put xs 0 px → ys' ≡ put ys 0 py → Left (measured_refusals kind g) kind g (values (n, s.width, s.height)) xs ys xs' ys'
   unfolding decide
   plan-size n s xs ys px py xs' ys' b m l ex ey =
       let t : layout_beyond kind (plan_of g) ≡ false = ap (layout_beyond kind) (sym e) ∙ b in

@@ -7,8 +7,7 @@ use Rattle.sheet.specs.Refusals.{refusals}
 use Rattle.sheet.specs.declared.Limits.{Limits}
 use Rattle.layout.specs.Layout.{plan_of, Layout, last_kind, layout_of}
 use Rattle.plan.specs.Measured.{layout_beyond}
-use Rattle.plan.specs.declared.Planned.{Planned}
-use Rattle.plan.specs.declared.Planned.TheVariants.{Size, Refused}
+use Rattle.refusal.specs.Refused.{Outcome, values, number}
 
 -- ---- the order: 'Order: 11, 1, 2, 4, 3, 5, 6, .. 9'
 
@@ -31,8 +30,8 @@ abbrev pub laid_out : ℕ → Graph → Layout
 laid_out kind g = layout_of kind (plan_of g)
 
 -- how many states there are, width and height; or the number of the refusal
-abbrev pub plan_answer : List Refusal → ℕ → Graph → Planned
-plan_answer rs kind g = decide rs Refused (Size (length g.states) (laid_out kind g).width (laid_out kind g).height)
+abbrev pub plan_answer : List Refusal → ℕ → Graph → Outcome (ℕ × Float × Float)
+plan_answer rs kind g = decide rs number (values (length g.states, (laid_out kind g).width, (laid_out kind g).height))
 
 -- the centres from the front on, and behind them what stood there; a refused call leaves all as before
 abbrev pub xs_by : List Refusal → ℕ → Graph → List Float → List Float
@@ -41,7 +40,7 @@ xs_by rs kind g xs = decide rs (λ n. xs) (put xs 0 (laid_out kind g).xs)
 abbrev pub ys_by : List Refusal → ℕ → Graph → List Float → List Float
 ys_by rs kind g ys = decide rs (λ n. ys) (put ys 0 (laid_out kind g).ys)
 
-abbrev pub planned : Limits → ℕ → List ℕ → Planned
+abbrev pub planned : Limits → ℕ → List ℕ → Outcome (ℕ × Float × Float)
 planned m kind s = plan_answer (plan_refusals m kind s) kind (meaning s)
 
 abbrev pub xs_planned : Limits → ℕ → List ℕ → List Float → List Float

@@ -2,25 +2,22 @@
 #![tactic(auto)]
 
 ghost use Rattle.std.specs.Prelude.{◌≡◌, ◌≤◌, length};
+ghost use Rattle.refusal.specs.Refused.{outcome};
 ghost use Rattle.sheet.specs.Sheet as G;
 ghost use Rattle.layout.specs.Layout as L;
 ghost use Rattle.layout.specs.Choice as C;
 ghost use Rattle.plan.specs.Measured as M;
 ghost use Rattle.plan.specs.Planned as S;
 
-use sheet::{Checked, Limits};
-
-// How many states there are, width and height of the drawing; or the number of the refusal.
-#[derive(Clone, Copy)]
-pub enum Planned {
-    Size(usize, f64, f64),
-    Refused(u8),
-}
+use layout::{Kind, Placement};
+use refusal::Refusal;
+use sheet::Limits;
 
 // ---- 9: "A layout is refused by 9 if any drawing it measures is." The slices are room for centres.
 
-// Whether the drawing in layers is refused.
-fn layers_beyond(
+// Whether the drawing of a placement is refused.
+fn placed_beyond(
+    placement: Placement,
     flags: &[u8],
     sources: &[usize],
     targets: &[usize],
@@ -32,28 +29,9 @@ fn layers_beyond(
     requires { C.GraphSlices flags.now sources.now targets.now widths.now heights.now px.old py.old }
     ensures { let plan = L.plan_by flags.now sources.now targets.now
         widths.now heights.now in
-        result ≡ M.beyond_at plan (L.layers plan) }
+        result ≡ M.beyond_at plan (L.placed placement plan) }
 {
-    layout::layers_at(flags, sources, targets, widths, heights, px, py);
-    beyond::beyond(flags, sources, targets, px, py)
-}
-
-// Whether the drawing on the ring is refused.
-fn ring_beyond(
-    flags: &[u8],
-    sources: &[usize],
-    targets: &[usize],
-    widths: &[f64],
-    heights: &[f64],
-    px: &mut [f64],
-    py: &mut [f64],
-) -> bool
-    requires { C.GraphSlices flags.now sources.now targets.now widths.now heights.now px.old py.old }
-    ensures { let plan = L.plan_by flags.now sources.now targets.now
-        widths.now heights.now in
-        result ≡ M.beyond_at plan (L.ring plan) }
-{
-    layout::ring_at(flags, widths, px, py);
+    layout::place(placement, flags, sources, targets, widths, heights, px, py);
     beyond::beyond(flags, sources, targets, px, py)
 }
 
@@ -73,17 +51,17 @@ fn auto_beyond(
         result ≡ M.any_beyond plan (M.measured 0 plan) }
 {
     if layout::dense(flags.len(), sources.len()) {
-        return ring_beyond(flags, sources, targets, widths, heights, px, py);
+        return placed_beyond(Placement::Ring, flags, sources, targets, widths, heights, px, py);
     }
-    if layers_beyond(flags, sources, targets, widths, heights, px, py) {
+    if placed_beyond(Placement::Layers, flags, sources, targets, widths, heights, px, py) {
         return true;
     }
-    ring_beyond(flags, sources, targets, widths, heights, px, py)
+    placed_beyond(Placement::Ring, flags, sources, targets, widths, heights, px, py)
 }
 
 // By kind.
 fn kind_beyond(
-    kind: u8,
+    kind: Kind,
     flags: &[u8],
     sources: &[usize],
     targets: &[usize],
@@ -92,24 +70,22 @@ fn kind_beyond(
     px: &mut [f64],
     py: &mut [f64],
 ) -> bool
-    requires { (kind ≤ L.last_kind)
-        × C.GraphSlices flags.now sources.now targets.now widths.now heights.now px.old py.old }
+    requires { C.GraphSlices flags.now sources.now targets.now widths.now heights.now px.old py.old }
     ensures { let plan = L.plan_by flags.now sources.now targets.now
         widths.now heights.now in
-        result ≡ M.any_beyond plan (M.measured kind plan) }
+        result ≡ M.any_beyond plan (M.measured (L.kind_number kind) plan) }
 {
     match kind {
-        0 => auto_beyond(flags, sources, targets, widths, heights, px, py),
-        1 => layers_beyond(flags, sources, targets, widths, heights, px, py),
-        2 => ring_beyond(flags, sources, targets, widths, heights, px, py),
-        _ => false,
+        Kind::Auto => auto_beyond(flags, sources, targets, widths, heights, px, py),
+        Kind::Layered => placed_beyond(Placement::Layers, flags, sources, targets, widths, heights, px, py),
+        Kind::Circular => placed_beyond(Placement::Ring, flags, sources, targets, widths, heights, px, py),
     }
 }
 
 // Whether a drawing that the layout measures is refused; without states nothing is drawn. Nothing is said of the
 // room for centres afterwards.
 fn layout_beyond(
-    kind: u8,
+    kind: Kind,
     flags: &[u8],
     sources: &[usize],
     targets: &[usize],
@@ -118,10 +94,10 @@ fn layout_beyond(
     px: &mut [f64],
     py: &mut [f64],
 ) -> bool
-    requires { C.LayoutSlices kind flags.now sources.now targets.now widths.now heights.now px.old py.old }
+    requires { C.LayoutSlices flags.now sources.now targets.now widths.now heights.now px.old py.old }
     ensures { let plan = L.plan_by flags.now sources.now targets.now
         widths.now heights.now in
-        result ≡ M.layout_beyond kind plan }
+        result ≡ M.layout_beyond (L.kind_number kind) plan }
 {
     if flags.len() == 0 {
         return false;
@@ -134,7 +110,7 @@ fn layout_beyond(
 // Lays out a sheet; what is read of it, and its centres, in the slices lent for that.
 fn plan_read(
     s: &[u8],
-    kind: u8,
+    kind: Kind,
     flags: &mut [u8],
     sources: &mut [usize],
     targets: &mut [usize],
@@ -144,10 +120,9 @@ fn plan_read(
     py: &mut [f64],
     xs: &mut [f64],
     ys: &mut [f64],
-) -> Planned
+) -> Result<(usize, f64, f64), Refusal>
     requires fact { let states = length (G.states_of s.now) in
-        (kind ≤ L.last_kind)
-        × (length flags.old ≡ states)
+        (length flags.old ≡ states)
         × (length px.old ≡ states)
         × (length py.old ≡ states)
         × (states ≤ 64)
@@ -160,35 +135,36 @@ fn plan_read(
         × (length heights.old ≡ arrows)
         × (arrows ≤ 256) }
     ensures { let graph = G.meaning s.now in
-        let refusals = S.measured_refusals kind graph in
-        (result ≡ S.plan_answer refusals kind graph)
-        × (xs.new ≡ S.xs_by refusals kind graph xs.old)
-        × (ys.new ≡ S.ys_by refusals kind graph ys.old) }
+        let number = L.kind_number kind in
+        let refusals = S.measured_refusals number graph in
+        (outcome result ≡ S.plan_answer refusals number graph)
+        × (xs.new ≡ S.xs_by refusals number graph xs.old)
+        × (ys.new ≡ S.ys_by refusals number graph ys.old) }
 {
     graph::read_graph(s, flags, sources, targets, widths, heights);
     if layout_beyond(kind, flags, sources, targets, widths, heights, px, py) {
-        return Planned::Refused(9);
+        return Err(Refusal::Bow);
     }
     let size = layout::layout(kind, flags, sources, targets, widths, heights, px, py);
     slices::copy(px, xs);
     slices::copy(py, ys);
-    Planned::Size(flags.len(), size.width, size.height)
+    Ok((flags.len(), size.width, size.height))
 }
 
 // Lays out a sheet of n states and m arrows.
-fn plan_sized(s: &[u8], kind: u8, n: usize, m: usize, xs: &mut [f64], ys: &mut [f64]) -> Planned
-    requires { (kind ≤ L.last_kind)
-        × (n ≡ length (G.states_of s.now))
+fn plan_sized(s: &[u8], kind: Kind, n: usize, m: usize, xs: &mut [f64], ys: &mut [f64]) -> Result<(usize, f64, f64), Refusal>
+    requires { (n ≡ length (G.states_of s.now))
         × (n ≤ 64)
         × (m ≡ length (G.arrows_of s.now))
         × (m ≤ 256)
         × (64 ≤ length xs.old)
         × (64 ≤ length ys.old) }
     ensures { let graph = G.meaning s.now in
-        let refusals = S.measured_refusals kind graph in
-        (result ≡ S.plan_answer refusals kind graph)
-        × (xs.new ≡ S.xs_by refusals kind graph xs.old)
-        × (ys.new ≡ S.ys_by refusals kind graph ys.old) }
+        let number = L.kind_number kind in
+        let refusals = S.measured_refusals number graph in
+        (outcome result ≡ S.plan_answer refusals number graph)
+        × (xs.new ≡ S.xs_by refusals number graph xs.old)
+        × (ys.new ≡ S.ys_by refusals number graph ys.old) }
 {
     let mut flags = [0u8; 64];
     let mut sources = [0usize; 256];
@@ -213,37 +189,32 @@ fn plan_sized(s: &[u8], kind: u8, n: usize, m: usize, xs: &mut [f64], ys: &mut [
 }
 
 // Lays out a sheet of at most 64 states and 256 arrows.
-fn plan_accepted(s: &[u8], kind: u8, xs: &mut [f64], ys: &mut [f64]) -> Planned
+fn plan_accepted(s: &[u8], kind: Kind, xs: &mut [f64], ys: &mut [f64]) -> Result<(usize, f64, f64), Refusal>
     requires { (length (G.states_of s.now) ≤ 64)
         × (length (G.arrows_of s.now) ≤ 256)
-        × (kind ≤ L.last_kind)
         × (64 ≤ length xs.old)
         × (64 ≤ length ys.old) }
     ensures { let graph = G.meaning s.now in
-        let refusals = S.measured_refusals kind graph in
-        (result ≡ S.plan_answer refusals kind graph)
-        × (xs.new ≡ S.xs_by refusals kind graph xs.old)
-        × (ys.new ≡ S.ys_by refusals kind graph ys.old) }
+        let number = L.kind_number kind in
+        let refusals = S.measured_refusals number graph in
+        (outcome result ≡ S.plan_answer refusals number graph)
+        × (xs.new ≡ S.xs_by refusals number graph xs.old)
+        × (ys.new ≡ S.ys_by refusals number graph ys.old) }
 {
     let n = meaning::state_count(s);
     let m = meaning::arrow_count(s);
     plan_sized(s, kind, n, m, xs, ys)
 }
 
-// Checks a sheet under the limits and lays it out by kind, 0 Auto, 1 Layered, 2 Circular: the centres from the front of
-// `xs` and `ys` on, or a refusal. There is room for 64 states and 256 arrows.
-pub fn plan(s: &[u8], m: Limits, kind: u8, xs: &mut [f64], ys: &mut [f64]) -> Planned
+// Checks a sheet under the limits and lays it out by the number of a kind: how many states there are, width and height,
+// and the centres from the front of `xs` and `ys` on, or a refusal. There is room for 64 states and 256 arrows.
+pub fn plan(s: &[u8], m: Limits, kind: u8, xs: &mut [f64], ys: &mut [f64]) -> Result<(usize, f64, f64), Refusal>
     requires { (m.states ≤ 64) × (m.arrows ≤ 256) × (64 ≤ length xs.old) × (64 ≤ length ys.old) }
-    ensures { (result ≡ S.planned m kind s.now)
+    ensures { (outcome result ≡ S.planned m kind s.now)
         × (xs.new ≡ S.xs_planned m kind s.now xs.old)
         × (ys.new ≡ S.ys_planned m kind s.now ys.old) }
 {
-    if layout::LAST_KIND < kind {
-        return Planned::Refused(11);
-    }
-    let c = sheet_check::check_within(s, m);
-    match c {
-        Checked::Refused(n) => Planned::Refused(n),
-        Checked::Accepted => plan_accepted(s, kind, xs, ys),
-    }
+    let kind = Kind::try_from(kind)?;
+    sheet_check::check_within(s, m)?;
+    plan_accepted(s, kind, xs, ys)
 }

@@ -12,7 +12,7 @@ use Rattle.text.specs.Utf8.{well_formed}
 use Rattle.sheet.specs.Sheet.{count, Graph, meaning}
 use Rattle.sheet.specs.Refusals.{wrong_length, long_line, large_arrow, over_limits, ill_line, ill_arrow, ill_formed, refusals, main_screen, AtMost, check_of}
 use Rattle.sheet.specs.Order.{accepted_exactly}
-use Rattle.sheet.specs.declared.Checked.TheVariants.{Accepted}
+use Rattle.refusal.specs.Refused.{values}
 use Rattle.sheet.specs.declared.Limits.{Limits}
 use Rattle.sheet.specs.Meaning.{no_arrow, arrow_at}
 
@@ -100,7 +100,7 @@ module _ (m : Limits) (g : Graph) (w : Within m g) where
   not_ill = none_all ill_arrow g.arrows no_arrow (λ k h. none_all ill_line (arrow_at g k).lines [] (λ j l. ap not (w.formed k j h l)))
 
 -- An accepted sheet is within the limits, and its lines are well-formed.
-pub within-limits : (m : Limits) (s : List ℕ) → check_of m s ≡ Accepted → Within m (meaning s)
+pub within-limits : (m : Limits) (s : List ℕ) → check_of m s ≡ values tt → Within m (meaning s)
 within-limits m s q = let c : Clear (refusals m s) = (accepted_exactly m s).0 q in graph-within m (meaning s) (c.none 5) (c.none 6)
 
 -- At the main screen: at most 64 states, 256 arrows, 8 lines an arrow and 96 bytes a line.
@@ -111,7 +111,7 @@ pub record OnMainScreen (g : Graph) : Type 0 where
   pub bytes : (k j : ℕ) → k < length g.arrows → j < length (arrow_at g k).lines → length (line_at g k j) ≤ 96
   pub formed : (k j : ℕ) → k < length g.arrows → j < length (arrow_at g k).lines → well_formed (line_at g k j) ≡ true
 
-pub on_main_screen : (m : Limits) (s : List ℕ) → AtMost m main_screen → check_of m s ≡ Accepted → OnMainScreen (meaning s)
+pub on_main_screen : (m : Limits) (s : List ℕ) → AtMost m main_screen → check_of m s ≡ values tt → OnMainScreen (meaning s)
 on_main_screen m s a q =
     let w = within-limits m s q in
     record {

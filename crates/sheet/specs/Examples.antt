@@ -11,8 +11,7 @@ use Rattle.sheet.specs.Sheet.{kind_of, byte_one, next, from_of, to_of, first_lin
 use Rattle.sheet.specs.Records.{u16, zeros, header, state_bytes, arrow_bytes, line_bytes, text_bytes}
 use Rattle.sheet.specs.Refusals.{repeats, is_set, wrong_record, wrong_bytes, indices, wrong_chains, large_arrow, over_limits, ill_arrow, ill_formed, main_screen, check_of}
 use Rattle.sheet.specs.Renumber.{Renumbered}
-use Rattle.sheet.specs.declared.Checked.{Checked}
-use Rattle.sheet.specs.declared.Checked.TheVariants.{Accepted, Refused}
+use Rattle.refusal.specs.Refused.{Outcome, values, number}
 
 -- ---- parts of sheets
 
@@ -56,9 +55,9 @@ abbrev pub lined : List ℕ → List ℕ → List ℕ
 lined p q = header 4 0 1 ++ arrow_bytes 0 0 0 2 ++ line_bytes 0 3 ++ text_bytes 4 p ++ text_bytes 0 q
 
 -- ---- answers
-abbrev pub checked_number : Checked → ℕ
-checked_number Accepted = 0
-checked_number (Refused n) = n
+abbrev pub checked_number : Outcome (Unit {0}) → ℕ
+checked_number (values a) = 0
+checked_number (number n) = n
 
 pub record Example : Type 0 where
   pub sheet : List ℕ

@@ -5,8 +5,7 @@ use Rattle.laws.specs.Loops.{any_up}
 use Rattle.laws.specs.Refusals.{Refusal, refusal, decide}
 use Rattle.text.specs.Utf8.{well_formed}
 use Rattle.sheet.specs.Sheet.{byte_at, version, count, kind_of, byte_one, Met, met, Arrow, Graph, meaning}
-use Rattle.sheet.specs.declared.Checked.{Checked}
-use Rattle.sheet.specs.declared.Checked.TheVariants.{Accepted, Refused}
+use Rattle.refusal.specs.Refused.{Outcome, values, number}
 use Rattle.sheet.specs.declared.Limits.{Limits}
 
 -- whether n is an element
@@ -127,5 +126,5 @@ refusals m s =
     ∷ []
 
 -- the answer of a check
-unfoldable pub check_of : Limits → List ℕ → Checked
-check_of m s = decide (refusals m s) Refused Accepted
+unfoldable pub check_of : Limits → List ℕ → Outcome (Unit {0})
+check_of m s = decide (refusals m s) number (values tt)

@@ -18,12 +18,6 @@ pub struct Limits {
 // The most bytes of a line, on every screen.
 pub const LONGEST_LINE: usize = 96;
 
-#[derive(Clone, Copy)]
-pub enum Checked {
-    Accepted,
-    Refused(u8),
-}
-
 // The main screen's limits, document 01's capacities.
 pub fn main_screen() -> Limits
     ensures { result ≡ R.main_screen }

@@ -9,8 +9,7 @@ use Rattle.laws.specs.Refusals.{Refusal, refusal, decide, decide-first, decide-r
 use Rattle.laws.specs.Lists.{get_d_any}
 use Rattle.sheet.specs.Refusals.{refusals, check_of}
 use Rattle.sheet.specs.declared.Limits.{Limits}
-use Rattle.sheet.specs.declared.Checked.{Checked}
-use Rattle.sheet.specs.declared.Checked.TheVariants.{Accepted, Refused}
+use Rattle.refusal.specs.Refused.{Outcome, values, number}
 use Rattle.sheet.specs.Sheet.{kind_of, chain_by, chain, next, count, Met, met_alone, met_arrow, met, first_state, first_arrow}
 use Rattle.sheet.specs.Chains.{chain-end, chain-cut, chain-step}
 use Rattle.sheet_check.specs.Walk.{Walked, walked, fresh, walk}
@@ -110,20 +109,20 @@ module _ (s : List ℕ) (m m' : List ℕ) (b : Bool) (f : ℕ) (e : f ≡ first_
   all_on = then_on s (flat_map (met_alone 1) (chain s (first_state s))) (met_arrow s) (first_arrow s) m m' b (rw e at q)
 
 -- ---- one refusal after another: what a check answers by the first of a list, by the rest of it, and at its end
-pub record Answers (rs : List Refusal) (x : Checked) : Type 0 where
-  pub is : x ≡ decide rs Refused Accepted
+pub record Answers (rs : List Refusal) (x : Outcome (Unit {0})) : Type 0 where
+  pub is : x ≡ decide rs number (values tt)
 
 module _ {n : ℕ} {b : Bool} {rs : List Refusal} where
-  pub refusal_given : b ≡ true → Answers (refusal n b ∷ rs) (Refused n)
-  refusal_given e = record { is = decide-first n b rs Refused Accepted e }
+  pub refusal_given : b ≡ true → Answers (refusal n b ∷ rs) (number n)
+  refusal_given e = record { is = decide-first n b rs number (values tt) e }
 
-  pub refusal-passed : {x : Checked} → b ≡ false → Answers rs x → Answers (refusal n b ∷ rs) x
-  refusal-passed e q = record { is = q.is ∙ decide-rest n b rs Refused Accepted e }
+  pub refusal-passed : {x : Outcome (Unit {0})} → b ≡ false → Answers rs x → Answers (refusal n b ∷ rs) x
+  refusal-passed e q = record { is = q.is ∙ decide-rest n b rs number (values tt) e }
 
-pub accepted : Answers [] Accepted
+pub accepted : Answers [] (values tt)
 unfolding decide
 accepted = record { is = refl }
 
-pub answers-check : (m : Limits) (s : List ℕ) (x : Checked) → Answers (refusals m s) x → x ≡ check_of m s
+pub answers-check : (m : Limits) (s : List ℕ) (x : Outcome (Unit {0})) → Answers (refusals m s) x → x ≡ check_of m s
 unfolding check_of
 answers-check m s x a = a.is

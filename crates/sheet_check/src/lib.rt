@@ -4,12 +4,14 @@
 ghost use Rattle.std.specs.Prelude.{◌≡◌, ◌+◌, ◌*◌, ◌<◌};
 ghost use mathlib.Core.List.{flat_map};
 ghost use Rattle.laws.specs.Loops.{any_up};
+ghost use Rattle.refusal.specs.Refused.{outcome};
 ghost use Rattle.sheet.specs.Sheet as S;
 ghost use Rattle.sheet.specs.Refusals as R;
 ghost use Rattle.sheet_check.specs.Walk as W;
 
 use reader::{next_of, record_of};
-use sheet::{Checked, Limits, word_at};
+use refusal::Refusal;
+use sheet::{Limits, word_at};
 
 // Meets record i in a chain of the kind: whether it may be met, and its mark.
 fn meet(s: &[u8], kind: usize, i: usize, marks: &mut [u8]) -> bool
@@ -168,27 +170,27 @@ fn wrong_length(s: &[u8]) -> bool
     s.len() != 16 * (1 + word_at(s, 2))
 }
 
-// Whether a sheet is one for a screen with the limits, or the number of the refusal.
-pub fn check_within(sheet: &[u8], m: Limits) -> Checked
-    ensures { result ≡ R.check_of m sheet.now }
+// Whether a sheet is one for a screen with the limits, or why not.
+pub fn check_within(sheet: &[u8], m: Limits) -> Result<(), Refusal>
+    ensures { outcome result ≡ R.check_of m sheet.now }
 {
     if wrong_length(sheet) {
-        return Checked::Refused(1);
+        return Err(Refusal::Length);
     }
     if word_at(sheet, 0) != 1 {
-        return Checked::Refused(2);
+        return Err(Refusal::Version);
     }
     if sheet::wrong_bytes(sheet) {
-        return Checked::Refused(4);
+        return Err(Refusal::Bytes);
     }
     if wrong_chains(sheet) {
-        return Checked::Refused(3);
+        return Err(Refusal::Chains);
     }
     if meaning::over_limits(sheet, m) {
-        return Checked::Refused(5);
+        return Err(Refusal::Limits);
     }
     if meaning::ill_formed(sheet) {
-        return Checked::Refused(6);
+        return Err(Refusal::Utf8);
     }
-    Checked::Accepted
+    Ok(())
 }

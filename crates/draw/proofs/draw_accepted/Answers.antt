@@ -11,7 +11,7 @@ use Rattle.sheet.specs.Sheet.{Graph, meaning}
 use Rattle.records.specs.Records.{fields}
 use Rattle.routing.specs.Sheets.{records_of}
 use Rattle.draw.specs.Drawn.{far_centre, bow_refusals}
-use Rattle.draw.specs.declared.Drawing.TheVariants.{Records, Refused}
+use Rattle.refusal.specs.Refused.{Outcome, values, number}
 use Rattle.laws.specs.Refusals.{decide-first, decide-rest}
 use Rattle.draw.proofs.draw_accepted.Goals as goal
 
@@ -22,7 +22,7 @@ returns-then-far_centre c = let g : Graph = meaning c.args.s.now in
     let l : List Float = c.args.buf.now in
     let b : Bool = far_centre (length g.states) xs ys in
     let e : b ≡ c.far_centre.result = ap (λ (n : ℕ). far_centre n xs ys) (sym c.state_count-n.ensures) ∙ sym c.far_centre.ensures in (
-      decide-first 8 b (bow_refusals g xs ys) Refused (Records (length (records_of g xs ys))) (e ∙ c.if-far_centre.true),
+      decide-first 8 b (bow_refusals g xs ys) number (values (length (records_of g xs ys))) (e ∙ c.if-far_centre.true),
       decide-first 8 b (bow_refusals g xs ys) (λ n. l) (put l 0 (flat_map fields (records_of g xs ys))) (e ∙ c.if-far_centre.true),
     )
 
@@ -40,6 +40,6 @@ returns c = let g : Graph = meaning c.args.s.now in
     let l : List Float = c.args.buf.now in
     let b : Bool = far_centre (length g.states) xs ys in
     let e : b ≡ c.far_centre.result = ap (λ (n : ℕ). far_centre n xs ys) (sym c.state_count-n.ensures) ∙ sym c.far_centre.ensures in (
-      c.draw_near.ensures.0 ∙ decide-rest 8 b (bow_refusals g xs ys) Refused (Records (length (records_of g xs ys))) (e ∙ c.if-far_centre.false),
+      c.draw_near.ensures.0 ∙ decide-rest 8 b (bow_refusals g xs ys) number (values (length (records_of g xs ys))) (e ∙ c.if-far_centre.false),
       c.draw_near.ensures.1 ∙ decide-rest 8 b (bow_refusals g xs ys) (λ n. l) (put l 0 (flat_map fields (records_of g xs ys))) (e ∙ c.if-far_centre.false),
     )

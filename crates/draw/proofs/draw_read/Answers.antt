@@ -27,8 +27,8 @@ returns-then-beyond c = let a = c.args in
     let r = c.read_graph.ensures in
     route-refused g a.xs.now a.ys.now (frame-read g a.xs.now a.ys.now _ _ _ r.0 r.1 r.2) a.buf.now (sym c.beyond.ensures ∙ c.if-beyond.true)
 
-pub geometry-n-requires : goal.geometry-n-requires
-geometry-n-requires c = let q = c.requires in
+pub geometry-requires : goal.geometry-requires
+geometry-requires c = let q = c.requires in
     let k = c.read_graph.auto in
     (omega (arith, k.flags, q.fact.0, q.fact.1), omega (arith, k.sources, q.fact_2.0, q.fact_2.4), omega (arith, k.sources, k.targets, q.fact_2.0, q.fact_2.1), omega (arith, k.sources, k.widths, q.fact_2.0, q.fact_2.2), omega (arith, k.sources, k.heights, q.fact_2.0, q.fact_2.3), omega (arith, k.sources, q.fact_2.0, q.fact_2.4, q.fact.2))
 
@@ -48,10 +48,10 @@ pub shape_of-heights : goal.shape_of-heights
 shape_of-heights c = c.read_graph.auto.heights
 
 pub shape_of-buf : goal.shape_of-buf
-shape_of-buf c = c.geometry-n.auto.records
+shape_of-buf c = c.geometry.auto.records
 
 pub returns : goal.returns
 returns c = let a = c.args in
     let g : Graph = meaning a.s.now in
     let r = c.read_graph.ensures in
-    route-drawn g a.xs.now a.ys.now (frame-read g a.xs.now a.ys.now _ _ _ r.0 r.1 r.2) (sizes-read g _ _ r.3 r.4) c.geometry-n.result a.buf.now _ (sym c.beyond.ensures ∙ c.if-beyond.false) c.geometry-n.ensures.0 c.geometry-n.ensures.1
+    route-drawn g a.xs.now a.ys.now (frame-read g a.xs.now a.ys.now _ _ _ r.0 r.1 r.2) (sizes-read g _ _ r.3 r.4) c.geometry.result a.buf.now _ (sym c.beyond.ensures ∙ c.if-beyond.false) c.geometry.ensures.0 c.geometry.ensures.1

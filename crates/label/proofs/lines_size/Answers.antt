@@ -2,7 +2,7 @@
 use Rattle.std.proofs.Common.{◌+◌, ◌-◌, length, get_or, take, drop, refl, ap, ◌∙◌, arith}
 use lib.Ieee.{Float}
 use Rattle.label.specs.declared.Measure.{Measure}
-use Rattle.label.specs.declared.Sized.TheVariants.{Size}
+use Rattle.refusal.specs.Refused.{Outcome, values}
 use Rattle.label.specs.Label.{block_height, cut}
 use Rattle.label.specs.Measuring.{measure_all, lines_size}
 use Rattle.label.proofs.Laws.{line_ill, line_well, lines_end, total-at}
@@ -56,6 +56,6 @@ block_height-requires c = tt
 pub returns : goal.returns
 returns c = let text = c.args.text.now in
     let lengths = c.args.lengths.now in
-    ap (Size c.loop-i.width) c.block_height.ensures
+    ap (λ (h : Float). values (c.loop-i.width, h)) c.block_height.ensures
     ∙ lines_end (block_height (length lengths)) c.loop-i.width text lengths c.loop-i.at c.loop-i.i (omega arith)
     ∙ c.loop-i.invariant.3

@@ -1,6 +1,6 @@
 -- `layout::layout` meets its contract.
 use native.Mathlib.Omega.{arith}
-use Rattle.layout.specs.Layout.{Plan, plan_by}
+use Rattle.layout.specs.Layout.{Plan, plan_by, kind_number}
 use mathlib.Core.Path.{refl, ◌∙◌}
 use Rattle.layout.specs.Laws.{left_none, left-chosen}
 use Rattle.layout.proofs.layout.Goals as goal
@@ -8,15 +8,15 @@ use Rattle.layout.proofs.layout.Goals as goal
 pub returns-then-flags-eq0 : goal.returns-then-flags-eq0
 returns-then-flags-eq0 c = let a = c.args in
     let p : Plan = plan_by a.flags.now a.sources.now a.targets.now a.widths.now a.heights.now in
-    left_none a.kind p _ a.xs.now a.ys.now c.if-flags-eq0.true (omega arith) (omega arith) refl refl
+    left_none (kind_number a.kind) p _ a.xs.now a.ys.now c.if-flags-eq0.true (omega arith) (omega arith) refl refl
 
 pub shape_of-xs : goal.shape_of-xs
-shape_of-xs c = c.fit_at.auto.xs ∙ c.choose.auto.xs
+shape_of-xs c = c.fit_at.auto.xs ∙ c.place.auto.xs ∙ c.choose-placement.auto.xs
 
 pub shape_of-ys : goal.shape_of-ys
-shape_of-ys c = c.fit_at.auto.ys ∙ c.choose.auto.ys
+shape_of-ys c = c.fit_at.auto.ys ∙ c.place.auto.ys ∙ c.choose-placement.auto.ys
 
 pub returns : goal.returns
 returns c = let a = c.args in
     let p : Plan = plan_by a.flags.now a.sources.now a.targets.now a.widths.now a.heights.now in
-    left-chosen a.kind p _ _ _ _ c.if-flags-eq0.false c.choose.ensures c.fit_at.ensures
+    left-chosen (kind_number a.kind) p _ _ _ _ c.if-flags-eq0.false (c.place.ensures ∙ c.choose-placement.ensures) c.fit_at.ensures

@@ -19,16 +19,16 @@ pub overflow_add-result : goal.overflow_add-result
 overflow_add-result c = let a = c.args in
     let p : Plan = plan_by a.flags.now a.sources.now a.targets.now a.widths.now a.heights.now in
     let m : clutter_at p (ring p) ≤ 65792 = clutter_most p (ring p) (omega (arith, c.requires.1.0, zip_length ends_by a.sources.now a.targets.now c.requires.1.1)) in
-    omega (arith, c.ring_clutter-ring.ensures)
+    omega (arith, c.placed_clutter-ring.ensures)
 
 pub shape_of-xs : goal.shape_of-xs
-shape_of-xs c = c.ring_clutter-ring.auto.xs ∙ c.layers_clutter-layers.auto.xs
+shape_of-xs c = c.placed_clutter-ring.auto.xs ∙ c.placed_clutter-layers.auto.xs
 
 pub shape_of-ys : goal.shape_of-ys
-shape_of-ys c = c.ring_clutter-ring.auto.ys ∙ c.layers_clutter-layers.auto.ys
+shape_of-ys c = c.placed_clutter-ring.auto.ys ∙ c.placed_clutter-layers.auto.ys
 
 pub returns : goal.returns
 returns c = let a = c.args in
     let p : Plan = plan_by a.flags.now a.sources.now a.targets.now a.widths.now a.heights.now in
     let d : is_dense p ≡ false = sym (dense-slices a.flags.now a.sources.now a.targets.now a.widths.now a.heights.now c.requires.1.1) ∙ sym c.dense.ensures ∙ c.if-dense.false in
-    ring_tangled p c.ring_clutter-ring.result c.layers_clutter-layers.result d c.ring_clutter-ring.ensures c.layers_clutter-layers.ensures
+    ring_tangled p c.placed_clutter-ring.result c.placed_clutter-layers.result d c.placed_clutter-ring.ensures c.placed_clutter-layers.ensures

@@ -15,4 +15,4 @@ pub returns-then-out-need : goal.returns-then-out-need
 returns-then-out-need c = list_7 (list_writable c.args.width c.args.height (centres c.args.xs.now c.args.ys.now) c.args.flags.now (decode_records c.args.count c.args.drawing.now) c.args.totals) (list_text c.args.width c.args.height (centres c.args.xs.now c.args.ys.now) c.args.flags.now (decode_records c.args.count c.args.drawing.now) c.args.totals) c.args.out.now c.listing_writable.result (c.listing_writable.ensures c.args.totals) (ap not c.if-not-listing_writable.false) _ c.put_listing-need.result c.put_listing-need.ensures (omega arith) c.if-out-need.true
 
 pub returns : goal.returns
-returns c = list_done (list_writable c.args.width c.args.height (centres c.args.xs.now c.args.ys.now) c.args.flags.now (decode_records c.args.count c.args.drawing.now) c.args.totals) (list_text c.args.width c.args.height (centres c.args.xs.now c.args.ys.now) c.args.flags.now (decode_records c.args.count c.args.drawing.now) c.args.totals) c.args.out.now c.listing_writable.result (c.listing_writable.ensures c.args.totals) (ap not c.if-not-listing_writable.false) _ c.put_listing-need.result c.put_listing-need.ensures (omega arith) c.put_listing-n.result _ c.if-out-need.false c.put_listing-n.ensures
+returns c = list_done (list_writable c.args.width c.args.height (centres c.args.xs.now c.args.ys.now) c.args.flags.now (decode_records c.args.count c.args.drawing.now) c.args.totals) (list_text c.args.width c.args.height (centres c.args.xs.now c.args.ys.now) c.args.flags.now (decode_records c.args.count c.args.drawing.now) c.args.totals) c.args.out.now c.listing_writable.result (c.listing_writable.ensures c.args.totals) (ap not c.if-not-listing_writable.false) _ c.put_listing-need.result c.put_listing-need.ensures (omega arith) c.put_listing.result _ c.if-out-need.false c.put_listing.ensures

@@ -1,41 +1,38 @@
 -- `plan::kind_beyond` meets its contract.
-use native.Mathlib.Omega.{arith}
-use Rattle.layout.specs.Layout.{Plan, plan_by}
+use mathlib.Core.Path.{ap}
+use Rattle.layout.specs.Layout.{Plan, plan_by, kind_number}
 use Rattle.plan.specs.Laws.{beyond_auto, beyond-layers, beyond-ring}
 use Rattle.plan.proofs.kind_beyond.Goals as goal
 
-pub shape_of-px-in-0 : goal.shape_of-px-in-0
-shape_of-px-in-0 c = c.auto_beyond.auto.px
+pub shape_of-px-in-Auto : goal.shape_of-px-in-Auto
+shape_of-px-in-Auto c = c.auto_beyond.auto.px
 
-pub shape_of-py-in-0 : goal.shape_of-py-in-0
-shape_of-py-in-0 c = c.auto_beyond.auto.py
+pub shape_of-py-in-Auto : goal.shape_of-py-in-Auto
+shape_of-py-in-Auto c = c.auto_beyond.auto.py
 
-pub returns-in-0 : goal.returns-in-0
-returns-in-0 c = let a = c.args in
+pub returns-in-Auto : goal.returns-in-Auto
+returns-in-Auto c = let a = c.args in
     let p : Plan = plan_by a.flags.now a.sources.now a.targets.now a.widths.now a.heights.now in
-    beyond_auto p _ a.kind c.in-0.is c.auto_beyond.ensures
+    beyond_auto p _ (kind_number a.kind) (ap kind_number c.in-Auto.is) c.auto_beyond.ensures
 
-pub shape_of-px-in-1 : goal.shape_of-px-in-1
-shape_of-px-in-1 c = c.layers_beyond.auto.px
+pub shape_of-px-in-Layered : goal.shape_of-px-in-Layered
+shape_of-px-in-Layered c = c.placed_beyond.auto.px
 
-pub shape_of-py-in-1 : goal.shape_of-py-in-1
-shape_of-py-in-1 c = c.layers_beyond.auto.py
+pub shape_of-py-in-Layered : goal.shape_of-py-in-Layered
+shape_of-py-in-Layered c = c.placed_beyond.auto.py
 
-pub returns-in-1 : goal.returns-in-1
-returns-in-1 c = let a = c.args in
+pub returns-in-Layered : goal.returns-in-Layered
+returns-in-Layered c = let a = c.args in
     let p : Plan = plan_by a.flags.now a.sources.now a.targets.now a.widths.now a.heights.now in
-    beyond-layers p _ a.kind c.in-1.is c.layers_beyond.ensures
+    beyond-layers p _ (kind_number a.kind) (ap kind_number c.in-Layered.is) c.placed_beyond.ensures
 
-pub shape_of-px-in-2 : goal.shape_of-px-in-2
-shape_of-px-in-2 c = c.ring_beyond.auto.px
+pub shape_of-px-in-Circular : goal.shape_of-px-in-Circular
+shape_of-px-in-Circular c = c.placed_beyond-in-Circular.auto.px
 
-pub shape_of-py-in-2 : goal.shape_of-py-in-2
-shape_of-py-in-2 c = c.ring_beyond.auto.py
+pub shape_of-py-in-Circular : goal.shape_of-py-in-Circular
+shape_of-py-in-Circular c = c.placed_beyond-in-Circular.auto.py
 
-pub returns-in-2 : goal.returns-in-2
-returns-in-2 c = let a = c.args in
+pub returns-in-Circular : goal.returns-in-Circular
+returns-in-Circular c = let a = c.args in
     let p : Plan = plan_by a.flags.now a.sources.now a.targets.now a.widths.now a.heights.now in
-    beyond-ring p _ a.kind c.in-2.is c.ring_beyond.ensures
-
-pub returns-in_default : goal.returns-in_default
-returns-in_default c = absurd (omega (arith, c.in_default.in_default-own.rest, c.requires.0))
+    beyond-ring p _ (kind_number a.kind) (ap kind_number c.in-Circular.is) c.placed_beyond-in-Circular.ensures

@@ -27,8 +27,8 @@ slice_bounds-plan_read-end-7 c = sym (length-take-le _ _ (omega arith))
 
 pub plan_read-requires : goal.plan_read-requires
 plan_read-requires c = let q = c.requires in record {
-  fact = (q.0, length-take-le _ _ (omega (arith, q.2)) ∙ q.1, length-take-le _ _ (omega (arith, q.2)) ∙ q.1, length-take-le _ _ (omega (arith, q.2)) ∙ q.1, omega (arith, q.1, q.2), q.5, q.6);
-  fact_2 = (length-take-le _ _ (omega (arith, q.4)) ∙ q.3, length-take-le _ _ (omega (arith, q.4)) ∙ q.3, length-take-le _ _ (omega (arith, q.4)) ∙ q.3, length-take-le _ _ (omega (arith, q.4)) ∙ q.3, omega (arith, q.3, q.4));
+  fact = (length-take-le _ _ (omega (arith, q.1)) ∙ q.0, length-take-le _ _ (omega (arith, q.1)) ∙ q.0, length-take-le _ _ (omega (arith, q.1)) ∙ q.0, omega (arith, q.0, q.1), q.4, q.5);
+  fact_2 = (length-take-le _ _ (omega (arith, q.3)) ∙ q.2, length-take-le _ _ (omega (arith, q.3)) ∙ q.2, length-take-le _ _ (omega (arith, q.3)) ∙ q.2, length-take-le _ _ (omega (arith, q.3)) ∙ q.2, omega (arith, q.2, q.3));
 }
 
 pub shape_of-xs : goal.shape_of-xs
