@@ -3,6 +3,7 @@
 
 ghost use Rattle.std.specs.Prelude.{◌≡◌, cond, true, ◌*◌, ◌≤◌, length};
 ghost use mathlib.Core.List.{[], ◌∷◌, map, flat_map};
+ghost use Rattle.laws.specs.Writers.{as_usize};
 ghost use Rattle.text.specs.Writing.{Adds};
 ghost use Rattle.svg.specs.Paths.{curve_path, path_writable};
 ghost use Rattle.shape.specs.Centres.{centres};
@@ -38,6 +39,20 @@ pub fn put_paths(w: &mut Writer, records: &[f64], count: usize)
         let g = records::geometry_at(records, k);
         put_path_line(w, g);
     }
+}
+
+// How many bytes they have.
+pub fn paths_length(records: &[f64], count: usize) -> usize
+    requires { 20 * count ≤ length records.now }
+    ensures { let drawn = decode_records count records.now in
+        result ≡ as_usize (length (S.paths_text drawn)) }
+{
+    let mut w = Writer {
+        out: &mut [],
+        at: 0,
+    };
+    put_paths(&mut w, records, count);
+    w.at
 }
 
 fn path_ok(g: Geometry) -> bool
@@ -288,6 +303,33 @@ pub fn put_listing(
     put_records(w, records, count);
     put_starts(w, xs, ys, flags);
     put_total_line(w, totals);
+}
+
+// How many bytes the listing has.
+pub fn listing_length(
+    width: f64,
+    height: f64,
+    xs: &[f64],
+    ys: &[f64],
+    flags: &[u8],
+    records: &[f64],
+    count: usize,
+    totals: Totals,
+) -> usize
+    requires { (length ys.now ≡ length xs.now)
+        × (length flags.now ≡ length xs.now)
+        × (20 * count ≤ length records.now) }
+    ensures { let drawn = decode_records count records.now in
+        let nodes = centres xs.now ys.now in
+        let text = S.list_text width height nodes flags.now drawn totals in
+        result ≡ as_usize (length text) }
+{
+    let mut w = Writer {
+        out: &mut [],
+        at: 0,
+    };
+    put_listing(&mut w, width, height, xs, ys, flags, records, count, totals);
+    w.at
 }
 
 // ---- whether the listing's numbers may be written
