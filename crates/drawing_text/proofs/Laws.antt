@@ -2,12 +2,13 @@
 use mathlib.Core.Path.{◌≡◌, sym, ap, ◌∙◌}
 use mathlib.Core.Bool.{Bool, true, false, not, ◌&&◌}
 use mathlib.Core.List.{List, [], ◌∷◌, ◌++◌, append_assoc, append-nil, map, flat_map}
-use Prim.Native.Nat.{ℕ, ◌+◌, ◌-◌, ◌≤◌, ◌<◌}
+use Prim.Native.Nat.{ℕ, ◌+◌, ◌≤◌, ◌<◌}
 use native.Mathlib.Numerals.{add-one}
 use borrow.Author.Tests.{not-true, not-false}
 use lib.Ieee.{Float}
 use lib.ListN.{length, drop}
-use Rattle.laws.specs.Writers.{Wrote, wrote_as, wrote-more}
+use Rattle.text.specs.declared.Writer.{Writer}
+use Rattle.text.specs.Writing.{Adds, adds_as, adds-more}
 use Rattle.laws.specs.Zip.{zip_past}
 use Rattle.laws.specs.Every.{every, every_join}
 use Rattle.laws.specs.Joined.{flat_join}
@@ -31,44 +32,44 @@ unfolding states_from
 states_none xs ys k h i = rw (zip_past vec xs ys k h i)
 
 -- ---- a field is written after a blank
-pub wrote_field : {l m out : List ℕ} {at p q : ℕ} (f : Field) → Wrote l at m p (32 ∷ []) → Wrote m p out q (field_text f) → Wrote l at out q (fields_text (f ∷ []))
+pub adds_field : {u v w : Writer} (f : Field) → Adds u v (32 ∷ []) → Adds v w (field_text f) → Adds u w (fields_text (f ∷ []))
 unfolding fields_text flat_map
-wrote_field f u v = wrote_as (sym (append-nil (32 ∷ field_text f))) (wrote-more u v)
+adds_field f u v = adds_as (sym (append-nil (32 ∷ field_text f))) (adds-more u v)
 
-pub wrote-fields : {l m out : List ℕ} {at p q : ℕ} (fs gs : List Field) → Wrote l at m p (fields_text fs) → Wrote m p out q (fields_text gs) → Wrote l at out q (fields_text (fs ++ gs))
+pub adds-fields : {u v w : Writer} (fs gs : List Field) → Adds u v (fields_text fs) → Adds v w (fields_text gs) → Adds u w (fields_text (fs ++ gs))
 unfolding fields_text
-wrote-fields fs gs u v = wrote_as (sym (flat_join (λ (f : Field). 32 ∷ field_text f) fs gs)) (wrote-more u v)
+adds-fields fs gs u v = adds_as (sym (flat_join (λ (f : Field). 32 ∷ field_text f) fs gs)) (adds-more u v)
 
 -- ---- a line: its name, some fields more, its newline
-pub wrote-name : {l m out : List ℕ} {at p q : ℕ} (w : List ℕ) (fs : List Field) → Wrote l at m p w → Wrote m p out q (fields_text fs) → Wrote l at out q (body_text (named w fs))
+pub adds-name : {u v x : Writer} (w : List ℕ) (fs : List Field) → Adds u v w → Adds v x (fields_text fs) → Adds u x (body_text (named w fs))
 unfolding body_text
-wrote-name w fs u v = wrote-more u v
+adds-name w fs u v = adds-more u v
 
-pub wrote_body : {l m out : List ℕ} {at p q : ℕ} (x : TextLine) (gs : List Field) → Wrote l at m p (body_text x) → Wrote m p out q (fields_text gs)
-    → Wrote l at out q (body_text (named x.name (x.fields ++ gs)))
+pub adds_body : {u v w : Writer} (x : TextLine) (gs : List Field) → Adds u v (body_text x) → Adds v w (fields_text gs)
+    → Adds u w (body_text (named x.name (x.fields ++ gs)))
 unfolding body_text fields_text
-wrote_body x gs u v =
-    wrote_as
+adds_body x gs u v =
+    adds_as
     (append_assoc x.name (fields_text x.fields) (fields_text gs)
     ∙ ap (λ (t : List ℕ). x.name ++ t) (sym (flat_join (λ (f : Field). 32 ∷ field_text f) x.fields gs)))
-    (wrote-more u v)
+    (adds-more u v)
 
-pub wrote-line : {l m out : List ℕ} {at p q : ℕ} (x : TextLine) → Wrote l at m p (body_text x) → Wrote m p out q (10 ∷ []) → Wrote l at out q (line_text x)
+pub adds-line : {u v w : Writer} (x : TextLine) → Adds u v (body_text x) → Adds v w (10 ∷ []) → Adds u w (line_text x)
 unfolding line_text
-wrote-line x u v = wrote-more u v
+adds-line x u v = adds-more u v
 
 -- lines in a row
-pub wrote-last : {l out : List ℕ} {at q : ℕ} (x : TextLine) → Wrote l at out q (line_text x) → Wrote l at out q (lines_text (x ∷ []))
+pub adds-last : {u w : Writer} (x : TextLine) → Adds u w (line_text x) → Adds u w (lines_text (x ∷ []))
 unfolding lines_text flat_map
-wrote-last x u = wrote_as (sym (append-nil (line_text x))) u
+adds-last x u = adds_as (sym (append-nil (line_text x))) u
 
-pub wrote_lines : {l m out : List ℕ} {at p q : ℕ} (x : TextLine) (xs : List TextLine) → Wrote l at m p (line_text x) → Wrote m p out q (lines_text xs) → Wrote l at out q (lines_text (x ∷ xs))
+pub adds_lines : {u v w : Writer} (x : TextLine) (xs : List TextLine) → Adds u v (line_text x) → Adds v w (lines_text xs) → Adds u w (lines_text (x ∷ xs))
 unfolding lines_text flat_map
-wrote_lines x xs u v = wrote-more u v
+adds_lines x xs u v = adds-more u v
 
-pub wrote-both : {l m out : List ℕ} {at p q : ℕ} (xs ys : List TextLine) → Wrote l at m p (lines_text xs) → Wrote m p out q (lines_text ys) → Wrote l at out q (lines_text (xs ++ ys))
+pub adds-both : {u v w : Writer} (xs ys : List TextLine) → Adds u v (lines_text xs) → Adds v w (lines_text ys) → Adds u w (lines_text (xs ++ ys))
 unfolding lines_text
-wrote-both xs ys u v = wrote_as (sym (flat_join line_text xs ys)) (wrote-more u v)
+adds-both xs ys u v = adds_as (sym (flat_join line_text xs ys)) (adds-more u v)
 
 -- ---- a test, and then another
 -- the same where r is what the code found, and its negation was tested

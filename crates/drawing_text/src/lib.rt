@@ -1,10 +1,10 @@
 // The text of a drawing: the paths of its records, and its listing.
-// A writer stores what fits and always advances: on an empty slice it measures.
 #![tactic(auto)]
 
 ghost use Rattle.std.specs.Prelude.{◌≡◌, cond, true, ◌*◌, ◌≤◌, length};
 ghost use mathlib.Core.List.{[], ◌∷◌, map, flat_map};
-ghost use Rattle.laws.specs.Writers.{Wrote};
+ghost use Rattle.laws.specs.Writers.{as_usize};
+ghost use Rattle.text.specs.Writing.{Adds};
 ghost use Rattle.svg.specs.Paths.{curve_path, path_writable};
 ghost use Rattle.shape.specs.Centres.{centres};
 ghost use Rattle.sheet.specs.Meaning.{is_start};
@@ -14,31 +14,45 @@ ghost use Rattle.drawing_text.specs.Lines as S;
 
 use label_spots::{Anchor, Geometry};
 use shape::{Curve, NODE_RADIUS, V};
+use text::Writer;
 use totals::Totals;
 
 // ---- path text
 
 // A record's path, ended by a newline.
-fn put_path_line(out: &mut [u8], at: usize, g: Geometry) -> usize
-    ensures { Wrote out.old at out.new result (S.path_line (curve_path g.curve)) }
+fn put_path_line(w: &mut Writer, g: Geometry)
+    ensures { Adds w.old w.new (S.path_line (curve_path g.curve)) }
 {
     let curve = g.curve;
-    let newline = svg::put_path(out, at, curve);
-    text::put_byte(out, newline, b'\n')
+    svg::put_path(w, curve);
+    w.byte(b'\n');
 }
 
 // The paths of the first `count` records, each ended by a newline.
-pub fn put_paths(out: &mut [u8], at: usize, records: &[f64], count: usize) -> usize
+pub fn put_paths(w: &mut Writer, records: &[f64], count: usize)
     requires { 20 * count ≤ length records.now }
     ensures { let drawn = decode_records count records.now in
-        Wrote out.old at out.new result (S.paths_text drawn) }
+        Adds w.old w.new (S.paths_text drawn) }
 {
-    let mut next = at;
+    prove!(w.at <= usize::MAX);
     for k in 0..count {
         let g = records::geometry_at(records, k);
-        next = put_path_line(out, next, g);
+        put_path_line(w, g);
     }
-    next
+}
+
+// How many bytes they have.
+pub fn paths_length(records: &[f64], count: usize) -> usize
+    requires { 20 * count ≤ length records.now }
+    ensures { let drawn = decode_records count records.now in
+        result ≡ as_usize (length (S.paths_text drawn)) }
+{
+    let mut w = Writer {
+        out: &mut [],
+        at: 0,
+    };
+    put_paths(&mut w, records, count);
+    w.at
 }
 
 fn path_ok(g: Geometry) -> bool
@@ -65,126 +79,126 @@ pub fn paths_writable(records: &[f64], count: usize) -> bool
 // ---- the listing's fields
 
 // A blank and a written number.
-fn put_field(out: &mut [u8], at: usize, v: f64) -> usize
-    ensures { Wrote out.old at out.new result (S.fields_text (S.float_field v ∷ [])) }
+fn put_field(w: &mut Writer, v: f64)
+    ensures { Adds w.old w.new (S.fields_text (S.float_field v ∷ [])) }
 {
-    let next = text::put_byte(out, at, b' ');
-    number::put_num(out, next, v)
+    w.byte(b' ');
+    number::put_num(w, v);
 }
 
-fn put_point(out: &mut [u8], at: usize, p: V) -> usize
-    ensures { Wrote out.old at out.new result (S.fields_text (S.point_fields p)) }
+fn put_point(w: &mut Writer, p: V)
+    ensures { Adds w.old w.new (S.fields_text (S.point_fields p)) }
 {
-    let next = put_field(out, at, p.x);
-    put_field(out, next, p.y)
+    put_field(w, p.x);
+    put_field(w, p.y);
 }
 
 // A blank and a whole number.
-fn put_whole(out: &mut [u8], at: usize, n: usize) -> usize
-    ensures { Wrote out.old at out.new result (S.fields_text (S.whole_field n ∷ [])) }
+fn put_whole(w: &mut Writer, n: usize)
+    ensures { Adds w.old w.new (S.fields_text (S.whole_field n ∷ [])) }
 {
-    let next = text::put_byte(out, at, b' ');
-    text::put_number(out, next, n as u64)
+    w.byte(b' ');
+    w.number(n as u64);
 }
 
 // A word and a whole number.
-fn put_titled(out: &mut [u8], at: usize, word: &[u8], k: usize) -> usize
+fn put_titled(w: &mut Writer, word: &[u8], k: usize)
     ensures { let line = S.named word.now (S.whole_field k ∷ []) in
-        Wrote out.old at out.new result (S.body_text line) }
+        Adds w.old w.new (S.body_text line) }
 {
-    let next = text::put_bytes(out, at, word);
-    put_whole(out, next, k)
+    w.bytes(word);
+    put_whole(w, k);
 }
 
-fn put_anchor(out: &mut [u8], at: usize, anchor: Anchor) -> usize
-    ensures { Wrote out.old at out.new result (S.fields_text (S.word_field (S.anchor_word anchor) ∷ [])) }
+fn put_anchor(w: &mut Writer, anchor: Anchor)
+    ensures { Adds w.old w.new (S.fields_text (S.word_field (S.anchor_word anchor) ∷ [])) }
 {
     match anchor {
-        Anchor::Start => text::put_bytes(out, at, b" start"),
-        Anchor::Middle => text::put_bytes(out, at, b" middle"),
-        Anchor::End => text::put_bytes(out, at, b" end"),
+        Anchor::Start => w.bytes(b" start"),
+        Anchor::Middle => w.bytes(b" middle"),
+        Anchor::End => w.bytes(b" end"),
     }
 }
 
 // A blank and a path.
-fn put_curve(out: &mut [u8], at: usize, curve: Curve) -> usize
-    ensures { Wrote out.old at out.new result (S.fields_text (S.path_field (curve_path curve) ∷ [])) }
+fn put_curve(w: &mut Writer, curve: Curve)
+    ensures { Adds w.old w.new (S.fields_text (S.path_field (curve_path curve) ∷ [])) }
 {
-    let next = text::put_byte(out, at, b' ');
-    svg::put_path(out, next, curve)
+    w.byte(b' ');
+    svg::put_path(w, curve);
 }
 
 // A blank and an arrowhead.
-fn put_head(out: &mut [u8], at: usize, tip: V, angle: f64) -> usize
-    ensures { Wrote out.old at out.new result (S.fields_text (S.head_field tip angle ∷ [])) }
+fn put_head(w: &mut Writer, tip: V, angle: f64)
+    ensures { Adds w.old w.new (S.fields_text (S.head_field tip angle ∷ [])) }
 {
-    let next = text::put_byte(out, at, b' ');
-    svg::put_arrowhead(out, next, tip, angle)
+    w.byte(b' ');
+    svg::put_arrowhead(w, tip, angle);
 }
 
 // ---- the listing's lines
 
-fn put_size_line(out: &mut [u8], at: usize, width: f64, height: f64) -> usize
-    ensures { Wrote out.old at out.new result (S.line_text (S.size_line width height)) }
+fn put_size_line(w: &mut Writer, width: f64, height: f64)
+    ensures { Adds w.old w.new (S.line_text (S.size_line width height)) }
 {
-    let across = text::put_bytes(out, at, b"size");
-    let down = put_field(out, across, width);
-    let end = put_field(out, down, height);
-    text::put_byte(out, end, b'\n')
+    w.bytes(b"size");
+    put_field(w, width);
+    put_field(w, height);
+    w.byte(b'\n');
 }
 
-fn put_state_line(out: &mut [u8], at: usize, k: usize, c: V) -> usize
-    ensures { Wrote out.old at out.new result (S.line_text (S.state_line (S.listed_state k c))) }
+fn put_state_line(w: &mut Writer, k: usize, c: V)
+    ensures { Adds w.old w.new (S.line_text (S.state_line (S.listed_state k c))) }
 {
-    let centre = put_titled(out, at, b"state", k);
-    let end = put_point(out, centre, c);
-    text::put_byte(out, end, b'\n')
+    put_titled(w, b"state", k);
+    put_point(w, c);
+    w.byte(b'\n');
 }
 
-fn put_edge_line(out: &mut [u8], at: usize, g: Geometry) -> usize
-    ensures { Wrote out.old at out.new result (S.line_text (S.edge_line g)) }
+fn put_edge_line(w: &mut Writer, g: Geometry)
+    ensures { Adds w.old w.new (S.line_text (S.edge_line g)) }
 {
     let curve = g.curve;
-    let path = put_titled(out, at, b"edge", g.edge);
-    let end = put_curve(out, path, curve);
-    text::put_byte(out, end, b'\n')
+    put_titled(w, b"edge", g.edge);
+    put_curve(w, curve);
+    w.byte(b'\n');
 }
 
-fn put_tip_line(out: &mut [u8], at: usize, g: Geometry) -> usize
-    ensures { Wrote out.old at out.new result (S.line_text (S.tip_line g)) }
+fn put_tip_line(w: &mut Writer, g: Geometry)
+    ensures { Adds w.old w.new (S.line_text (S.tip_line g)) }
 {
-    let tip = put_titled(out, at, b"tip", g.edge);
-    let angle = put_point(out, tip, g.tip);
-    let end = put_field(out, angle, g.tip_angle);
-    text::put_byte(out, end, b'\n')
+    put_titled(w, b"tip", g.edge);
+    put_point(w, g.tip);
+    put_field(w, g.tip_angle);
+    w.byte(b'\n');
 }
 
-fn put_head_line(out: &mut [u8], at: usize, g: Geometry) -> usize
-    ensures { Wrote out.old at out.new result (S.line_text (S.head_line g)) }
+fn put_head_line(w: &mut Writer, g: Geometry)
+    ensures { Adds w.old w.new (S.line_text (S.head_line g)) }
 {
-    let head = put_titled(out, at, b"head", g.edge);
-    let end = put_head(out, head, g.tip, g.tip_angle);
-    text::put_byte(out, end, b'\n')
+    put_titled(w, b"head", g.edge);
+    put_head(w, g.tip, g.tip_angle);
+    w.byte(b'\n');
 }
 
-fn put_label_line(out: &mut [u8], at: usize, g: Geometry) -> usize
-    ensures { Wrote out.old at out.new result (S.line_text (S.label_line g)) }
+fn put_label_line(w: &mut Writer, g: Geometry)
+    ensures { Adds w.old w.new (S.line_text (S.label_line g)) }
 {
     let anchor = g.anchor;
-    let label = put_titled(out, at, b"label", g.edge);
-    let side = put_point(out, label, g.label);
-    let end = put_anchor(out, side, anchor);
-    text::put_byte(out, end, b'\n')
+    put_titled(w, b"label", g.edge);
+    put_point(w, g.label);
+    put_anchor(w, anchor);
+    w.byte(b'\n');
 }
 
 // The four lines of a record.
-fn put_record_lines(out: &mut [u8], at: usize, g: Geometry) -> usize
-    ensures { Wrote out.old at out.new result (S.lines_text (S.record_lines g)) }
+fn put_record_lines(w: &mut Writer, g: Geometry)
+    ensures { Adds w.old w.new (S.lines_text (S.record_lines g)) }
 {
-    let tip = put_edge_line(out, at, g);
-    let head = put_tip_line(out, tip, g);
-    let label = put_head_line(out, head, g);
-    put_label_line(out, label, g)
+    put_edge_line(w, g);
+    put_tip_line(w, g);
+    put_head_line(w, g);
+    put_label_line(w, g);
 }
 
 // The tip of a start arrow is on the rim, from the left.
@@ -197,80 +211,102 @@ fn start_tip(c: V) -> V
     }
 }
 
-fn put_start_line(out: &mut [u8], at: usize, k: usize, c: V) -> usize
-    ensures { Wrote out.old at out.new result (S.line_text (S.start_line (S.listed_state k c))) }
+fn put_start_line(w: &mut Writer, k: usize, c: V)
+    ensures { Adds w.old w.new (S.line_text (S.start_line (S.listed_state k c))) }
 {
-    let head = put_titled(out, at, b"start", k);
-    let end = put_head(out, head, start_tip(c), 0.0);
-    text::put_byte(out, end, b'\n')
+    put_titled(w, b"start", k);
+    put_head(w, start_tip(c), 0.0);
+    w.byte(b'\n');
 }
 
 // The line of a start state; nothing for any other.
-fn put_start(out: &mut [u8], at: usize, flag: u8, k: usize, c: V) -> usize
+fn put_start(w: &mut Writer, flag: u8, k: usize, c: V)
     ensures { let text = S.line_text (S.start_line (S.listed_state k c)) in
-        Wrote out.old at out.new result (cond (is_start flag) text []) }
+        Adds w.old w.new (cond (is_start flag) text []) }
 {
+    prove!(w.at <= usize::MAX);
     if sheet::is_start(flag) {
-        return put_start_line(out, at, k, c);
+        put_start_line(w, k, c);
     }
-    at
 }
 
-fn put_total_line(out: &mut [u8], at: usize, t: Totals) -> usize
-    ensures { Wrote out.old at out.new result (S.line_text (S.total_line t)) }
+fn put_total_line(w: &mut Writer, t: Totals)
+    ensures { Adds w.old w.new (S.line_text (S.total_line t)) }
 {
-    let arcs = put_titled(out, at, b"total", t.straight);
-    let loops = put_whole(out, arcs, t.arcs);
-    let left_out = put_whole(out, loops, t.loops);
-    let lines = put_whole(out, left_out, t.left_out);
-    let end = put_whole(out, lines, t.lines);
-    text::put_byte(out, end, b'\n')
+    put_titled(w, b"total", t.straight);
+    put_whole(w, t.arcs);
+    put_whole(w, t.loops);
+    put_whole(w, t.left_out);
+    put_whole(w, t.lines);
+    w.byte(b'\n');
 }
 
 // ---- the listing
 
-fn put_states(out: &mut [u8], at: usize, xs: &[f64], ys: &[f64]) -> usize
+fn put_states(w: &mut Writer, xs: &[f64], ys: &[f64])
     requires { length ys.now ≡ length xs.now }
     ensures { let states = S.states_from 0 (centres xs.now ys.now) in
-        Wrote out.old at out.new result (S.lines_text (map S.state_line states)) }
+        Adds w.old w.new (S.lines_text (map S.state_line states)) }
 {
-    let mut next = at;
+    prove!(w.at <= usize::MAX);
     for k in 0..xs.len() {
-        next = put_state_line(out, next, k, shape::centre(xs, ys, k));
+        put_state_line(w, k, shape::centre(xs, ys, k));
     }
-    next
 }
 
-fn put_records(out: &mut [u8], at: usize, records: &[f64], count: usize) -> usize
+fn put_records(w: &mut Writer, records: &[f64], count: usize)
     requires { 20 * count ≤ length records.now }
     ensures { let gs = decode_records count records.now in
-        Wrote out.old at out.new result (S.lines_text (flat_map S.record_lines gs)) }
+        Adds w.old w.new (S.lines_text (flat_map S.record_lines gs)) }
 {
-    let mut next = at;
+    prove!(w.at <= usize::MAX);
     for k in 0..count {
         let g = records::geometry_at(records, k);
-        next = put_record_lines(out, next, g);
+        put_record_lines(w, g);
     }
-    next
 }
 
-fn put_starts(out: &mut [u8], at: usize, xs: &[f64], ys: &[f64], flags: &[u8]) -> usize
+fn put_starts(w: &mut Writer, xs: &[f64], ys: &[f64], flags: &[u8])
     requires { (length ys.now ≡ length xs.now) × (length flags.now ≡ length xs.now) }
     ensures { let states = S.states_from 0 (centres xs.now ys.now) in
         let starts = S.starts flags.now states in
-        Wrote out.old at out.new result (S.lines_text (map S.start_line starts)) }
+        Adds w.old w.new (S.lines_text (map S.start_line starts)) }
 {
-    let mut next = at;
+    prove!(w.at <= usize::MAX);
     for k in 0..xs.len() {
-        next = put_start(out, next, flags[k], k, shape::centre(xs, ys, k));
+        put_start(w, flags[k], k, shape::centre(xs, ys, k));
     }
-    next
 }
 
 // The listing: its size, the states, four lines a record, the starts, the totals.
 pub fn put_listing(
-    out: &mut [u8],
-    at: usize,
+    w: &mut Writer,
+    width: f64,
+    height: f64,
+    xs: &[f64],
+    ys: &[f64],
+    flags: &[u8],
+    records: &[f64],
+    count: usize,
+    totals: Totals,
+)
+    requires { (length ys.now ≡ length xs.now)
+        × (length flags.now ≡ length xs.now)
+        × (20 * count ≤ length records.now) }
+    ensures { let drawn = decode_records count records.now in
+        let nodes = centres xs.now ys.now in
+        let text = S.list_text width height nodes flags.now drawn totals in
+        Adds w.old w.new text }
+{
+    put_size_line(w, width, height);
+    put_states(w, xs, ys);
+    put_records(w, records, count);
+    put_starts(w, xs, ys, flags);
+    put_total_line(w, totals);
+}
+
+// How many bytes the listing has.
+pub fn listing_length(
     width: f64,
     height: f64,
     xs: &[f64],
@@ -286,13 +322,14 @@ pub fn put_listing(
     ensures { let drawn = decode_records count records.now in
         let nodes = centres xs.now ys.now in
         let text = S.list_text width height nodes flags.now drawn totals in
-        Wrote out.old at out.new result text }
+        result ≡ as_usize (length text) }
 {
-    let states = put_size_line(out, at, width, height);
-    let edges = put_states(out, states, xs, ys);
-    let starts = put_records(out, edges, records, count);
-    let total = put_starts(out, starts, xs, ys, flags);
-    put_total_line(out, total, totals)
+    let mut w = Writer {
+        out: &mut [],
+        at: 0,
+    };
+    put_listing(&mut w, width, height, xs, ys, flags, records, count, totals);
+    w.at
 }
 
 // ---- whether the listing's numbers may be written

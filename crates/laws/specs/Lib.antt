@@ -25,7 +25,6 @@ pub mod Places
 pub mod Any
 pub mod Every
 pub mod Split
-pub mod Continues
 pub mod Stable
 pub mod Counting
 pub mod Refusals

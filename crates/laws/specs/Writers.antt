@@ -92,3 +92,20 @@ module _ {A : Type 0} where
         let e : length txt ≤ length out = omega (arith, measured-length w) in
         let f : (m ≡ length txt) × (q ≡ txt ++ drop (length txt) out) = written_fits (subst (λ (l : List A). Wrote (l ++ out) 0 q m txt) (empty w) v) e in
         (rw (le-leb _ _ e) (ap written f.0), rw (le-leb _ _ e) f.1)
+
+  -- n is what was measured, and then the text was written, or nothing
+  module _ {R : Type 0} (written : ℕ → R) (refused : R) {n : ℕ} (txt out : List A) (room : length out < 18446744073709551615) (measured : n ≡ as_usize (length txt)) where
+    pub refuses_by : length out < n → (refused ≡ answer written refused txt (length out)) × (out ≡ written_over txt out)
+    refuses_by h =
+        let e : length out < length txt = omega (arith, measured) in
+        (rw (lt-leb _ _ e), rw (lt-leb _ _ e))
+
+    pub writes_by : {q : List A} {m : ℕ} → n ≤ length out → Wrote out 0 q m txt → (written m ≡ answer written refused txt (length out)) × (q ≡ written_over txt out)
+    writes_by {q} {m} h v =
+        let e : length txt ≤ length out = omega (arith, measured) in
+        let f : (m ≡ length txt) × (q ≡ txt ++ drop (length txt) out) = written_fits v e in
+        (rw (le-leb _ _ e) (ap written f.0), rw (le-leb _ _ e) f.1)
+
+  -- the slice by another name
+  pub left_as : {R : Type 0} {r s : R} {q p b : List A} → p ≡ q → (r ≡ s) × (q ≡ b) → (r ≡ s) × (p ≡ b)
+  left_as e h = (h.0, e ∙ h.1)

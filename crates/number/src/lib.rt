@@ -1,14 +1,15 @@
 // A written number: at most two decimals, no trailing zeros, never `-0`; not finite gives `0`.
-// A writer stores what fits and always advances: on an empty slice it measures.
 #![tactic(auto)]
 
 ghost use Rattle.std.specs.Prelude.{◌≡◌, ◌<◌, not, ◌&&◌, length, ◌==◌};
-ghost use Rattle.laws.specs.Writers.{Wrote};
+ghost use Rattle.laws.specs.Writers.{as_usize};
+ghost use Rattle.text.specs.Writing.{Adds};
 ghost use Rattle.float.specs.Standins.{negative};
 ghost use Rattle.number.specs.Number as S;
 ghost use Rattle.refusal.specs.Refused.{outcome};
 
 use refusal::Refusal;
+use text::Writer;
 
 // Whether a number may be written: not finite, or of size below 10^13.
 pub fn writable(v: f64) -> bool
@@ -40,40 +41,51 @@ fn has_minus(v: f64, n: u64) -> bool
     false
 }
 
-fn put_minus(out: &mut [u8], at: usize, minus: bool) -> usize
-    ensures { Wrote out.old at out.new result (S.minus_text minus) }
+#[tactic(auto, unfolding(crate::specs::Number::minus_text))]
+fn sign(minus: bool) -> &'static [u8]
+    ensures { result.now ≡ S.minus_text minus }
 {
-    if minus {
-        return text::put_byte(out, at, b'-');
-    }
-    at
+    if minus { b"-" } else { b"" }
 }
 
 // The point and the digits after it, of n hundredths.
-fn put_fraction(out: &mut [u8], at: usize, n: u64) -> usize
+fn put_fraction(w: &mut Writer, n: u64)
     requires { n < 100 }
-    ensures { Wrote out.old at out.new result (S.fraction n) }
+    ensures { Adds w.old w.new (S.fraction n) }
 {
+    // Said where nothing is written: the place is one.
+    prove!(w.at <= usize::MAX);
     if n == 0 {
-        return at;
+        return;
     }
-    let point = text::put_byte(out, at, b'.');
-    let tenths = text::put_number(out, point, n / 10);
-    if n % 10 == 0 {
-        return tenths;
+    w.byte(b'.');
+    w.number(n / 10);
+    if n % 10 != 0 {
+        w.number(n % 10);
     }
-    text::put_number(out, tenths, n % 10)
 }
 
 // The text of v; `0` where v is not finite. A number that refusal 10 stops has the text `0` here too: callers
 // refuse it first, by `writable`.
-pub fn put_num(out: &mut [u8], at: usize, v: f64) -> usize
-    ensures { Wrote out.old at out.new result (S.num_text v) }
+pub fn put_num(w: &mut Writer, v: f64)
+    ensures { Adds w.old w.new (S.num_text v) }
 {
     let n = size_of(v);
-    let sign = put_minus(out, at, has_minus(v, n));
-    let whole = text::put_number(out, sign, n / 100);
-    put_fraction(out, whole, n % 100)
+    w.bytes(sign(has_minus(v, n)));
+    w.number(n / 100);
+    put_fraction(w, n % 100);
+}
+
+// How many bytes the text of v has.
+fn num_length(v: f64) -> usize
+    ensures { result ≡ as_usize (length (S.num_text v)) }
+{
+    let mut w = Writer {
+        out: &mut [],
+        at: 0,
+    };
+    put_num(&mut w, v);
+    w.at
 }
 
 // The text of v at the start of `out`, and its length; refused, and nothing changed, where v is finite and 10^13 or
@@ -85,9 +97,10 @@ pub fn write_num(v: f64, out: &mut [u8]) -> Result<usize, Refusal>
     if !writable(v) {
         return Err(Refusal::Number);
     }
-    let need = put_num(&mut out[..0], 0, v);
-    if out.len() < need {
+    if out.len() < num_length(v) {
         return Err(Refusal::Room);
     }
-    Ok(put_num(out, 0, v))
+    let mut w = Writer { out, at: 0 };
+    put_num(&mut w, v);
+    Ok(w.at)
 }

@@ -1,15 +1,15 @@
 -- Each way through the code, as the definitions have it: what the calls give are variables. Assumes nothing.
-use mathlib.Core.Path.{◌≡◌, sym, ap, ◌∙◌, subst}
+use mathlib.Core.Path.{◌≡◌, sym, ap, ◌∙◌}
 use mathlib.Core.Bool.{Bool, true, false, not, ◌||◌}
 use mathlib.Core.List.{List, [], ◌∷◌, ◌++◌, flat_map}
 use Prim.Native.Nat.{ℕ, ◌+◌, ◌*◌, ◌≤◌, ◌<◌}
 use native.Mathlib.Omega.{arith}
 use borrow.Author.Tests.{lt-ltb, le-ltb}
-use lib.ListN.{length, take, length-append}
+use lib.ListN.{length, take}
 use lib.Seq.{length-take-le}
 use lib.Ieee.{Float}
 use Rattle.laws.specs.Put.{put, put_front}
-use Rattle.laws.specs.Writers.{Wrote, measured-length, empty, written_fits}
+use Rattle.laws.specs.Writers.{Wrote, as_usize, written_fits}
 use Rattle.laws.specs.Refusals.{decide}
 use Rattle.laws.specs.Flat.{table, part, table_more}
 use Rattle.laws.specs.Counting.{table-length}
@@ -72,25 +72,22 @@ module _ (numbers : List Float) (gs : List Geometry) (records : List Float) (tex
         let i : length records < length numbers = omega arith in
         fill_7 may (ap (λ (b : Bool). b || short (length text) (paths_text gs)) (lt-ltb _ _ i))
 
-    -- p is what the empty part of the text came back as, need the length measured on it
-    module _ (p : List ℕ) (need : ℕ) (v : Wrote [] 0 p need (paths_text gs)) (fits : length text < 18446744073709551615) where
-      back : p ++ text ≡ text
-      back = ap (λ (l : List ℕ). l ++ text) (empty v)
-
-      pub fill_text : length (p ++ text) < need → Filled (number 7) records (p ++ text)
+    -- need is the length that was measured
+    module _ (need : ℕ) (v : need ≡ as_usize (length (paths_text gs))) (fits : length text < 18446744073709551615) where
+      pub fill_text : length text < need → Filled (number 7) records text
       fill_text h =
-          let i : length text < length (paths_text gs) = omega (arith, measured-length v, length-append p text) in
-          let f = fill_7 may (or-second (short (length records) numbers) (short (length text) (paths_text gs)) (lt-ltb _ _ i)) in
-          (f.0, f.1, back ∙ f.2)
+          let i : length text < length (paths_text gs) = omega (arith, v) in
+          fill_7 may (or-second (short (length records) numbers) (short (length text) (paths_text gs)) (lt-ltb _ _ i))
 
-      pub fill_done : (n m : ℕ) (a : List Float) (q : List ℕ) → n ≡ length numbers → n ≤ length records → need ≤ length (p ++ text) → a ≡ onto numbers records → Wrote (p ++ text) 0 q m (paths_text gs) → Filled (values (n, m)) a q
+      -- q is the text as the writer left it, b as the call leaves it
+      pub fill_done : (n m : ℕ) (a : List Float) (q b : List ℕ) → n ≡ length numbers → n ≤ length records → need ≤ length text → a ≡ onto numbers records → b ≡ q → Wrote text 0 q m (paths_text gs) → Filled (values (n, m)) a b
       unfolding decide
-      fill_done n m a q e h i k x =
+      fill_done n m a q b e h i k l x =
           let r : length numbers ≤ length records = omega arith in
-          let t : length (paths_text gs) ≤ length text = omega (arith, measured-length v, ap length back) in
-          let y = written_fits (subst (λ (l : List ℕ). Wrote l 0 q m (paths_text gs)) back x) t in
+          let t : length (paths_text gs) ≤ length text = omega (arith, v) in
+          let y = written_fits x t in
           let o = or_none (short (length records) numbers) (short (length text) (paths_text gs)) (le-ltb _ _ r) (le-ltb _ _ t) in
-          (rw (may, o, e, y.0), rw (may, o) k, rw (may, o) y.1)
+          (rw (may, o, e, y.0), rw (may, o) k, rw (may, o) (l ∙ y.1))
 
 -- ---- clutter
 
@@ -134,22 +131,20 @@ module _ (writable : Bool) (txt out : List ℕ) where
   unfolding decide
   list_10 w e t = let o : not writable ≡ true = ap not (sym e) ∙ t in (rw o, rw o)
 
-  module _ (w : Bool) (e : w ≡ writable) (u : not w ≡ false) (p : List ℕ) (need : ℕ) (v : Wrote [] 0 p need txt) (fits : length out < 18446744073709551615) where
+  module _ (w : Bool) (e : w ≡ writable) (u : not w ≡ false) (need : ℕ) (v : need ≡ as_usize (length txt)) (fits : length out < 18446744073709551615) where
     list_may : not writable ≡ false
     list_may = ap not (sym e) ∙ u
 
-    list_back : p ++ out ≡ out
-    list_back = ap (λ (l : List ℕ). l ++ out) (empty v)
-
-    pub list_7 : length (p ++ out) < need → WroteOut (number 7) (p ++ out)
+    pub list_7 : length out < need → WroteOut (number 7) out
     unfolding decide
     list_7 h =
-        let i : length out < length txt = omega (arith, measured-length v, length-append p out) in
-        (rw (list_may, lt-ltb _ _ i), rw (list_may, lt-ltb _ _ i) list_back)
+        let i : length out < length txt = omega (arith, v) in
+        (rw (list_may, lt-ltb _ _ i), rw (list_may, lt-ltb _ _ i))
 
-    pub list_done : (m : ℕ) (q : List ℕ) → need ≤ length (p ++ out) → Wrote (p ++ out) 0 q m txt → WroteOut (values m) q
+    -- q is the slice as the writer left it, b as the call leaves it
+    pub list_done : (m : ℕ) (q b : List ℕ) → need ≤ length out → b ≡ q → Wrote out 0 q m txt → WroteOut (values m) b
     unfolding decide
-    list_done m q i x =
-        let t : length txt ≤ length out = omega (arith, measured-length v, ap length list_back) in
-        let y = written_fits (subst (λ (l : List ℕ). Wrote l 0 q m txt) list_back x) t in
-        (rw (list_may, le-ltb _ _ t, y.0), rw (list_may, le-ltb _ _ t) y.1)
+    list_done m q b i l x =
+        let t : length txt ≤ length out = omega (arith, v) in
+        let y = written_fits x t in
+        (rw (list_may, le-ltb _ _ t, y.0), rw (list_may, le-ltb _ _ t) (l ∙ y.1))

@@ -17,6 +17,7 @@ ghost use Rattle.outputs.specs.Answers as F;
 
 use records::RECORD_NUMBERS;
 use refusal::Refusal;
+use text::Writer;
 use totals::Totals;
 
 // ---- records and path text
@@ -57,13 +58,14 @@ pub fn write_route(
     if records.len() < n {
         return Err(Refusal::Room);
     }
-    let need = drawing_text::put_paths(&mut text[..0], 0, drawing, count);
+    let need = drawing_text::paths_length(drawing, count);
     if text.len() < need {
         return Err(Refusal::Room);
     }
     write_records(drawing, count, records);
-    let done = drawing_text::put_paths(text, 0, drawing, count);
-    Ok((n, done))
+    let mut w = Writer { out: text, at: 0 };
+    drawing_text::put_paths(&mut w, drawing, count);
+    Ok((n, w.at))
 }
 
 // ---- clutter
@@ -161,20 +163,11 @@ pub fn write_listing(
     if !drawing_text::listing_writable(width, height, xs, ys, flags, drawing, count) {
         return Err(Refusal::Number);
     }
-    let need = drawing_text::put_listing(
-        &mut out[..0],
-        0,
-        width,
-        height,
-        xs,
-        ys,
-        flags,
-        drawing,
-        count,
-        totals,
-    );
+    let need = drawing_text::listing_length(width, height, xs, ys, flags, drawing, count, totals);
     if out.len() < need {
         return Err(Refusal::Room);
     }
-    Ok(drawing_text::put_listing(out, 0, width, height, xs, ys, flags, drawing, count, totals))
+    let mut w = Writer { out, at: 0 };
+    drawing_text::put_listing(&mut w, width, height, xs, ys, flags, drawing, count, totals);
+    Ok(w.at)
 }

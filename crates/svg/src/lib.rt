@@ -1,13 +1,13 @@
 // Path text of curves and arrowheads, and whether their coordinates may be written.
-// A writer stores what fits and always advances: on an empty slice it measures.
 #![tactic(auto)]
 
 ghost use Rattle.std.specs.Prelude.{◌≡◌, ◌&&◌, [], ◌∷◌, ◌++◌};
-ghost use Rattle.laws.specs.Writers.{Wrote};
 ghost use Rattle.text.specs.Ascii.{ascii};
+ghost use Rattle.text.specs.Writing.{Adds};
 ghost use Rattle.svg.specs.Paths as S;
 
 use shape::{Curve, V};
+use text::Writer;
 
 // The length of an arrowhead from its base to its tip, and half the width of its base.
 const ARROW_LENGTH: f64 = 9.0;
@@ -85,59 +85,59 @@ pub fn head_writable(tip: V, angle: f64) -> bool
 }
 
 // A blank and x, a blank and y.
-fn put_point(out: &mut [u8], at: usize, p: V) -> usize
-    ensures { Wrote out.old at out.new result (S.point_text p) }
+fn put_point(w: &mut Writer, p: V)
+    ensures { Adds w.old w.new (S.point_text p) }
 {
-    let x = text::put_byte(out, at, b' ');
-    let blank = number::put_num(out, x, p.x);
-    let y = text::put_byte(out, blank, b' ');
-    number::put_num(out, y, p.y)
+    w.byte(b' ');
+    number::put_num(w, p.x);
+    w.byte(b' ');
+    number::put_num(w, p.y);
 }
 
 // A blank and a command's letter.
-fn put_letter(out: &mut [u8], at: usize, letter: u8) -> usize
-    ensures { Wrote out.old at out.new result (ascii " " ++ (letter ∷ [])) }
+fn put_letter(w: &mut Writer, letter: u8)
+    ensures { Adds w.old w.new (ascii " " ++ (letter ∷ [])) }
 {
-    let next = text::put_byte(out, at, b' ');
-    text::put_byte(out, next, letter)
+    w.byte(b' ');
+    w.byte(letter);
 }
 
 // `M` and a point, then another command and its first point.
-fn put_from(out: &mut [u8], at: usize, a: V, letter: u8, b: V) -> usize
+fn put_from(w: &mut Writer, a: V, letter: u8, b: V)
     ensures { let text = ascii "M" ++ S.point_text a ++ (ascii " " ++ (letter ∷ S.point_text b)) in
-        Wrote out.old at out.new result text }
+        Adds w.old w.new text }
 {
-    let first = text::put_byte(out, at, b'M');
-    let next = put_point(out, first, a);
-    let second = put_letter(out, next, letter);
-    put_point(out, second, b)
+    w.byte(b'M');
+    put_point(w, a);
+    put_letter(w, letter);
+    put_point(w, b);
 }
 
 // The path text of a curve.
-pub fn put_path(out: &mut [u8], at: usize, k: Curve) -> usize
-    ensures { Wrote out.old at out.new result (S.curve_text k) }
+pub fn put_path(w: &mut Writer, k: Curve)
+    ensures { Adds w.old w.new (S.curve_text k) }
 {
     match k {
-        Curve::Line(a, b) => put_from(out, at, a, b'L', b),
+        Curve::Line(a, b) => put_from(w, a, b'L', b),
         Curve::Quad(a, c, b) => {
-            let next = put_from(out, at, a, b'Q', c);
-            put_point(out, next, b)
+            put_from(w, a, b'Q', c);
+            put_point(w, b);
         }
         Curve::Cubic(a, c, d, b) => {
-            let next = put_from(out, at, a, b'C', c);
-            let last = put_point(out, next, d);
-            put_point(out, last, b)
+            put_from(w, a, b'C', c);
+            put_point(w, d);
+            put_point(w, b);
         }
     }
 }
 
 // The path text of an arrowhead.
-pub fn put_arrowhead(out: &mut [u8], at: usize, tip: V, angle: f64) -> usize
-    ensures { Wrote out.old at out.new result (S.head_text tip angle) }
+pub fn put_arrowhead(w: &mut Writer, tip: V, angle: f64)
+    ensures { Adds w.old w.new (S.head_text tip angle) }
 {
     let h = arrowhead(tip, angle);
-    let side = put_from(out, at, h.tip, b'L', h.left);
-    let line = put_letter(out, side, b'L');
-    let close = put_point(out, line, h.right);
-    put_letter(out, close, b'Z')
+    put_from(w, h.tip, b'L', h.left);
+    put_letter(w, b'L');
+    put_point(w, h.right);
+    put_letter(w, b'Z');
 }

@@ -6,3 +6,5 @@ pub mod Encode
 pub mod Encoded
 pub mod Digits
 pub mod Ascii
+pub mod Writing
+pub mod Continues

@@ -1,9 +1,8 @@
-// Text in bytes: well-formed UTF-8, a byte at a time; bytes and digits put into a lent slice.
-// A writer stores what fits and always advances: on an empty slice it measures.
+// Text in bytes: well-formed UTF-8, a byte at a time; bytes and digits written into a lent slice.
 #![tactic(auto)]
 
-ghost use Rattle.std.specs.Prelude.{◌≡◌, [], ◌∷◌, ◌+◌, ◌<◌, take, drop};
-ghost use Rattle.laws.specs.Writers.{Wrote};
+ghost use Rattle.std.specs.Prelude.{◌≡◌, [], ◌∷◌, ◌+◌, ◌<◌, take, drop, set};
+ghost use Rattle.text.specs.Writing.{Adds};
 ghost use Rattle.text.specs.Utf8 as U;
 ghost use Rattle.text.specs.Automaton.{next_within, lead, feed_of, feed_all, gather_of};
 ghost use Rattle.text.specs.Digits.{digits};
@@ -118,45 +117,55 @@ pub fn gather(st: u8, v: u32, b: u8) -> u32
     64 * (v % 32768) + (b % 64) as u32
 }
 
-// The byte b at `at`, where it fits; the next place.
-pub fn put_byte(out: &mut [u8], at: usize, b: u8) -> usize
-    ensures { Wrote out.old at out.new result (b ∷ []) }
+// b at place k, where there is one.
+fn store(out: &mut [u8], k: usize, b: u8)
+    ensures { out.new ≡ set out.old k b }
 {
-    if at < out.len() {
-        out[at] = b;
-        return at + 1;
+    if k < out.len() {
+        out[k] = b;
     }
-    if at < 18446744073709551615 {
-        return at + 1;
-    }
-    at
 }
 
-// The bytes of s.
-pub fn put_bytes(out: &mut [u8], at: usize, s: &[u8]) -> usize
-    ensures { Wrote out.old at out.new result s.now }
-{
-    let mut next = at;
-    for i in 0..s.len() {
-        next = put_byte(out, next, s[i]);
+// Where a text goes on in a lent slice. A byte is stored where it fits, and the place always advances: on an empty
+// slice a text is measured.
+#[derive(Drop)]
+pub struct Writer<'a> {
+    pub out: &'a mut [u8],
+    pub at: usize,
+}
+
+impl<'a> Writer<'a> {
+    pub fn byte(&mut self, b: u8)
+        ensures { Adds self.old self.new (b ∷ []) }
+    {
+        store(&mut *self.out, self.at, b);
+        self.at = self.at.saturating_add(1);
     }
-    next
+
+    pub fn bytes(&mut self, s: &[u8])
+        ensures { Adds self.old self.new s.now }
+    {
+        for b in s {
+            self.byte(*b);
+        }
+    }
+
+    // The decimal digits of n.
+    pub fn number(&mut self, n: u64)
+        ensures { Adds self.old self.new (digits n) }
+    {
+        if n < 10 {
+            self.byte(digit(n));
+            return;
+        }
+        self.number(n / 10);
+        self.byte(digit(n % 10));
+    }
 }
 
 fn digit(n: u64) -> u8
     requires { n < 10 }
     ensures { result ≡ 48 + n }
 {
-    48 + (n as u8)
-}
-
-// The decimal digits of n.
-pub fn put_number(out: &mut [u8], at: usize, n: u64) -> usize
-    ensures { Wrote out.old at out.new result (digits n) }
-{
-    if n < 10 {
-        return put_byte(out, at, digit(n));
-    }
-    let next = put_number(out, at, n / 10);
-    put_byte(out, next, digit(n % 10))
+    b'0' + (n as u8)
 }

@@ -1,18 +1,7 @@
--- `drawing_text::put_field` meets its contract.
-use mathlib.Core.Path.{◌∙◌}
 use Rattle.drawing_text.specs.Lines.{field_text}
-use Rattle.drawing_text.proofs.Laws.{wrote_field}
+use Rattle.drawing_text.proofs.Laws.{adds_field}
 use Rattle.drawing_text.proofs.put_field.Goals as goal
-
-pub put_byte-next-requires : goal.put_byte-next-requires
-put_byte-next-requires c = tt
-
-pub put_num-requires : goal.put_num-requires
-put_num-requires c = tt
-
-pub shape_of-out : goal.shape_of-out
-shape_of-out c = c.put_num.auto.out ∙ c.put_byte-next.auto.out
 
 pub returns : goal.returns
 unfolding field_text
-returns c = wrote_field _ c.put_byte-next.ensures c.put_num.ensures
+returns c = adds_field _ c.byte.ensures c.put_num.ensures

@@ -1,10 +1,9 @@
 -- `drawing_text::put_starts` meets its contract. The invariant: what is written, with the lines of the starts still to come, is the whole text.
-use mathlib.Core.Path.{refl, sym, ◌∙◌}
+use mathlib.Core.Path.{sym}
 use mathlib.Core.Bool.{cond}
 use mathlib.Core.List.{[]}
-use Prim.Native.Nat.{◌-◌}
 use native.Mathlib.Omega.{arith}
-use Rattle.laws.specs.Continues.{continues_whole, texts_step, texts_end}
+use Rattle.text.specs.Continues.{continues_whole, texts_step, texts_end}
 use Rattle.laws.specs.Joined.{flat_chosen}
 use Rattle.sheet.specs.Meaning.{is_start}
 use Rattle.drawing_text.specs.Lines.{ListedState, flag_of, start_line, listed_state, starts, line_text, lines_text}
@@ -13,25 +12,10 @@ use Rattle.drawing_text.proofs.put_starts.Goals as goal
 
 pub loop-k-init : goal.loop-k-init
 unfolding lines_text starts
-loop-k-init c = (refl, omega arith, refl, continues_whole _ _ (omega arith) (sym (flat_chosen line_text start_line _ _)))
-
-pub bounds-flags-k : goal.bounds-flags-k
-bounds-flags-k c = omega arith
-
-pub put_start-next-requires : goal.put_start-next-requires
-put_start-next-requires c = tt
-
-pub overflow_step-k : goal.overflow_step-k
-overflow_step-k c = omega arith
-
-pub loop-k-smaller : goal.loop-k-smaller
-loop-k-smaller c = omega arith
+loop-k-init c = continues_whole _ (omega arith) (omega arith) (sym (flat_chosen line_text start_line _ _))
 
 pub loop-k-preserved : goal.loop-k-preserved
-loop-k-preserved c = (c.loop-k.invariant.0, omega arith, c.put_start-next.auto.out ∙ c.loop-k.invariant.2, texts_step (λ (s : ListedState). cond (is_start (flag_of c.args.flags.now s)) (line_text (start_line s)) []) (listed_state c.loop-k.k c.centre.result) (states_front c.args.xs.now c.args.ys.now c.loop-k.k c.centre.result c.centre.ensures c.requires.0 (omega arith)) c.loop-k.invariant.3 c.put_start-next.ensures)
-
-pub shape_of-out : goal.shape_of-out
-shape_of-out c = c.loop-k.invariant.2
+loop-k-preserved c = texts_step (λ (s : ListedState). cond (is_start (flag_of c.args.flags.now s)) (line_text (start_line s)) []) (listed_state c.loop-k.k c.centre.result) (states_front c.args.xs.now c.args.ys.now c.loop-k.k c.centre.result c.centre.ensures c.requires.0 (omega arith)) c.loop-k.invariant c.put_start.ensures
 
 pub returns : goal.returns
-returns c = texts_end (λ (s : ListedState). cond (is_start (flag_of c.args.flags.now s)) (line_text (start_line s)) []) (states_none c.args.xs.now c.args.ys.now c.loop-k.k c.requires.0 (omega arith)) (omega arith) c.loop-k.invariant.3
+returns c = texts_end (λ (s : ListedState). cond (is_start (flag_of c.args.flags.now s)) (line_text (start_line s)) []) (states_none c.args.xs.now c.args.ys.now c.loop-k.k c.requires.0 (omega arith)) c.loop-k.invariant

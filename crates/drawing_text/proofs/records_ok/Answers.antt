@@ -1,6 +1,5 @@
 -- `drawing_text::records_ok` meets its contract. The invariant: the test of the records still to come decides.
 use mathlib.Core.Path.{sym, ap, ◌∙◌}
-use Prim.Native.Nat.{◌-◌}
 use native.Mathlib.Omega.{arith}
 use Rattle.laws.specs.Flat.{part}
 use Rattle.laws.specs.Every.{every, every_stop, every-step, every-end, every-all}

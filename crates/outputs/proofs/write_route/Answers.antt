@@ -3,6 +3,7 @@ use mathlib.Core.Path.{◌≡◌, sym, ◌∙◌}
 use mathlib.Core.List.{flat_map}
 use Prim.Native.Nat.{◌*◌, ◌≤◌}
 use native.Mathlib.Omega.{arith}
+use Rattle.std.proofs.Common.{rules}
 use lib.ListN.{length, take}
 use lib.Seq.{length-take-le}
 use Rattle.laws.specs.Put.{put}
@@ -19,7 +20,7 @@ pub returns-then-records-n : goal.returns-then-records-n
 returns-then-records-n c = fill-records (take (20 * c.args.count) c.args.drawing.now) (decode_records c.args.count c.args.drawing.now) c.args.records.now c.args.text.now c.paths_writable.result c.paths_writable.ensures (ap not c.if-not-paths_writable.false) (20 * c.args.count) (sym (length-take-le (20 * c.args.count) c.args.drawing.now (omega arith))) c.if-records-n.true
 
 pub returns-then-text-need : goal.returns-then-text-need
-returns-then-text-need c = fill_text (take (20 * c.args.count) c.args.drawing.now) (decode_records c.args.count c.args.drawing.now) c.args.records.now c.args.text.now c.paths_writable.result c.paths_writable.ensures (ap not c.if-not-paths_writable.false) _ c.put_paths-need.result c.put_paths-need.ensures (omega arith) c.if-text-need.true
+returns-then-text-need c = fill_text (take (20 * c.args.count) c.args.drawing.now) (decode_records c.args.count c.args.drawing.now) c.args.records.now c.args.text.now c.paths_writable.result c.paths_writable.ensures (ap not c.if-not-paths_writable.false) c.paths_length-need.result c.paths_length-need.ensures (omega arith) c.if-text-need.true
 
 pub shape_of-records : goal.shape_of-records
 shape_of-records c = c.write_records.auto.records
@@ -30,4 +31,4 @@ returns c = let a = c.args in
     let h : 20 * a.count ≤ length d = c.requires.0 in
     let i = c.if-records-n.false in
     let o : c.write_records.new.records ≡ put a.records.now 0 (flat_map fields (decode_records a.count d)) = c.write_records.ensures in
-    fill_done (take (20 * a.count) d) (decode_records a.count d) a.records.now a.text.now c.paths_writable.result c.paths_writable.ensures (ap not c.if-not-paths_writable.false) _ c.put_paths-need.result c.put_paths-need.ensures (omega arith) (20 * a.count) c.put_paths-done.result _ _ (sym (length-take-le (20 * a.count) d h)) i c.if-text-need.false (o ∙ records-onto d a.records.now a.count h c.requires.1 i) c.put_paths-done.ensures
+    fill_done (take (20 * a.count) d) (decode_records a.count d) a.records.now a.text.now c.paths_writable.result c.paths_writable.ensures (ap not c.if-not-paths_writable.false) c.paths_length-need.result c.paths_length-need.ensures (omega arith) (20 * a.count) c.put_paths.new.w.at _ _ _ (sym (length-take-le (20 * a.count) d h)) i c.if-text-need.false (o ∙ records-onto d a.records.now a.count h c.requires.1 i) (search rules) c.put_paths.ensures.text

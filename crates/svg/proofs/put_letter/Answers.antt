@@ -1,6 +1,6 @@
 -- `svg::put_letter` meets its contract.
-use Rattle.laws.specs.Writers.{wrote-more}
+use Rattle.text.specs.Writing.{adds-more}
 use Rattle.svg.proofs.put_letter.Goals as goal
 
 pub returns : goal.returns
-returns c = wrote-more c.put_byte-next.ensures c.put_byte.ensures
+returns c = adds-more c.byte.ensures c.byte-2.ensures
