@@ -38,8 +38,8 @@ pub struct Routed {
 fn control(c: Chord, h: f64) -> V
     ensures { result ≡ L.control c h }
 {
-    let mid = c.a.add(c.b).div(2.0);
-    mid.add(c.along.left().mul(h))
+    let mid = (c.a + c.b) / 2.0;
+    mid + c.along.left() * h
 }
 
 // The least room so far, and the square of the distance that it comes from.
@@ -224,8 +224,8 @@ fn bend(xs: &[f64], ys: &[f64], c: Chord, both_ways: bool) -> f64
 fn straight(c: Chord) -> Routed
     ensures { result ≡ W.straight c }
 {
-    let p = c.a.add(c.along.mul(NODE_RADIUS));
-    let q = c.b.sub(c.along.mul(NODE_RADIUS));
+    let p = c.a + c.along * NODE_RADIUS;
+    let q = c.b - c.along * NODE_RADIUS;
     Routed {
         curve: Curve::Line(p, q),
         tip_angle: c.along.angle(),
@@ -237,11 +237,11 @@ fn bowed(c: Chord, h: f64) -> Routed
     ensures { result ≡ W.bowed c h }
 {
     let m = control(c, h);
-    let p = c.a.add(m.sub(c.a).unit_or(c.along).mul(NODE_RADIUS));
-    let q = c.b.add(m.sub(c.b).unit_or(c.along.neg()).mul(NODE_RADIUS));
+    let p = c.a + (m - c.a).unit_or(c.along) * NODE_RADIUS;
+    let q = c.b + (m - c.b).unit_or(-c.along) * NODE_RADIUS;
     Routed {
         curve: Curve::Quad(p, m, q),
-        tip_angle: c.b.sub(m).angle(),
+        tip_angle: (c.b - m).angle(),
         shape: Shape::Arc(float::signum(h)),
     }
 }

@@ -233,8 +233,8 @@ fn lay_arrows(
 fn start_curve(c: V) -> Curve
     ensures { result ≡ start_curve c }
 {
-    let tip = c.sub(V::new(NODE_RADIUS, 0.0));
-    let tail = tip.sub(V::new(START_ARROW_LENGTH, 0.0));
+    let tip = c - V::new(NODE_RADIUS, 0.0);
+    let tail = tip - V::new(START_ARROW_LENGTH, 0.0);
     Curve::Line(tail, tip)
 }
 

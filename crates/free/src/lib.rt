@@ -38,7 +38,7 @@ pub fn chord_of(xs: &[f64], ys: &[f64], from: usize, to: usize) -> Chord
 {
     let a = shape::centre(xs, ys, from);
     let b = shape::centre(xs, ys, to);
-    let along = b.sub(a).unit_or(V::new(1.0, 0.0));
+    let along = (b - a).unit_or(V::new(1.0, 0.0));
     let len = a.dist(b);
     Chord {
         from,
@@ -64,7 +64,7 @@ pub fn is_end(c: Chord, k: usize) -> bool
 fn off_chord(c: Chord, p: V) -> bool
     ensures { result ≡ B.off_chord c p }
 {
-    let distance = p.sub(c.a).dot(c.along);
+    let distance = (p - c.a).dot(c.along);
     if distance <= 0.0 {
         return true;
     }
@@ -75,7 +75,7 @@ fn off_chord(c: Chord, p: V) -> bool
 fn span_of(c: Chord, p: V) -> Span
     ensures { result ≡ B.span_of c p }
 {
-    let rel = p.sub(c.a);
+    let rel = p - c.a;
     let t = rel.dot(c.along) / c.len;
     let rise = 2.0 * t * (1.0 - t);
     let across = rel.dot(c.along.left());

@@ -96,7 +96,7 @@ pub fn upper(curve: Curve) -> V
     if is_up(left) {
         return left;
     }
-    left.neg()
+    -left
 }
 
 fn line_spot(curve: Curve, up: V, j: usize) -> Spot
@@ -107,7 +107,7 @@ fn line_spot(curve: Curve, up: V, j: usize) -> Spot
     if LINE_UP[j] {
         return Spot { at, side: up };
     }
-    Spot { at, side: up.neg() }
+    Spot { at, side: -up }
 }
 
 fn arc_spot(curve: Curve, outer: f64, j: usize) -> Spot
@@ -120,12 +120,12 @@ fn arc_spot(curve: Curve, outer: f64, j: usize) -> Spot
     if ARC_OUT[j] {
         return Spot {
             at,
-            side: left.mul(outer),
+            side: left * outer,
         };
     }
     Spot {
         at,
-        side: left.mul(-outer),
+        side: left * -outer,
     }
 }
 
@@ -174,7 +174,7 @@ fn place_label(apex: V, dir: V, width: f64, height: f64) -> Placed
     let along = float::abs(dir.y);
     if across <= NEARLY {
         let reach = LABEL_GAP + width / 2.0 * across + height / 2.0 * along;
-        let centre = apex.add(dir.mul(reach));
+        let centre = apex + dir * reach;
         return Placed {
             label: V::new(centre.x, centre.y - height / 2.0),
             anchor: Anchor::Middle,
@@ -189,7 +189,7 @@ fn place_label(apex: V, dir: V, width: f64, height: f64) -> Placed
             anchor,
         };
     }
-    let corner = apex.add(dir.mul(LABEL_GAP));
+    let corner = apex + dir * LABEL_GAP;
     if dir.y < 0.0 {
         return Placed {
             label: V::new(corner.x, corner.y - height),

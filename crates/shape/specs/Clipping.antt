@@ -1,6 +1,6 @@
 -- Whether a segment meets a box, by Liang and Barsky's clipping (A New Concept and Method for Line Clipping, ACM TOG 3(1), 1984),
 -- and whether two segments cross.
-use Rattle.std.specs.Prelude.{Bool, true, false, cond, ◌&&◌, Float}
+use Rattle.std.specs.Prelude.{Bool, true, false, cond, ◌&&◌, Float, is_some, Option, None, Some}
 use Rattle.float.specs.Ops.{◌⊖◌, ◌⊗◌, ◌⊘◌, lt, eq, neg}
 use Rattle.float.specs.Constants.{f0, f1}
 use Rattle.shape.specs.declared.«V».{«V»}
@@ -9,18 +9,18 @@ use Rattle.shape.specs.declared.Clip.{Clip}
 use Rattle.shape.specs.Plane.{sub, spanning, touches}
 
 -- what is left of the segment: its parameters from low to high, or nothing
-abbrev pub kept_part : Float → Float → Clip
-kept_part low high = record { enter = low; leave = high; ok = true }
+abbrev pub kept_part : Float → Float → Option Clip
+kept_part low high = Some (record { enter = low; leave = high })
 
-abbrev pub nothing : Clip
-nothing = record { enter = f0; leave = f0; ok = false }
+abbrev pub nothing : Option Clip
+nothing = None
 
 -- The published test of one side: p is the rate towards the outside of it, q the room before it.
 -- p < 0: the segment enters at r = q / p; nothing is left where r exceeds high, else low is raised to r where r is above it.
 -- p > 0: it leaves at r; nothing is left where r is below low, else high is lowered to r where r is below it.
 -- p = 0: nothing is left where q < 0.
 -- A NaN rate is none of the three: that side cuts nothing, as in the Rust. That no routed drawing has one is not proved.
-unfoldable pub test : Float → Float → Float → Float → Clip
+unfoldable pub test : Float → Float → Float → Float → Option Clip
 test p q low high =
     let r = q ⊘ p in
     cond (lt p f0)
@@ -30,8 +30,9 @@ test p q low high =
     (cond (eq p f0 && lt q f0) nothing (kept_part low high)))
 
 -- once nothing is left, no more sides are tested
-unfoldable pub side : Float → Float → Clip → Clip
-side p q c = cond c.ok (test p q c.enter c.leave) c
+unfoldable pub side : Float → Float → Option Clip → Option Clip
+side p q None = None
+side p q (Some c) = test p q c.enter c.leave
 
 -- the four sides in turn, left, right, top and bottom, where y points down; d leads from the start of the segment to its end
 unfoldable pub meets : «V» → «V» → Rect → Bool
@@ -40,7 +41,7 @@ meets from d r =
     let right = side d.x (r.x1 ⊖ from.x) left in
     let top = side (neg d.y) (from.y ⊖ r.y0) right in
     let bottom = side d.y (r.y1 ⊖ from.y) top in
-    bottom.ok
+    is_some bottom
 
 -- The box around the segment is tested first. A segment that touches the box hits it.
 unfoldable pub segment_hits_rect : «V» → «V» → Rect → Bool

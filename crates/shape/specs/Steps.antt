@@ -1,5 +1,5 @@
 -- The code's form of the clipping, the later start or the earlier end and then one comparison, is the published one. Assumes nothing.
-use Rattle.std.specs.Prelude.{◌≡◌, refl, Bool, false, cond, ◌&&◌, ℕ, zero, suc, ◌+◌, ◌*◌, Float, pos}
+use Rattle.std.specs.Prelude.{◌≡◌, refl, Bool, false, cond, ◌&&◌, ℕ, zero, suc, ◌+◌, ◌*◌, Float, pos, is_some, Option, None, Some}
 use Rattle.std.proofs.Math.Path.{sym, ap}
 use Rattle.std.proofs.Common.{subst, ◌∙◌, ⊎_elim, zero-mul, arith, ne_eqb, lt→ltb}
 use Rattle.std.proofs.Math.Bool.{true}
@@ -20,21 +20,22 @@ use Rattle.shape.specs.Clipping.{kept_part, nothing, test, side, meets, segment_
 
 -- ---- what the code computes
 
-unfoldable pub settled : Float → Float → Clip
+unfoldable pub settled : Float → Float → Option Clip
 settled e l = cond (lt l e) nothing (kept_part e l)
 
-unfoldable pub clip_step : Float → Float → Clip → Clip
+unfoldable pub clip_step : Float → Float → Clip → Option Clip
 clip_step p q c =
     let r = q ⊘ p in
-    cond (eq p f0) (cond (lt q f0) nothing c)
+    cond (eq p f0) (cond (lt q f0) nothing (Some c))
     (cond (lt p f0) (settled (max c.enter r) c.leave) (settled c.enter (min c.leave r)))
 
-unfoldable pub edge_step : Float → Float → Clip → Clip
-edge_step p q c = cond c.ok (clip_step p q c) c
+unfoldable pub edge_step : Float → Float → Option Clip → Option Clip
+edge_step p q None = None
+edge_step p q (Some c) = clip_step p q c
 
-unfoldable pub clipped : «V» → «V» → Rect → Bool
+unfoldable pub clipped : «V» → «V» → Rect → Option Clip
 clipped from d r =
-    (edge_step d.y (r.y1 ⊖ from.y) (edge_step (neg d.y) (from.y ⊖ r.y0) (edge_step d.x (r.x1 ⊖ from.x) (edge_step (neg d.x) (from.x ⊖ r.x0) (kept_part f0 f1))))).ok
+    edge_step d.y (r.y1 ⊖ from.y) (edge_step (neg d.y) (from.y ⊖ r.y0) (edge_step d.x (r.x1 ⊖ from.x) (edge_step (neg d.x) (from.x ⊖ r.x0) (kept_part f0 f1))))
 
 -- ---- a rate is below zero, above it, zero, or NaN
 
@@ -87,7 +88,7 @@ pub record GoodClip (low high : Float) : Type 0 where
   pub high_num : ne high high ≡ false
   pub ordered : lt high low ≡ false
 
-data State : Clip → Type 0 where
+data State : Option Clip → Type 0 where
   shut : State nothing
   held : (low high : Float) → GoodClip low high → State (kept_part low high)
 
@@ -127,7 +128,7 @@ nan_leaves : (p q e l : Float) → p ≡ nan → cond (lt (q ⊘ p) e) nothing (
 unfolding Ieee.lt
 nan_leaves p q e l n = rw (n, by_nan q)
 
-edge_is : (p q : Float) {c : Clip} → State c → edge_step p q c ≡ side p q c
+edge_is : (p q : Float) {c : Option Clip} → State c → edge_step p q c ≡ side p q c
 unfolding edge_step side clip_step test
 edge_is p q shut = refl
 edge_is p q (held e l g) =
@@ -139,7 +140,7 @@ edge_is p q (held e l g) =
     (λ a. rw (z, b, a) (leaves e l (q ⊘ p) g))
     (λ a. rw (z, b, a) (leaves e l (q ⊘ p) g ∙ nan_leaves p q e l (nan_rate p z b a)))))
 
-side_state : (p q : Float) {c : Clip} → State c → State (side p q c)
+side_state : (p q : Float) {c : Option Clip} → State c → State (side p q c)
 unfolding side test
 side_state p q shut = shut
 side_state p q (held e l g) =
@@ -151,16 +152,16 @@ start : State (kept_part f0 f1)
 unfolding of_bits Ieee.ne Ieee.lt Ieee.eq
 start = held f0 f1 (record { low_num = refl; high_num = refl; ordered = refl })
 
-next : (p q : Float) {c c' : Clip} → c ≡ c' → State c' → edge_step p q c ≡ side p q c'
+next : (p q : Float) {c c' : Option Clip} → c ≡ c' → State c' → edge_step p q c ≡ side p q c'
 next p q e s = ap (edge_step p q) e ∙ edge_is p q s
 
-pub clipped_is : (from d : «V») (r : Rect) → clipped from d r ≡ meets from d r
+pub clipped_is : (from d : «V») (r : Rect) → is_some (clipped from d r) ≡ meets from d r
 unfolding clipped meets
 clipped_is from d r =
     let s1 = side_state (neg d.x) (from.x ⊖ r.x0) start in
     let s2 = side_state d.x (r.x1 ⊖ from.x) s1 in
     let s3 = side_state (neg d.y) (from.y ⊖ r.y0) s2 in
-    ap (λ (c : Clip). c.ok)
+    ap (λ (c : Option Clip). is_some c)
     (next d.y (r.y1 ⊖ from.y) (next (neg d.y) (from.y ⊖ r.y0) (next d.x (r.x1 ⊖ from.x) (next (neg d.x) (from.x ⊖ r.x0) refl start) s1) s2) s3)
 
 -- ---- the call, by what it has at hand: b the box spanned, t whether it touches
@@ -168,19 +169,15 @@ module _ (from to : «V») (r b : Rect) (t : Bool) (e : b ≡ spanning from to) 
   spans : touches (spanning from to) r ≡ t
   spans = sym (f ∙ ap (λ (q : Rect). touches q r) e)
 
-  pub hit : (d : «V») (x : Bool) → t ≡ true → d ≡ sub to from → x ≡ clipped from d r → x ≡ segment_hits_rect from to r
+  pub hit : (d : «V») (x : Bool) → t ≡ true → d ≡ sub to from → x ≡ is_some (clipped from d r) → x ≡ segment_hits_rect from to r
   unfolding segment_hits_rect
   hit d x h g k =
-      k ∙ ap (λ (v : «V»). clipped from v r) g ∙ clipped_is from (sub to from) r
+      k ∙ ap (λ (v : «V»). is_some (clipped from v r)) g ∙ clipped_is from (sub to from) r
       ∙ sym (ap (λ (q : Bool). q && meets from (sub to from) r) (spans ∙ h))
 
   pub spans_apart : t ≡ false → false ≡ segment_hits_rect from to r
   unfolding segment_hits_rect
   spans_apart h = sym (ap (λ (q : Bool). q && meets from (sub to from) r) (spans ∙ h))
-
-pub edge_on : (p q : Float) (c : Clip) → c.ok ≡ true → clip_step p q c ≡ edge_step p q c
-unfolding edge_step
-edge_on p q c e = sym (ap (λ (t : Bool). cond t (clip_step p q c) c) e)
 
 pub step_enters : (p q : Float) (c : Clip) → eq p f0 ≡ false → lt p f0 ≡ true → settled (max c.enter (q ⊘ p)) c.leave ≡ clip_step p q c
 unfolding clip_step

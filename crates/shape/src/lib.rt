@@ -57,11 +57,12 @@ impl V {
     }
 
     // The unit vector in this direction, or `fallback` for a vector of no length.
+    #[tactic(auto, unfolding(crate::specs::Plane::unit_or))]
     pub fn unit_or(self, fallback: V) -> V
         ensures { result ≡ S.unit_or self fallback }
     {
         let len = self.len();
-        if len > EPS { self.div(len) } else { fallback }
+        if len > EPS { self / len } else { fallback }
     }
 
     // 90 degrees to the left on screen, where y points down.
@@ -74,46 +75,67 @@ impl V {
     pub fn dist(self, o: V) -> f64
         ensures { result ≡ S.dist self o }
     {
-        self.sub(o).len()
+        (self - o).len()
     }
 
     // The square of the distance; 0 where it is NaN, since the root of NaN is 0.
+    #[tactic(auto, using(crate::specs::Squares::squared_none, crate::specs::Squares::squared_some))]
     pub fn dist_squared(self, o: V) -> f64
         ensures { result ≡ S.dist_squared self o }
     {
-        let d = self.sub(o);
+        let d = self - o;
         let q = d.x * d.x + d.y * d.y;
         if q != q {
             return 0.0;
         }
         q
     }
+}
 
-    pub fn add(self, o: V) -> V
+impl std::ops::Add for V {
+    type Output = V;
+
+    fn add(self, o: V) -> V
         ensures { result ≡ S.add self o }
     {
         V::new(self.x + o.x, self.y + o.y)
     }
+}
 
-    pub fn sub(self, o: V) -> V
+impl std::ops::Sub for V {
+    type Output = V;
+
+    fn sub(self, o: V) -> V
         ensures { result ≡ S.sub self o }
     {
         V::new(self.x - o.x, self.y - o.y)
     }
+}
 
-    pub fn neg(self) -> V
+impl std::ops::Neg for V {
+    type Output = V;
+
+    fn neg(self) -> V
         ensures { result ≡ S.neg_v self }
     {
         V::new(-self.x, -self.y)
     }
+}
 
-    pub fn mul(self, k: f64) -> V
+impl std::ops::Mul<f64> for V {
+    type Output = V;
+
+    fn mul(self, k: f64) -> V
         ensures { result ≡ S.mul self k }
     {
         V::new(self.x * k, self.y * k)
     }
+}
 
-    pub fn div(self, k: f64) -> V
+impl std::ops::Div<f64> for V {
+    type Output = V;
+
+    fn div(self, k: f64) -> V
         ensures { result ≡ S.div self k }
     {
         V::new(self.x / k, self.y / k)
@@ -132,6 +154,7 @@ pub struct Rect {
 // Four comparisons are told by a sum, since a branch for each would often be guessed wrong.
 impl Rect {
     // Whether the boxes overlap: those that only touch do not.
+    #[tactic(auto, using(crate::proofs::Laws::overlaps_is))]
     pub fn overlaps(self, o: Rect) -> bool
         ensures { result ≡ S.overlaps self o }
     {
@@ -141,6 +164,7 @@ impl Rect {
     }
 
     // The smallest box that contains both points.
+    #[tactic(auto, unfolding(crate::specs::Plane::spanning))]
     pub fn spanning(a: V, b: V) -> Rect
         ensures { result ≡ S.spanning a b }
     {
@@ -165,6 +189,7 @@ impl Rect {
     }
 
     // Whether the boxes overlap or touch.
+    #[tactic(auto, unfolding(crate::specs::Plane::touches))]
     pub fn touches(self, o: Rect) -> bool
         ensures { result ≡ S.touches self o }
     {
@@ -172,6 +197,7 @@ impl Rect {
     }
 
     // The same by a sum, for boxes of which each side may lie apart: a branch for each would often be guessed wrong.
+    #[tactic(auto, using(crate::proofs::Laws::touches_is))]
     pub fn reaches(self, o: Rect) -> bool
         ensures { result ≡ S.touches self o }
     {
@@ -203,6 +229,7 @@ impl Rect {
     }
 
     // With one point more.
+    #[tactic(auto, unfolding(crate::specs::Plane::extended))]
     pub fn extended(self, p: V) -> Rect
         ensures { result ≡ S.extended self p }
     {
@@ -236,6 +263,7 @@ fn at_most(a: f64, b: f64) -> usize
 }
 
 // How far `v` lies outside lo .. hi.
+#[tactic(auto, unfolding(crate::specs::Plane::outside))]
 fn outside(lo: f64, hi: f64, v: f64) -> f64
     ensures { result ≡ S.outside lo hi v }
 {
@@ -252,37 +280,33 @@ pub enum Curve {
 
 impl Curve {
     // The point at parameter `t` in 0 to 1.
+    #[tactic(auto, unfolding(crate::specs::Curves::at))]
     pub fn at(self, t: f64) -> V
         ensures { result ≡ C.at self t }
     {
         let rest = 1.0 - t;
         match self {
-            Curve::Line(p0, p1) => p0.mul(rest).add(p1.mul(t)),
-            Curve::Quad(p0, c, p1) => p0
-                .mul(rest * rest)
-                .add(c.mul(2.0 * rest * t))
-                .add(p1.mul(t * t)),
-            Curve::Cubic(p0, c1, c2, p1) => p0
-                .mul(rest * rest * rest)
-                .add(c1.mul(3.0 * rest * rest * t))
-                .add(c2.mul(3.0 * rest * t * t))
-                .add(p1.mul(t * t * t)),
+            Curve::Line(p0, p1) => p0 * rest + p1 * t,
+            Curve::Quad(p0, c, p1) => p0 * (rest * rest) + c * (2.0 * rest * t) + p1 * (t * t),
+            Curve::Cubic(p0, c1, c2, p1) => p0 * (rest * rest * rest)
+                + c1 * (3.0 * rest * rest * t)
+                + c2 * (3.0 * rest * t * t)
+                + p1 * (t * t * t),
         }
     }
 
     // The derivative at parameter `t`.
+    #[tactic(auto, unfolding(crate::specs::Curves::tangent))]
     pub fn tangent(self, t: f64) -> V
         ensures { result ≡ C.tangent self t }
     {
         let rest = 1.0 - t;
         match self {
-            Curve::Line(p0, p1) => p1.sub(p0),
-            Curve::Quad(p0, c, p1) => c.sub(p0).mul(2.0 * rest).add(p1.sub(c).mul(2.0 * t)),
-            Curve::Cubic(p0, c1, c2, p1) => c1
-                .sub(p0)
-                .mul(3.0 * rest * rest)
-                .add(c2.sub(c1).mul(6.0 * rest * t))
-                .add(p1.sub(c2).mul(3.0 * t * t)),
+            Curve::Line(p0, p1) => p1 - p0,
+            Curve::Quad(p0, c, p1) => (c - p0) * (2.0 * rest) + (p1 - c) * (2.0 * t),
+            Curve::Cubic(p0, c1, c2, p1) => (c1 - p0) * (3.0 * rest * rest)
+                + (c2 - c1) * (6.0 * rest * t)
+                + (p1 - c2) * (3.0 * t * t),
         }
     }
 
@@ -307,43 +331,29 @@ impl Curve {
     }
 }
 
-// The part of a segment that is left, from `enter` to `leave`, while `ok`.
+// The part of a segment that is left, from `enter` to `leave`.
 #[derive(Clone, Copy)]
 pub struct Clip {
     pub enter: f64,
     pub leave: f64,
-    pub ok: bool,
 }
 
-fn settled(enter: f64, leave: f64) -> Clip
+#[tactic(auto, unfolding(crate::specs::Steps::settled))]
+fn settled(enter: f64, leave: f64) -> Option<Clip>
     ensures { result ≡ T.settled enter leave }
 {
     if enter > leave {
-        return Clip {
-            enter: 0.0,
-            leave: 0.0,
-            ok: false,
-        };
+        return None;
     }
-    Clip {
-        enter,
-        leave,
-        ok: true,
-    }
+    Some(Clip { enter, leave })
 }
 
-fn clip_step(towards: f64, room: f64, c: Clip) -> Clip
+#[tactic(auto, unfolding(crate::specs::Steps::clip_step, crate::specs::Steps::settled))]
+fn clip_step(towards: f64, room: f64, c: Clip) -> Option<Clip>
     ensures { result ≡ T.clip_step towards room c }
 {
     if towards == 0.0 {
-        if room < 0.0 {
-            return Clip {
-                enter: 0.0,
-                leave: 0.0,
-                ok: false,
-            };
-        }
-        return c;
+        return if room < 0.0 { None } else { Some(c) };
     }
     let at = room / towards;
     if towards < 0.0 {
@@ -352,50 +362,40 @@ fn clip_step(towards: f64, room: f64, c: Clip) -> Clip
     settled(c.enter, float::min(c.leave, at))
 }
 
-fn edge_step(towards: f64, room: f64, c: Clip) -> Clip
-    ensures { result ≡ T.edge_step towards room c }
-{
-    if c.ok {
-        return clip_step(towards, room, c);
-    }
-    c
-}
-
-fn clipped(from: V, d: V, r: Rect) -> bool
+// The part inside the box, cut by its four sides in turn.
+#[tactic(auto, unfolding(crate::specs::Steps::clipped, crate::specs::Steps::edge_step))]
+fn clipped(from: V, d: V, r: Rect) -> Option<Clip>
     ensures { result ≡ T.clipped from d r }
 {
-    let c0 = Clip {
+    let whole = Clip {
         enter: 0.0,
         leave: 1.0,
-        ok: true,
     };
-    let c1 = edge_step(-d.x, from.x - r.x0, c0);
-    let c2 = edge_step(d.x, r.x1 - from.x, c1);
-    let c3 = edge_step(-d.y, from.y - r.y0, c2);
-    let c4 = edge_step(d.y, r.y1 - from.y, c3);
-    c4.ok
+    let left = clip_step(-d.x, from.x - r.x0, whole)?;
+    let right = clip_step(d.x, r.x1 - from.x, left)?;
+    let top = clip_step(-d.y, from.y - r.y0, right)?;
+    clip_step(d.y, r.y1 - from.y, top)
 }
 
 // Whether the segment meets the box.
+#[tactic(auto, using(crate::specs::Steps::clipped_is), unfolding(crate::specs::Clipping::segment_hits_rect))]
 pub fn segment_hits_rect(from: V, to: V, rect: Rect) -> bool
     ensures { result ≡ L.segment_hits_rect from to rect }
 {
-    if Rect::spanning(from, to).touches(rect) {
-        return clipped(from, to.sub(from), rect);
-    }
-    false
+    Rect::spanning(from, to).touches(rect) && clipped(from, to - from, rect).is_some()
 }
 
 // On which side of the line from p to q the point r lies, by its sign.
 fn orient(p: V, q: V, r: V) -> f64
     ensures { result ≡ L.orient p q r }
 {
-    let along = q.sub(p);
-    let there = r.sub(p);
+    let along = q - p;
+    let there = r - p;
     along.x * there.y - along.y * there.x
 }
 
 // Whether two segments properly cross.
+#[tactic(auto, unfolding(crate::specs::Clipping::segments_cross))]
 pub fn segments_cross(a: V, b: V, c: V, d: V) -> bool
     ensures { result ≡ L.segments_cross a b c d }
 {

@@ -27,10 +27,10 @@ fn arrowhead(tip: V, angle: f64) -> Head
     ensures { result ≡ S.head_of tip angle }
 {
     let ahead = V::polar(angle);
-    let base = tip.sub(ahead.mul(ARROW_LENGTH));
-    let side = V::new(-ahead.y, ahead.x).mul(ARROW_HALF_WIDTH);
-    let left = base.add(side);
-    let right = base.sub(side);
+    let base = tip - ahead * ARROW_LENGTH;
+    let side = V::new(-ahead.y, ahead.x) * ARROW_HALF_WIDTH;
+    let left = base + side;
+    let right = base - side;
     Head { tip, left, right }
 }
 
