@@ -5,12 +5,12 @@ ghost use Rattle.std.specs.Prelude.{◌≡◌, false, ◌+◌, ◌*◌, ◌<◌,
 ghost use Rattle.repair.specs.Marks as M;
 
 // State record k loses its start bit, if a state before it is marked. Whether one is marked up to record k.
-fn visit(out: &mut [u8], k: usize, marked: bool) -> bool
-    requires { (k < 65536) × (16 * k + 1 < length out.old) }
+fn visit(out: &mut [u8], k: u16, marked: bool) -> bool
+    requires { 16 * k + 1 < length out.old }
     ensures { (result ≡ M.marked_at marked k out.old)
         × (out.new ≡ M.cleared_at marked k out.old) }
 {
-    let at = 16 * k + 1;
+    let at = sheet::place_of(k) + 1;
     let flags = out[at];
     if marked {
         out[at] = flags - flags % 2;
@@ -20,16 +20,12 @@ fn visit(out: &mut [u8], k: usize, marked: bool) -> bool
 }
 
 // Of the n states of a written sheet, records 1 to n, the first with a start mark keeps it and the others lose theirs.
-pub fn keep_first_mark(out: &mut [u8], n: usize)
+pub fn keep_first_mark(out: &mut [u8], n: u16)
     requires { (n < 65535) × (16 * (1 + n) ≤ length out.old) }
     ensures { out.new ≡ M.mark_kept false 1 n out.old }
 {
     let mut marked = false;
-    let mut k: usize = 1;
-    let mut left = n;
-    while left != 0 {
+    for k in 1..n + 1 {
         marked = visit(out, k, marked);
-        k += 1;
-        left -= 1;
     }
 }

@@ -5,7 +5,7 @@ use Rattle.label.proofs.lengths_fit.Goals as goal
 
 pub returns-then-most-n : goal.returns-then-most-n
 returns-then-most-n c = elim c.then-most-n.branch [
-  then-most-n-via-then-most-n w ↦ fit_over_at c.args.most c.loop-n.left c.args.lengths.now c.loop-n.n-index (omega arith) w.if-most-n.true ∙ c.loop-n.invariant
+  | then-most-n-via-then-most-n w ↦ fit_over_at c.args.most c.loop-n.left c.args.lengths.now c.loop-n.n-index (omega arith) w.if-most-n.true ∙ c.loop-n.invariant
   | then-most-n-via-else-most-n+then-left-n w ↦ fit_short_at c.args.most c.loop-n.left c.args.lengths.now c.loop-n.n-index (omega arith) w.if-left-n.true ∙ c.loop-n.invariant
 ]
 

@@ -26,11 +26,11 @@ loop-n-preserved c =
     record {
       within = omega (arith, total-at 0 0 lengths c.loop-n.n-index (omega arith), c.split_at.ensures.back_len);
       size =
-        ap (λ (w : Float). lines_size h w (cut c.split_at.result.1.now (drop (c.loop-n.n-index + 1) lengths))) c.max-width.ensures
-        ∙ ap (λ (l : List ℕ). lines_size h (max c.loop-n.width c.measure_part-m.result.width) (cut l (drop (c.loop-n.n-index + 1) lengths))) c.split_at.ensures.back
-        ∙ line_well h c.loop-n.width c.loop-n.rest.now lengths c.loop-n.n-index (omega arith) c.measure_part-m.result.st c.measure_part-m.result.width
-        (ap (λ (m : Measure). m.st) e) (ap (λ (m : Measure). m.width) e) c.if-m-ne0.false
-        ∙ c.loop-n.invariant.size;
+          ap (λ (w : Float). lines_size h w (cut c.split_at.result.1.now (drop (c.loop-n.n-index + 1) lengths))) c.max-width.ensures
+          ∙ ap (λ (l : List ℕ). lines_size h (max c.loop-n.width c.measure_part-m.result.width) (cut l (drop (c.loop-n.n-index + 1) lengths))) c.split_at.ensures.back
+          ∙ line_well h c.loop-n.width c.loop-n.rest.now lengths c.loop-n.n-index (omega arith) c.measure_part-m.result.st c.measure_part-m.result.width
+          (ap (λ (m : Measure). m.st) e) (ap (λ (m : Measure). m.width) e) c.if-m-ne0.false
+          ∙ c.loop-n.invariant.size;
     }
 
 pub returns : goal.returns

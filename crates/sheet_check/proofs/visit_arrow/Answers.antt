@@ -11,7 +11,7 @@ returns-then-meet c = let s = c.args.s.now in
     then_on s (met_alone 2 c.args.i) (flat_map (met_line s) (line_chain s c.args.i)) c.args.marks.now c.meet.new.marks c.meet.result c.meet.ensures
     (walked c.walk.result c.walk.new.marks) c.if-meet.true
     (c.walk.ensures s (met_line s) (λ k before ok after h. search rules)
-        ∙ ap (λ l. walk s (flat_map (met_line s) l) c.meet.new.marks) (c.new.ensures.list ∙ ap (chain s) c.first_line_at.ensures))
+    ∙ ap (λ l. walk s (flat_map (met_line s) l) c.meet.new.marks) (c.new.ensures.list ∙ ap (chain s) c.first_line_at.ensures))
 
 pub returns-else-meet : goal.returns-else-meet
 unfolding met_arrow

@@ -12,7 +12,7 @@ returns-then-walk_alone c = let s = c.args.s.now in
     (c.walk_alone.ensures ∙ ap (λ (j : ℕ). walk s (flat_map (met_alone 1) (chain s j)) c.args.marks.now) c.word_at.ensures)
     (walked c.walk.result c.walk.new.marks) c.if-walk_alone.true
     (c.walk.ensures s (met_arrow s) (λ k before ok after h. search rules)
-        ∙ ap (λ l. walk s (flat_map (met_arrow s) l) c.walk_alone.new.marks) (c.new.ensures.list ∙ ap (chain s) c.word_at-then-walk_alone.ensures))
+    ∙ ap (λ l. walk s (flat_map (met_arrow s) l) c.walk_alone.new.marks) (c.new.ensures.list ∙ ap (chain s) c.word_at-then-walk_alone.ensures))
 
 pub returns-else-walk_alone : goal.returns-else-walk_alone
 unfolding met
