@@ -20,28 +20,24 @@ fn put_refused(out: &mut [u8], n: u8) -> usize
     ensures { (result ≤ length out.old) × (take result out.new ≡ S.refused_text n) }
 {
     let word = text::put_bytes(out, 0, b"refused ");
-    let end = text::put_number(out, word, n as u64);
+    let end = text::put_number(out, word, u64::from(n));
     text::put_byte(out, end, b'\n')
 }
 
-// What the program writes for the n bytes that it read, at the front of `text`: how many bytes.
-fn output(input: &[u8; ASKED], n: usize, text: &mut [u8; LENT]) -> usize
-    requires { n ≤ length input.now }
-    ensures { (length input.now ≡ S.asked)
-        × (length text.new ≡ S.lent)
+// What the program writes of a sheet, at the front of `text`: how many bytes.
+fn output(sheet: &[u8], text: &mut [u8; LENT]) -> usize
+    ensures { (length text.new ≡ S.lent)
         × (result ≤ S.lent)
-        × (take result text.new ≡ S.output (take n input.now)) }
+        × (take result text.new ≡ S.output sheet.now) }
 {
-    let m = sheet::main_screen();
-    let whole: &[u8] = input;
-    let c = calls::list(&whole[..n], m, 0, text);
-    match c {
-        number::Written::Length(m) => m,
-        number::Written::Refused(m) => put_refused(text, m),
+    match calls::list(sheet, sheet::main_screen(), 0, text) {
+        number::Written::Length(n) => n,
+        number::Written::Refused(n) => put_refused(text, n),
     }
 }
 
-// Reads until `buf` is full or the input ends: how many bytes, which are the input's first.
+// Reads until `buf` is full or the input ends: how many bytes, which are the input's first. (The library reads
+// to the end of an input only into a Vec.)
 fn read_full<R: Read>(from: &mut R, buf: &mut [u8]) -> io::Result<usize>
     ensures bound { IfOk result (λ n. n ≤ length buf.new) }
     ensures bytes { IfOk result (λ n. IfSome (R.remaining from.old)
@@ -66,8 +62,8 @@ fn run<R: Read, W: Write>(from: &mut R, to: &mut W) -> io::Result<()>
     let mut input = [0u8; ASKED];
     let n = read_full(from, &mut input)?;
     let mut text = [0u8; LENT];
-    let m = output(&input, n, &mut text);
-    to.write_all(&text[..m])
+    let written = output(&input[..n], &mut text);
+    to.write_all(&text[..written])
 }
 
 fn main(rt: HostRuntime) -> io::Result<()> {
