@@ -25,27 +25,23 @@ unset_is : unset ≡ round binary64 false (7 * 10 ^ 250) 1
 unfolding of_bits round
 unset_is = refl
 
--- a number of `out` is not the answer's, or behind the answer not `unset`
-abbrev pub differs : List Float → List Float → ℕ → Bool
-differs out numbers i = not (alike (get_or out i unset) (get_or numbers i unset))
+-- a value of `out` is not the answer's, or behind the answer not what `out` held before the call
+abbrev pub differs : {A : Type 0} → (A → A → Bool) → A → List A → List A → ℕ → Bool
+differs same before out answer i = not (same (get_or out i before) (get_or answer i before))
 
--- `out` has room for the numbers, and holds them and `unset` after them
-unfoldable pub numbers_hold : List Float → List Float → Bool
-numbers_hold out numbers = leb (length numbers) (length out) && not (any_up (differs out numbers) 0 (length out))
-
--- the same of bytes
-abbrev pub byte_differs : List ℕ → List ℕ → ℕ → Bool
-byte_differs out text i = not (eqb (payload_byte out i) (get_or text i 170))
-
-unfoldable pub text_holds : List ℕ → List ℕ → Bool
-text_holds out text = leb (length text) (length out) && not (any_up (byte_differs out text) 0 (length out))
+-- `out` has room for the answer, and holds it and after it what it held
+unfoldable pub holds : {A : Type 0} → (A → A → Bool) → A → List A → List A → Bool
+holds same before out answer = leb (length answer) (length out) && not (any_up (differs same before out answer) 0 (length out))
 
 -- `out` holds the answer from place 16 on, and before and behind it what it held
-unfoldable pub numbers_stand : List Float → List Float → Bool
-numbers_stand out numbers = leb 16 (length out) && (numbers_hold (take 16 out) [] && numbers_hold (drop 16 out) numbers)
+unfoldable pub stands : {A : Type 0} → (A → A → Bool) → A → List A → List A → Bool
+stands same before out answer = leb 16 (length out) && (holds same before (take 16 out) [] && holds same before (drop 16 out) answer)
 
-unfoldable pub text_stands : List ℕ → List ℕ → Bool
-text_stands out text = leb 16 (length out) && (text_holds (take 16 out) [] && text_holds (drop 16 out) text)
+abbrev pub numbers_stand : List Float → List Float → Bool
+numbers_stand = stands alike unset
+
+abbrev pub text_stands : List ℕ → List ℕ → Bool
+text_stands = stands eqb 170
 
 -- the same of the n numbers in a payload from a place on; no case has more than 5,120
 unfoldable pub numbers_stand_in : List ℕ → ℕ → ℕ → List Float → Bool

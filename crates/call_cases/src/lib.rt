@@ -20,78 +20,55 @@ const UNSET: f64 = 7e250;
 
 // ---- what is lent
 
-// The number at a place, UNSET past the end.
-fn number_at(l: &[f64], i: usize) -> f64
-    ensures { result ≡ get_or l.now i S.unset }
+// The value at a place, `unset` past the end.
+fn value_at<T: Copy>(l: &[T], i: usize, unset: T) -> T
+    ensures { result ≡ get_or l.now i unset }
 {
-    if i < l.len() { l[i] } else { UNSET }
+    if i < l.len() { l[i] } else { unset }
 }
 
-// Whether `out` holds the numbers and UNSET after them.
-fn numbers_hold(out: &[f64], numbers: &[f64]) -> bool
-    ensures { result ≡ S.numbers_hold out.now numbers.now }
+// Whether `out` holds the values and `unset` after them.
+fn holds<T: Copy, F: Fn(T, T) -> bool>(out: &[T], values: &[T], unset: T, same: &F) -> bool
+    requires { F.IsAlwaysCallable same.now }
+    ensures { (alike : T → T → Bool) → ((x y r : _) → F.post same.now x y r → r ≡ alike x y)
+        → result ≡ S.holds alike unset out.now values.now }
 {
-    if out.len() < numbers.len() {
+    if out.len() < values.len() {
         return false;
     }
-    let mut i = 0;
-    while i < out.len() {
-        if !same(number_at(out, i), number_at(numbers, i)) {
+    for (i, value) in out.iter().enumerate() {
+        if !same(*value, value_at(values, i, unset)) {
             return false;
         }
-        i += 1;
     }
     true
 }
 
-// The byte at a place, 170 past the end.
-fn byte_in(text: &[u8], i: usize) -> u8
-    ensures { result ≡ get_or text.now i 170 }
+// Whether `out` holds the values from place 16 on, and `unset` before and behind them.
+fn stands<T: Copy, F: Fn(T, T) -> bool>(out: &[T], values: &[T], unset: T, same: F) -> bool
+    requires { F.IsAlwaysCallable same }
+    ensures { (alike : T → T → Bool) → ((x y r : _) → F.post same x y r → r ≡ alike x y)
+        → result ≡ S.stands alike unset out.now values.now }
 {
-    if i < text.len() { text[i] } else { 170 }
-}
-
-// Whether `out` holds the text and 170 after it.
-fn text_holds(out: &[u8], text: &[u8]) -> bool
-    ensures { result ≡ S.text_holds out.now text.now }
-{
-    if out.len() < text.len() {
+    if out.len() < 16 {
         return false;
     }
-    let mut i = 0;
-    while i < out.len() {
-        if byte(out, i) != byte_in(text, i) {
-            return false;
-        }
-        i += 1;
+    if !holds(&out[..16], &values[..0], unset, &same) {
+        return false;
     }
-    true
+    holds(&out[16..], values, unset, &same)
 }
 
-// Whether `out` holds the numbers from place 16 on, and UNSET before and behind them.
 fn numbers_stand(out: &[f64], numbers: &[f64]) -> bool
     ensures { result ≡ S.numbers_stand out.now numbers.now }
 {
-    if out.len() < 16 {
-        return false;
-    }
-    if !numbers_hold(&out[..16], &numbers[..0]) {
-        return false;
-    }
-    numbers_hold(&out[16..], numbers)
+    stands(out, numbers, UNSET, same)
 }
 
-// The same of a text, with 170 before and behind it.
 fn text_stands(out: &[u8], text: &[u8]) -> bool
     ensures { result ≡ S.text_stands out.now text.now }
 {
-    if out.len() < 16 {
-        return false;
-    }
-    if !text_holds(&out[..16], &text[..0]) {
-        return false;
-    }
-    text_holds(&out[16..], text)
+    stands(out, text, 170, |x: u8, y: u8| x == y)
 }
 
 // The same of the n numbers in a payload from a place on.

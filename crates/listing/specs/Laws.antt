@@ -61,6 +61,10 @@ front {l} {out} {txt} {n} w h =
     let f = written_fits w h in
     (omega (arith, f.0), rw (f.0, f.1) (take-append_seam txt (drop (length txt) l)))
 
+-- the slice by another name
+pub front_as : {n k : ℕ} {out left txt : List ℕ} → left ≡ out → (n ≤ k) × (take n out ≡ txt) → (n ≤ k) × (take n left ≡ txt)
+front_as {n} e f = (f.0, ap (take n) e ∙ f.1)
+
 -- ---- the call, with as much lent as there is
 
 -- a call that is answered leaves the listing at the front

@@ -8,6 +8,7 @@ ghost use Rattle.listing.specs.Listing as S;
 
 use std::io;
 use std::io::{Read, Write};
+use text::Writer;
 
 // One byte more is asked for than a sheet may have, so that a longer input is refused as a sheet of that length.
 const ASKED: usize = 65537;
@@ -19,29 +20,27 @@ fn put_refused(out: &mut [u8], n: u8) -> usize
     requires { 12 ≤ length out.old }
     ensures { (result ≤ length out.old) × (take result out.new ≡ S.refused_text n) }
 {
-    let word = text::put_bytes(out, 0, b"refused ");
-    let end = text::put_number(out, word, n as u64);
-    text::put_byte(out, end, b'\n')
+    let mut w = Writer { out, at: 0 };
+    w.bytes(b"refused ");
+    w.number(n as u64);
+    w.byte(b'\n');
+    w.at
 }
 
-// What the program writes for the n bytes that it read, at the front of `text`: how many bytes.
-fn output(input: &[u8; ASKED], n: usize, text: &mut [u8; LENT]) -> usize
-    requires { n ≤ length input.now }
-    ensures { (length input.now ≡ S.asked)
-        × (length text.new ≡ S.lent)
+// What the program writes of a sheet, at the front of `text`: how many bytes.
+fn output(sheet: &[u8], text: &mut [u8; LENT]) -> usize
+    ensures { (length text.new ≡ S.lent)
         × (result ≤ S.lent)
-        × (take result text.new ≡ S.output (take n input.now)) }
+        × (take result text.new ≡ S.output sheet.now) }
 {
-    let m = sheet::main_screen();
-    let whole: &[u8] = input;
-    let c = calls::list(&whole[..n], m, 0, text);
-    match c {
-        Ok(length) => length,
+    match calls::list(sheet, sheet::main_screen(), 0, text) {
+        Ok(n) => n,
         Err(refusal) => put_refused(text, refusal.into()),
     }
 }
 
-// Reads until `buf` is full or the input ends: how many bytes, which are the input's first.
+// Reads until `buf` is full or the input ends: how many bytes, which are the input's first. (The library reads
+// to the end of an input only into a Vec.)
 fn read_full<R: Read>(from: &mut R, buf: &mut [u8]) -> io::Result<usize>
     ensures bound { IfOk result (λ n. n ≤ length buf.new) }
     ensures bytes { IfOk result (λ n. IfSome (R.remaining from.old)
@@ -66,8 +65,8 @@ fn run<R: Read, W: Write>(from: &mut R, to: &mut W) -> io::Result<()>
     let mut input = [0u8; ASKED];
     let n = read_full(from, &mut input)?;
     let mut text = [0u8; LENT];
-    let m = output(&input, n, &mut text);
-    to.write_all(&text[..m])
+    let written = output(&input[..n], &mut text);
+    to.write_all(&text[..written])
 }
 
 fn main(rt: HostRuntime) -> io::Result<()> {

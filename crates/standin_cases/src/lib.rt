@@ -5,7 +5,7 @@ ghost use Rattle.std.specs.Prelude.{◌≡◌};
 ghost use Rattle.standin_cases.specs.Cases as S;
 
 use cases::{answered, byte, float as at};
-use float::Ordering;
+use std::cmp::Ordering;
 
 fn number(o: Ordering) -> u8
     ensures { result ≡ S.number o }

@@ -2,55 +2,108 @@
 // how many there were and how many differ. `oracle/README.md` says how the stream is made.
 #![tactic(auto)]
 
-ghost use Rattle.std.specs.Prelude.{◌<◌};
-
+use std::fmt;
 use std::io;
 use std::io::Read;
 
 // One case more than any stream has; a longer stream counts as cut short.
 const MOST: u32 = 1000000;
 
-// A case that was read: its kind and its payload's length. Not whole where the input ended in it,
-// or where it is longer than any case.
+// The kinds of cases of the stand-ins, from 0 on, and of the calls, from 60 on.
+const STAND_INS: [&str; 17] = [
+    "none",
+    "root",
+    "hypot",
+    "midpoint",
+    "rem_euclid",
+    "sin",
+    "cos",
+    "atan2",
+    "min",
+    "max",
+    "round",
+    "abs",
+    "clamp",
+    "signum",
+    "copysign",
+    "total_cmp",
+    "rem_tau",
+];
+
+const CALLS: [&str; 9] = [
+    "route",
+    "layout",
+    "clutter",
+    "list",
+    "check",
+    "label_size",
+    "write_num",
+    "write_sheet",
+    "under_limits",
+];
+
+// A case that was read.
 #[derive(Clone, Copy)]
-struct Case {
+struct Case<'a> {
     kind: u8,
-    length: usize,
-    whole: bool,
+    payload: &'a [u8],
 }
 
-fn wide(b: u8) -> usize
-    ensures { result < 256 }
-{
-    b as usize
+// How many cases of a kind there were, and how many differ.
+#[derive(Clone, Copy)]
+struct Count {
+    cases: u64,
+    differ: u64,
 }
 
-fn cut() -> Case {
-    Case {
-        kind: 0,
-        length: 0,
-        whole: false,
+impl Count {
+    const NONE: Count = Count { cases: 0, differ: 0 };
+
+    fn add(&mut self, more: Count) {
+        self.cases = self.cases.wrapping_add(more.cases);
+        self.differ = self.differ.wrapping_add(more.differ);
     }
 }
 
-// Reads a case. A read that fails counts as the end of the input.
-fn next<R: Read>(from: &mut R, payload: &mut [u8]) -> Case {
+impl fmt::Display for Count {
+    fn fmt<W: fmt::Write>(&self, f: &mut fmt::Formatter<W>) -> fmt::Result {
+        write!(f, "{} cases, {} differ", self.cases, self.differ)
+    }
+}
+
+// What ended the comparison.
+#[derive(Clone, Copy)]
+enum Ending {
+    // The case that ends the stream, with the right number of cases.
+    Complete,
+    // That case with another number.
+    OtherNumber,
+    // The input, before that case.
+    CutShort,
+}
+
+impl fmt::Display for Ending {
+    fn fmt<W: fmt::Write>(&self, f: &mut fmt::Formatter<W>) -> fmt::Result {
+        f.write_str(match self {
+            Ending::Complete => "the stream is complete",
+            Ending::OtherNumber => "the stream says another number of cases",
+            Ending::CutShort => "the stream is cut short",
+        })
+    }
+}
+
+// Reads a case; none where the input ended in it, or where it is longer than any case. A read that fails
+// counts as the end of the input.
+fn next<'a, R: Read>(from: &mut R, buffer: &'a mut [u8]) -> Option<Case<'a>> {
     let mut head = [0u8; 4];
-    if from.read_exact(&mut head).is_err() {
-        return cut();
-    }
-    let length = wide(head[1]) + 256 * wide(head[2]) + 65536 * wide(head[3]);
-    if length > payload.len() {
-        return cut();
-    }
-    if from.read_exact(&mut payload[..length]).is_err() {
-        return cut();
-    }
-    Case {
+    from.read_exact(&mut head).ok()?;
+    let length = u32::from_le_bytes([head[1], head[2], head[3], 0]) as usize;
+    let payload = buffer.get_mut(..length)?;
+    from.read_exact(payload).ok()?;
+    Some(Case {
         kind: head[0],
-        length: length,
-        whole: true,
-    }
+        payload,
+    })
 }
 
 // Whether the program's answer to a case is the oracle's: below 60 the stand-ins, from there on the
@@ -63,178 +116,61 @@ fn agrees(kind: u8, p: &[u8]) -> bool {
 }
 
 // A spoiled case is a kind and its payload with another answer; there the program must not agree.
-fn holds(kind: u8, p: &[u8]) -> bool {
-    if kind != 255 {
-        return agrees(kind, p);
+fn holds(case: &Case) -> bool {
+    if case.kind != 255 {
+        return agrees(case.kind, case.payload);
     }
-    if p.len() == 0 {
-        return false;
-    }
-    let inner = p[0];
-    if inner == 0 {
-        return false;
-    }
-    !agrees(inner, &p[1..])
-}
-
-// One more at the kind's place.
-fn count(list: &mut [u64], kind: u8) {
-    let k = wide(kind);
-    if k < list.len() {
-        list[k] = std::num::wrapping_add_u64(list[k], 1);
+    match case.payload.split_first() {
+        None | Some((0, _)) => false,
+        Some((kind, rest)) => !agrees(*kind, rest),
     }
 }
 
-// Tries a case.
-fn tried(kind: u8, p: &[u8], cases: &mut [u64], differ: &mut [u64]) {
-    count(cases, kind);
-    if !holds(kind, p) {
-        count(differ, kind);
-    }
-}
-
-// What ended the comparison: 0 nothing yet; 1 the case that ends the stream, with the right number of
-// cases; 2 that case with another number; 3 the input ended before it.
-fn step<R: Read>(
-    from: &mut R,
-    payload: &mut [u8],
-    cases: &mut [u64],
-    differ: &mut [u64],
-    done: u64,
-) -> u8 {
-    let c = next(from, payload);
-    let length = c.length;
-    if !c.whole {
-        return 3;
-    }
-    if length > payload.len() {
-        return 3;
-    }
-    if c.kind == 0 {
-        if cases::bits(&payload[..length], 0) == done {
-            return 1;
+fn compare_all<R: Read>(from: &mut R, counts: &mut [Count; 256]) -> Ending {
+    let mut buffer = [0u8; 140000];
+    for done in 0..MOST {
+        let Some(case) = next(from, &mut buffer) else {
+            return Ending::CutShort;
+        };
+        if case.kind == 0 {
+            if cases::bits(case.payload, 0) == u64::from(done) {
+                return Ending::Complete;
+            }
+            return Ending::OtherNumber;
         }
-        return 2;
+        let differ = u64::from(!holds(&case));
+        counts[usize::from(case.kind)].add(Count { cases: 1, differ });
     }
-    tried(c.kind, &payload[..length], cases, differ);
-    0
-}
-
-fn compare_all<R: Read>(from: &mut R, cases: &mut [u64], differ: &mut [u64]) -> u8 {
-    let mut payload = [0u8; 140000];
-    let mut done: u32 = 0;
-    while done < MOST {
-        let end = step(from, &mut payload, cases, differ, done as u64);
-        if end != 0 {
-            return end;
-        }
-        done += 1;
-    }
-    3
-}
-
-fn at(list: &[u64], k: usize) -> u64 {
-    if k < list.len() { list[k] } else { 0 }
-}
-
-fn report_all(rt: &impl Print, cases: &[u64], differ: &[u64]) -> io::Result<()> {
-    let mut all: u64 = 0;
-    let mut bad: u64 = 0;
-    let mut kind: u8 = 0;
-    while kind < 255 {
-        kind += 1;
-        let n = at(cases, wide(kind));
-        let d = at(differ, wide(kind));
-        line(rt, kind, n, d)?;
-        all = std::num::wrapping_add_u64(all, n);
-        bad = std::num::wrapping_add_u64(bad, d);
-    }
-    total(rt, all, bad)
+    Ending::CutShort
 }
 
 // ---- what the program prints
 
-fn say(rt: &impl Print, text: &[u8]) -> io::Result<()> {
-    rt.write_all(text)
+fn name(kind: u8) -> &'static str {
+    match kind {
+        0..=16 => STAND_INS[usize::from(kind)],
+        60..=68 => CALLS[usize::from(kind - 60)],
+        255 => "spoiled",
+        _ => "no such kind",
+    }
 }
 
-fn number(rt: &impl Print, n: u64) -> io::Result<()> {
-    rt.print(n)
-}
-
-// The twenty bytes of a table from a place on; nothing past its end.
-fn entry(rt: &impl Print, table: &[u8], from: usize) -> io::Result<()> {
-    let end = std::num::wrapping_add_usize(from, 20);
-    if from <= end {
-        if end <= table.len() {
-            return say(rt, &table[from..end]);
+// A line for each kind that the stream has, and the sum.
+fn report_all(rt: &impl Print, counts: &[Count; 256]) -> io::Result<()> {
+    let mut all = Count::NONE;
+    for kind in 1..=255u8 {
+        let count = counts[usize::from(kind)];
+        if count.cases != 0 {
+            println!(rt; "{:20}: {}", name(kind), count)?;
         }
+        all.add(count);
     }
-    Ok(())
-}
-
-// The name of a kind of case.
-fn name(rt: &impl Print, kind: u8) -> io::Result<()> {
-    if kind == 255 {
-        return say(rt, b"spoiled             ");
-    }
-    if kind < 17 {
-        return entry(
-            rt,
-            b"none                root                hypot               midpoint            rem_euclid          \
-              sin                 cos                 atan2               min                 max                 \
-              round               abs                 clamp               signum              copysign            \
-              total_cmp           rem_tau             ",
-            20 * wide(kind),
-        );
-    }
-    if kind < 60 {
-        return say(rt, b"no such kind        ");
-    }
-    if kind > 68 {
-        return say(rt, b"no such kind        ");
-    }
-    entry(
-        rt,
-        b"route               layout              clutter             list                check               \
-          label_size          write_num           write_sheet         under_limits        ",
-        20 * wide(kind - 60),
-    )
-}
-
-// One line; none where the stream has no such case.
-fn line(rt: &impl Print, kind: u8, cases: u64, differ: u64) -> io::Result<()> {
-    if cases == 0 {
-        return Ok(());
-    }
-    name(rt, kind)?;
-    say(rt, b": ")?;
-    number(rt, cases)?;
-    say(rt, b" cases, ")?;
-    number(rt, differ)?;
-    say(rt, b" differ\n")
-}
-
-fn total(rt: &impl Print, cases: u64, differ: u64) -> io::Result<()> {
-    say(rt, b"in all: ")?;
-    number(rt, cases)?;
-    say(rt, b" cases, ")?;
-    number(rt, differ)?;
-    say(rt, b" differ\n")
-}
-
-fn ending(rt: &impl Print, end: u8) -> io::Result<()> {
-    match end {
-        1 => say(rt, b"the stream is complete\n"),
-        2 => say(rt, b"the stream says another number of cases\n"),
-        _ => say(rt, b"the stream is cut short\n"),
-    }
+    println!(rt; "in all: {all}")
 }
 
 fn main(rt: HostRuntime) -> io::Result<()> {
-    let mut cases = [0u64; 256];
-    let mut differ = [0u64; 256];
-    let end = compare_all(&mut rt.stdin(), &mut cases, &mut differ);
-    report_all(&rt, &cases, &differ)?;
-    ending(&rt, end)
+    let mut counts = [Count::NONE; 256];
+    let ending = compare_all(&mut rt.stdin(), &mut counts);
+    report_all(&rt, &counts)?;
+    println!(rt; "{ending}")
 }

@@ -6,10 +6,6 @@ use refusal::Refusal;
 use sheet::Limits;
 use std::io;
 
-fn say(rt: &impl Print, text: &[u8]) -> io::Result<()> {
-    rt.write_all(text)
-}
-
 fn refused(rt: &impl Print, refusal: Refusal) -> io::Result<()> {
     let n = u8::from(refusal);
     println!(rt; "refused {n}")
@@ -19,7 +15,7 @@ fn refused(rt: &impl Print, refusal: Refusal) -> io::Result<()> {
 fn checked(rt: &impl Print, sheet: &[u8], limits: Limits) -> io::Result<()> {
     let c = calls::check(sheet, limits);
     match c {
-        Ok(()) => say(rt, b"accepted\n"),
+        Ok(()) => println!(rt; "accepted"),
         Err(refusal) => refused(rt, refusal),
     }
 }
@@ -35,10 +31,10 @@ fn written(rt: &impl Print, v: f64) -> io::Result<()> {
 }
 
 fn shown(rt: &impl Print, out: &[u8], n: usize) -> io::Result<()> {
-    if n <= out.len() {
-        say(rt, &out[..n])?;
+    if let Some(text) = out.get(..n) {
+        rt.write_all(text)?;
     }
-    say(rt, b"\n")
+    println!(rt)
 }
 
 // What `clutter` says of a sheet whose one state has this x.
@@ -47,7 +43,7 @@ fn centred(rt: &impl Print, sheet: &[u8], x: f64) -> io::Result<()> {
     let ys = [0.0];
     let c = calls::clutter(sheet, sheet::main_screen(), &xs, &ys);
     match c {
-        Ok(_) => say(rt, b"accepted\n"),
+        Ok(_) => println!(rt; "accepted"),
         Err(refusal) => refused(rt, refusal),
     }
 }
@@ -74,19 +70,19 @@ fn listed(rt: &impl Print, sheet: &[u8]) -> io::Result<()> {
 }
 
 fn sheets(rt: &impl Print) -> io::Result<()> {
-    say(rt, b"count 0, 16 bytes: ")?;
+    print!(rt; "count 0, 16 bytes: ")?;
     checked(
         rt,
         b"\x01\0\0\0\0\0\0\0\0\0\0\0\0\0\0\0",
         sheet::main_screen(),
     )?;
-    say(rt, b"count 0, 17 bytes: ")?;
+    print!(rt; "count 0, 17 bytes: ")?;
     checked(
         rt,
         b"\x01\0\0\0\0\0\0\0\0\0\0\0\0\0\0\0\0",
         sheet::main_screen(),
     )?;
-    say(rt, b"a record naming itself: ")?;
+    print!(rt; "a record naming itself: ")?;
     checked(
         rt,
         b"\x01\0\x01\0\x01\0\0\0\0\0\0\0\0\0\0\0\x01\0\x01\0\0\0\0\0\0\0\0\0\0\0\0\0",
@@ -110,7 +106,7 @@ fn five_lines(rt: &impl Print, limits: Limits) -> io::Result<()> {
 }
 
 fn screens(rt: &impl Print) -> io::Result<()> {
-    say(rt, b"an arrow of 4 lines on the service panel: ")?;
+    print!(rt; "an arrow of 4 lines on the service panel: ")?;
     checked(
         rt,
         b"\x01\0\x05\0\0\0\x01\0\0\0\0\0\0\0\0\0\
@@ -121,27 +117,27 @@ fn screens(rt: &impl Print) -> io::Result<()> {
           \x03\0\0\0\0\0\0\0\0\0\0\0\0\0\0\0",
         sheet::service_panel(),
     )?;
-    say(rt, b"an arrow of 5 lines on the service panel: ")?;
+    print!(rt; "an arrow of 5 lines on the service panel: ")?;
     five_lines(rt, sheet::service_panel())?;
-    say(rt, b"an arrow of 5 lines on the main screen: ")?;
+    print!(rt; "an arrow of 5 lines on the main screen: ")?;
     five_lines(rt, sheet::main_screen())
 }
 
 fn numbers(rt: &impl Print) -> io::Result<()> {
-    say(rt, b"just under 10^13: ")?;
+    print!(rt; "just under 10^13: ")?;
     written(rt, 9999999999999.998)?;
-    say(rt, b"10^13: ")?;
+    print!(rt; "10^13: ")?;
     written(rt, 10000000000000.0)
 }
 
 fn centres(rt: &impl Print) -> io::Result<()> {
-    say(rt, b"a centre of 2^20: ")?;
+    print!(rt; "a centre of 2^20: ")?;
     centred(
         rt,
         b"\x01\0\x01\0\x01\0\0\0\0\0\0\0\0\0\0\0\x01\x01\0\0\0\0\0\0\0\0\0\0\0\0\0\0",
         1048576.0,
     )?;
-    say(rt, b"the next f64 above 2^20: ")?;
+    print!(rt; "the next f64 above 2^20: ")?;
     centred(
         rt,
         b"\x01\0\x01\0\x01\0\0\0\0\0\0\0\0\0\0\0\x01\x01\0\0\0\0\0\0\0\0\0\0\0\0\0\0",
@@ -150,7 +146,7 @@ fn centres(rt: &impl Print) -> io::Result<()> {
 }
 
 fn layouts(rt: &impl Print) -> io::Result<()> {
-    say(rt, b"2 states, 5 arrows, apart: ")?;
+    print!(rt; "2 states, 5 arrows, apart: ")?;
     apart(
         rt,
         b"\x01\0\x07\0\x01\0\x03\0\0\0\0\0\0\0\0\0\
@@ -162,7 +158,7 @@ fn layouts(rt: &impl Print) -> io::Result<()> {
           \x02\0\x07\0\x01\0\0\0\0\0\0\0\0\0\0\0\
           \x02\0\0\0\0\0\x01\0\0\0\0\0\0\0\0\0",
     )?;
-    say(rt, b"2 states, 6 arrows, apart: ")?;
+    print!(rt; "2 states, 6 arrows, apart: ")?;
     apart(
         rt,
         b"\x01\0\x08\0\x01\0\x03\0\0\0\0\0\0\0\0\0\
@@ -178,12 +174,9 @@ fn layouts(rt: &impl Print) -> io::Result<()> {
 }
 
 fn listing(rt: &impl Print) -> io::Result<()> {
-    say(rt, b"no states:\n")?;
+    println!(rt; "no states:")?;
     listed(rt, b"\x01\0\0\0\0\0\0\0\0\0\0\0\0\0\0\0")?;
-    say(
-        rt,
-        b"a start state, a second state, an arrow 0 to 1 with the line `a`:\n",
-    )?;
+    println!(rt; "a start state, a second state, an arrow 0 to 1 with the line `a`:")?;
     listed(
         rt,
         b"\x01\0\x05\0\x01\0\x03\0\0\0\0\0\0\0\0\0\
