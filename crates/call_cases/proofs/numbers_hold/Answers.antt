@@ -18,15 +18,6 @@ returns-then-out-numbers c = rw (lt-leb _ _ c.if-out-numbers.true)
 pub loop-i-init : goal.loop-i-init
 loop-i-init c = (search rules, refl)
 
-pub number_at-requires : goal.number_at-requires
-number_at-requires c = tt
-
-pub number_at-requires-in-loop-i : goal.number_at-requires-in-loop-i
-number_at-requires-in-loop-i c = tt
-
-pub same-requires : goal.same-requires
-same-requires c = tt
-
 pub returns-then-not-same : goal.returns-then-not-same
 unfolding numbers_hold
 returns-then-not-same c = rw (le-leb _ _ c.if-out-numbers.false, ← c.loop-i.invariant.1, any_hit (differs c.args.out.now c.args.numbers.now) c.loop-i.i (length c.args.out.now) (omega arith) (rw (← c.number_at.ensures, ← c.number_at-in-loop-i.ensures, ← c.same.ensures, (ap not c.if-not-same.true))))

@@ -17,15 +17,9 @@ returns-then-out-lt16 c = rw (lt-leb _ _ c.if-out-lt16.true)
 pub slice_bounds-numbers_hold-end : goal.slice_bounds-numbers_hold-end
 slice_bounds-numbers_hold-end c = sym (length-take-le 16 c.args.out.now (omega arith))
 
-pub numbers_hold-requires : goal.numbers_hold-requires
-numbers_hold-requires c = tt
-
 pub returns-then-not-numbers_hold : goal.returns-then-not-numbers_hold
 unfolding numbers_stand
 returns-then-not-numbers_hold c = rw (le-leb _ _ c.if-out-lt16.false, ← c.numbers_hold.ensures, not-true c.numbers_hold.result (ap not c.if-not-numbers_hold.true))
-
-pub numbers_hold-requires-2 : goal.numbers_hold-requires-2
-numbers_hold-requires-2 c = tt
 
 pub returns : goal.returns
 unfolding numbers_stand

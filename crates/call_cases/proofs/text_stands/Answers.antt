@@ -17,15 +17,9 @@ returns-then-out-lt16 c = rw (lt-leb _ _ c.if-out-lt16.true)
 pub slice_bounds-text_holds-end : goal.slice_bounds-text_holds-end
 slice_bounds-text_holds-end c = sym (length-take-le 16 c.args.out.now (omega arith))
 
-pub text_holds-requires : goal.text_holds-requires
-text_holds-requires c = tt
-
 pub returns-then-not-text_holds : goal.returns-then-not-text_holds
 unfolding text_stands
 returns-then-not-text_holds c = rw (le-leb _ _ c.if-out-lt16.false, ← c.text_holds.ensures, not-true c.text_holds.result (ap not c.if-not-text_holds.true))
-
-pub text_holds-requires-2 : goal.text_holds-requires-2
-text_holds-requires-2 c = tt
 
 pub returns : goal.returns
 unfolding text_stands

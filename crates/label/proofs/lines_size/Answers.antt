@@ -11,12 +11,6 @@ use Rattle.label.proofs.lines_size.Goals as goal
 pub loop-i-init : goal.loop-i-init
 loop-i-init c = (refl, omega arith, omega (arith, c.requires), refl)
 
-pub measure_start-requires : goal.measure_start-requires
-measure_start-requires c = tt
-
-pub measure_part-m-requires : goal.measure_part-m-requires
-measure_part-m-requires c = tt
-
 pub returns-then-m-ne0 : goal.returns-then-m-ne0
 returns-then-m-ne0 c = let text = c.args.text.now in
     let lengths = c.args.lengths.now in
@@ -24,17 +18,8 @@ returns-then-m-ne0 c = let text = c.args.text.now in
     let e = c.measure_part-m.ensures ∙ ap (λ (m : Measure). measure_all m (take (get_or lengths c.loop-i.i 0) (drop c.loop-i.at text))) c.measure_start.ensures in
     line_ill h c.loop-i.width text lengths c.loop-i.at c.loop-i.i (omega arith) c.measure_part-m.result.st (ap (λ (m : Measure). m.st) e) c.if-m-ne0.true ∙ c.loop-i.invariant.3
 
-pub max-width-requires : goal.max-width-requires
-max-width-requires c = tt
-
 pub overflow_add-at : goal.overflow_add-at
 overflow_add-at c = omega (arith, total-at 0 0 c.args.lengths.now c.loop-i.i (omega arith))
-
-pub overflow_step-i : goal.overflow_step-i
-overflow_step-i c = omega arith
-
-pub loop-i-smaller : goal.loop-i-smaller
-loop-i-smaller c = omega arith
 
 pub loop-i-preserved : goal.loop-i-preserved
 loop-i-preserved c = let text = c.args.text.now in
@@ -49,9 +34,6 @@ loop-i-preserved c = let text = c.args.text.now in
           (ap (λ (m : Measure). m.st) e) (ap (λ (m : Measure). m.width) e) c.if-m-ne0.false
           ∙ c.loop-i.invariant.3,
     )
-
-pub block_height-requires : goal.block_height-requires
-block_height-requires c = tt
 
 pub returns : goal.returns
 returns c = let text = c.args.text.now in
