@@ -186,8 +186,7 @@ fn lines_size(text: &[u8], lengths: &[usize]) -> Result<(f64, f64), Refusal>
 {
     let mut at = 0;
     let mut width = 0.0;
-    for i in 0..lengths.len() {
-        let n = lengths[i];
+    for &n in lengths {
         let m = measure_part(text, at, n, measure_start());
         if m.st != 0 {
             return Err(Refusal::Utf8);
