@@ -121,7 +121,11 @@ fn label_agrees(answer: u8, text: &[u8], m: Limits, rest: &[u8]) -> bool
     }
     let mut lengths = [0usize; 16];
     fill_sizes(rest, 18, &mut lengths);
-    outcome_is(calls::label_size(text, &lengths[..lines], m), answer, |(w, h)| size_is(rest, w, h))
+    outcome_is(
+        calls::label_size(text, &lengths[..lines], m),
+        answer,
+        |(w, h)| size_is(rest, w, h),
+    )
 }
 
 // Writes a number into the middle of `out`.

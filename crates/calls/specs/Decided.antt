@@ -3,19 +3,11 @@ use Rattle.std.specs.Prelude.{◌≡◌, List, ℕ}
 use Rattle.std.proofs.Common.{sym, ◌∙◌, arith}
 use Rattle.laws.specs.Refusals.{Refusal, decide, Clear, First, first_decides, clear_decides}
 use Rattle.laws.specs.Refusals as Refusals
-use Rattle.calls.specs.Calls.{Outcome, values, number}
+use Rattle.calls.specs.Calls.{values, number}
+use Rattle.refusal.specs.Laws.{values_same}
+pub use Rattle.refusal.specs.Laws.{number_same, number-apart}
 
 module _ {A : Type 0} where
-  -- numbers are told apart, and from values
-  pub number_same : (m n : ℕ) → ◌≡◌ {A = Outcome A} (number m) (number n) → m ≡ n
-  number_same m n e = cc
-
-  same : {a b : A} → ◌≡◌ {A = Outcome A} (values a) (values b) → a ≡ b
-  same e = cc
-
-  pub number-apart : (a : A) (n : ℕ) → ◌≡◌ {A = Outcome A} (number n) (values a) → ⊥
-  number-apart a n e = let z : ◌≡◌ {A = ℕ} 0 1 = cc in omega arith
-
   module _ (rs : List Refusal) (a : A) where
     -- Each number is given under its cause only, and whenever no earlier cause holds.
     pub number_exactly : (n : ℕ) → (decide rs number (values a) ≡ number n → First rs n) × (First rs n → decide rs number (values a) ≡ number n)
@@ -38,4 +30,4 @@ module _ {A : Type 0} where
       where
         heard : Refusals.FirstOrClear rs → Clear rs × (b ≡ a)
         heard (Refusals.stops n f) = absurd (number-apart b n (sym (first_decides number (values a) rs n f) ∙ sym e))
-        heard (Refusals.goes c) = (c, same (e ∙ clear_decides number (values a) rs c))
+        heard (Refusals.goes c) = (c, values_same (e ∙ clear_decides number (values a) rs c))

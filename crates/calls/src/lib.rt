@@ -100,7 +100,13 @@ pub fn clutter(sheet: &[u8], limits: Limits, xs: &[f64], ys: &[f64]) -> Result<u
 // ---- layout
 
 // Lays out a sheet by kind: the centres of its states and the size.
-pub fn layout(sheet: &[u8], limits: Limits, kind: u8, xs: &mut [f64], ys: &mut [f64]) -> Result<(usize, f64, f64), Refusal>
+pub fn layout(
+    sheet: &[u8],
+    limits: Limits,
+    kind: u8,
+    xs: &mut [f64],
+    ys: &mut [f64],
+) -> Result<(usize, f64, f64), Refusal>
     ensures { let xRoom = length xs.old in
         let yRoom = length ys.old in
         (outcome result ≡ S.layout sheet.now limits kind xRoom yRoom)
@@ -156,7 +162,16 @@ pub fn list(sheet: &[u8], limits: Limits, kind: u8, out: &mut [u8]) -> Result<us
     let mut ys = [0.0f64; 64];
     let mut flags = [0u8; 64];
     let (n, width, height) = plan::plan(sheet, m, kind, &mut xs, &mut ys)?;
-    list_by(sheet, m, width, height, &xs[..n], &ys[..n], &mut flags[..n], out)
+    list_by(
+        sheet,
+        m,
+        width,
+        height,
+        &xs[..n],
+        &ys[..n],
+        &mut flags[..n],
+        out,
+    )
 }
 
 // ---- writing a sheet

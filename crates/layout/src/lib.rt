@@ -214,8 +214,26 @@ fn takes_ring(
     if dense(flags.len(), sources.len()) {
         return true;
     }
-    let layers = placed_clutter(Placement::Layers, flags, sources, targets, widths, heights, xs, ys);
-    let ring = placed_clutter(Placement::Ring, flags, sources, targets, widths, heights, xs, ys);
+    let layers = placed_clutter(
+        Placement::Layers,
+        flags,
+        sources,
+        targets,
+        widths,
+        heights,
+        xs,
+        ys,
+    );
+    let ring = placed_clutter(
+        Placement::Ring,
+        flags,
+        sources,
+        targets,
+        widths,
+        heights,
+        xs,
+        ys,
+    );
     ring + AUTO_TOLERANCE < layers
 }
 

@@ -51,12 +51,39 @@ fn auto_beyond(
         result ≡ M.any_beyond plan (M.measured 0 plan) }
 {
     if layout::dense(flags.len(), sources.len()) {
-        return placed_beyond(Placement::Ring, flags, sources, targets, widths, heights, px, py);
+        return placed_beyond(
+            Placement::Ring,
+            flags,
+            sources,
+            targets,
+            widths,
+            heights,
+            px,
+            py,
+        );
     }
-    if placed_beyond(Placement::Layers, flags, sources, targets, widths, heights, px, py) {
+    if placed_beyond(
+        Placement::Layers,
+        flags,
+        sources,
+        targets,
+        widths,
+        heights,
+        px,
+        py,
+    ) {
         return true;
     }
-    placed_beyond(Placement::Ring, flags, sources, targets, widths, heights, px, py)
+    placed_beyond(
+        Placement::Ring,
+        flags,
+        sources,
+        targets,
+        widths,
+        heights,
+        px,
+        py,
+    )
 }
 
 // By kind.
@@ -77,8 +104,26 @@ fn kind_beyond(
 {
     match kind {
         Kind::Auto => auto_beyond(flags, sources, targets, widths, heights, px, py),
-        Kind::Layered => placed_beyond(Placement::Layers, flags, sources, targets, widths, heights, px, py),
-        Kind::Circular => placed_beyond(Placement::Ring, flags, sources, targets, widths, heights, px, py),
+        Kind::Layered => placed_beyond(
+            Placement::Layers,
+            flags,
+            sources,
+            targets,
+            widths,
+            heights,
+            px,
+            py,
+        ),
+        Kind::Circular => placed_beyond(
+            Placement::Ring,
+            flags,
+            sources,
+            targets,
+            widths,
+            heights,
+            px,
+            py,
+        ),
     }
 }
 
@@ -152,7 +197,14 @@ fn plan_read(
 }
 
 // Lays out a sheet of n states and m arrows.
-fn plan_sized(s: &[u8], kind: Kind, n: usize, m: usize, xs: &mut [f64], ys: &mut [f64]) -> Result<(usize, f64, f64), Refusal>
+fn plan_sized(
+    s: &[u8],
+    kind: Kind,
+    n: usize,
+    m: usize,
+    xs: &mut [f64],
+    ys: &mut [f64],
+) -> Result<(usize, f64, f64), Refusal>
     requires { (n ≡ length (G.states_of s.now))
         × (n ≤ 64)
         × (m ≡ length (G.arrows_of s.now))
@@ -189,7 +241,12 @@ fn plan_sized(s: &[u8], kind: Kind, n: usize, m: usize, xs: &mut [f64], ys: &mut
 }
 
 // Lays out a sheet of at most 64 states and 256 arrows.
-fn plan_accepted(s: &[u8], kind: Kind, xs: &mut [f64], ys: &mut [f64]) -> Result<(usize, f64, f64), Refusal>
+fn plan_accepted(
+    s: &[u8],
+    kind: Kind,
+    xs: &mut [f64],
+    ys: &mut [f64],
+) -> Result<(usize, f64, f64), Refusal>
     requires { (length (G.states_of s.now) ≤ 64)
         × (length (G.arrows_of s.now) ≤ 256)
         × (64 ≤ length xs.old)
@@ -208,7 +265,13 @@ fn plan_accepted(s: &[u8], kind: Kind, xs: &mut [f64], ys: &mut [f64]) -> Result
 
 // Checks a sheet under the limits and lays it out by the number of a kind: how many states there are, width and height,
 // and the centres from the front of `xs` and `ys` on, or a refusal. There is room for 64 states and 256 arrows.
-pub fn plan(s: &[u8], m: Limits, kind: u8, xs: &mut [f64], ys: &mut [f64]) -> Result<(usize, f64, f64), Refusal>
+pub fn plan(
+    s: &[u8],
+    m: Limits,
+    kind: u8,
+    xs: &mut [f64],
+    ys: &mut [f64],
+) -> Result<(usize, f64, f64), Refusal>
     requires { (m.states ≤ 64) × (m.arrows ≤ 256) × (64 ≤ length xs.old) × (64 ≤ length ys.old) }
     ensures { (outcome result ≡ S.planned m kind s.now)
         × (xs.new ≡ S.xs_planned m kind s.now xs.old)

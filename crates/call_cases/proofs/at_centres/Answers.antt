@@ -9,12 +9,6 @@ use Rattle.call_cases.specs.Cases.{drawn_agrees, at_centres}
 use Rattle.call_cases.specs.Laws.{first_floats, of_three}
 use Rattle.call_cases.proofs.at_centres.Goals as goal
 
-pub index-nx-requires : goal.index-nx-requires
-index-nx-requires c = tt
-
-pub index-ny-requires : goal.index-ny-requires
-index-ny-requires c = tt
-
 pub returns-then-nx-gt80 : goal.returns-then-nx-gt80
 unfolding at_centres
 returns-then-nx-gt80 c = rw (← c.index-nx.ensures.0, lt-leb _ _ c.if-nx-gt80.true)
@@ -27,20 +21,11 @@ pub returns-then-rest-end : goal.returns-then-rest-end
 unfolding at_centres
 returns-then-rest-end c = rw (← c.index-nx.ensures.0, ← c.index-ny.ensures.0, le-leb _ _ c.if-nx-gt80.false, le-leb _ _ c.if-ny-gt80.false, lt-leb _ _ c.if-rest-end.true)
 
-pub fill_floats-requires : goal.fill_floats-requires
-fill_floats-requires c = tt
-
-pub fill_floats-requires-2 : goal.fill_floats-requires-2
-fill_floats-requires-2 c = tt
-
 pub slice_bounds-drawn_agrees-end : goal.slice_bounds-drawn_agrees-end
 slice_bounds-drawn_agrees-end c = sym (length-take-le _ _ (omega arith))
 
 pub slice_bounds-drawn_agrees-end-2 : goal.slice_bounds-drawn_agrees-end-2
 slice_bounds-drawn_agrees-end-2 c = sym (length-take-le _ _ (omega arith))
-
-pub drawn_agrees-requires : goal.drawn_agrees-requires
-drawn_agrees-requires c = tt
 
 pub returns : goal.returns
 unfolding at_centres

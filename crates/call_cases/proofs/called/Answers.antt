@@ -3,30 +3,6 @@ use mathlib.Core.Path.{sym, ◌∙◌}
 use Rattle.call_cases.specs.Laws.{no_kind, kind_60, kind_61, kind_62, kind_63, kind_64, kind_65, kind_66, kind_67}
 use Rattle.call_cases.proofs.called.Goals as goal
 
-pub at_centres-requires : goal.at_centres-requires
-at_centres-requires c = tt
-
-pub layout_agrees-requires : goal.layout_agrees-requires
-layout_agrees-requires c = tt
-
-pub at_centres-requires-in-62 : goal.at_centres-requires-in-62
-at_centres-requires-in-62 c = tt
-
-pub list_agrees-requires : goal.list_agrees-requires
-list_agrees-requires c = tt
-
-pub check_is-requires : goal.check_is-requires
-check_is-requires c = tt
-
-pub label_agrees-requires : goal.label_agrees-requires
-label_agrees-requires c = tt
-
-pub number_agrees-requires : goal.number_agrees-requires
-number_agrees-requires c = tt
-
-pub sheet_agrees-requires : goal.sheet_agrees-requires
-sheet_agrees-requires c = tt
-
 pub returns-in-60 : goal.returns-in-60
 returns-in-60 c = c.at_centres.ensures ∙ sym (kind_60 c.args.answer c.args.by c.args.sheet.now c.args.m c.args.rest.now c.args.kind c.in-60.is)
 

@@ -9,21 +9,9 @@ use Rattle.cases.specs.Laws.{part-tail}
 use Rattle.call_cases.specs.Cases.{called, called_under}
 use Rattle.call_cases.proofs.called_under.Goals as goal
 
-pub length_at-end-requires : goal.length_at-end-requires
-length_at-end-requires c = tt
-
 pub returns-then-p-end : goal.returns-then-p-end
 unfolding called_under
 returns-then-p-end c = rw (← c.length_at-end.ensures.0, lt-leb _ _ c.if-p-end.true)
-
-pub byte-requires : goal.byte-requires
-byte-requires c = tt
-
-pub byte-requires-2 : goal.byte-requires-2
-byte-requires-2 c = tt
-
-pub called-requires : goal.called-requires
-called-requires c = tt
 
 pub returns : goal.returns
 unfolding called_under

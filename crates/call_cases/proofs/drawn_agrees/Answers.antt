@@ -4,12 +4,6 @@ use Rattle.cases.specs.Payload.{row_right}
 use Rattle.call_cases.specs.Cases.{drawn_agrees}
 use Rattle.call_cases.proofs.drawn_agrees.Goals as goal
 
-pub route_agrees-requires : goal.route_agrees-requires
-route_agrees-requires c = tt
-
-pub clutter_agrees-requires : goal.clutter_agrees-requires
-clutter_agrees-requires c = tt
-
 pub returns-in-60 : goal.returns-in-60
 unfolding drawn_agrees row_right
 returns-in-60 c = rw c.in-60.is c.route_agrees.ensures

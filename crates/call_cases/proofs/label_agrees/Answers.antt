@@ -14,21 +14,12 @@ use Rattle.cases.specs.Laws.{each_first}
 use Rattle.call_cases.specs.Cases.{outcome_right, size_is, label_agrees}
 use Rattle.call_cases.proofs.label_agrees.Goals as goal
 
-pub index-lines-requires : goal.index-lines-requires
-index-lines-requires c = tt
-
 pub returns-then-lines-gt16 : goal.returns-then-lines-gt16
 unfolding label_agrees
 returns-then-lines-gt16 c = rw (← c.index-lines.ensures.0, lt-leb _ _ c.if-lines-gt16.true)
 
-pub fill_sizes-requires : goal.fill_sizes-requires
-fill_sizes-requires c = tt
-
 pub slice_bounds-label_size-end : goal.slice_bounds-label_size-end
 slice_bounds-label_size-end c = sym (length-take-le _ _ (omega arith))
-
-pub label_size-requires : goal.label_size-requires
-label_size-requires c = tt
 
 pub returns : goal.returns
 unfolding label_agrees

@@ -5,22 +5,13 @@ use mathlib.Core.Path.{ap}
 use mathlib.Core.Bool.{not}
 use Rattle.call_cases.proofs.laid_is.Goals as goal
 
-pub index-requires : goal.index-requires
-index-requires c = tt
-
 pub returns-then-n-index : goal.returns-then-n-index
 unfolding laid_is
 returns-then-n-index c = rw (← c.index.ensures.0, ne_eqb _ _ c.if-n-index.true)
 
-pub same_float-requires : goal.same_float-requires
-same_float-requires c = tt
-
 pub returns-then-not-same_float : goal.returns-then-not-same_float
 unfolding laid_is
 returns-then-not-same_float c = rw (← c.index.ensures.0, eq-eqb _ _ c.if-n-index.false, ← c.same_float.ensures, not-true c.same_float.result (ap not c.if-not-same_float.true))
-
-pub same_float-requires-2 : goal.same_float-requires-2
-same_float-requires-2 c = tt
 
 pub returns : goal.returns
 unfolding laid_is

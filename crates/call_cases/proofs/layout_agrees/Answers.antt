@@ -3,15 +3,9 @@ use borrow.Author.Tests.{le-leb, lt-leb}
 use Rattle.call_cases.specs.Cases.{layout_agrees}
 use Rattle.call_cases.proofs.layout_agrees.Goals as goal
 
-pub index-requires : goal.index-requires
-index-requires c = tt
-
 pub returns-then-index-gt128 : goal.returns-then-index-gt128
 unfolding layout_agrees
 returns-then-index-gt128 c = rw (← c.index.ensures.0, lt-leb _ _ c.if-index-gt128.true)
-
-pub index-requires-2 : goal.index-requires-2
-index-requires-2 c = tt
 
 pub returns-then-index-gt128-2 : goal.returns-then-index-gt128-2
 unfolding layout_agrees

@@ -9,9 +9,6 @@ use Rattle.calls.specs.Calls.{layout, xs_after, ys_after}
 use Rattle.call_cases.specs.Laws.{lent-many, middle_back}
 use Rattle.call_cases.proofs.layout_in.Goals as goal
 
-pub layout-requires : goal.layout-requires
-layout-requires c = tt
-
 pub returns : goal.returns
 returns c = let e : 16 + c.args.nx - 16 ≡ c.args.nx = omega arith in
     let f : 16 + c.args.ny - 16 ≡ c.args.ny = omega arith in

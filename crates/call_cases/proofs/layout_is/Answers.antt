@@ -11,46 +11,13 @@ use Rattle.call_cases.specs.Laws.{tested}
 use mathlib.Core.Bool.{not}
 use Rattle.call_cases.proofs.layout_is.Goals as goal
 
-pub index-n-requires : goal.index-n-requires
-index-n-requires c = tt
-
-pub index-requires : goal.index-requires
-index-requires c = tt
-
-pub index-requires-2 : goal.index-requires-2
-index-requires-2 c = tt
-
-pub shape_of-xs-then-not-outcome_is : goal.shape_of-xs-then-not-outcome_is
-shape_of-xs-then-not-outcome_is c = c.layout_in-l.auto.xs
-
-pub shape_of-ys-then-not-outcome_is : goal.shape_of-ys-then-not-outcome_is
-shape_of-ys-then-not-outcome_is c = c.layout_in-l.auto.ys
-
 pub returns-then-not-outcome_is : goal.returns-then-not-outcome_is
 unfolding layout_is
 returns-then-not-outcome_is c = rw (← c.index-n.ensures.0, ← c.index.ensures.0, ← c.index-2.ensures.0, tested (λ (o : Outcome (ℕ × Float × Float)). outcome_right c.args.answer (laid_is c.args.rest.now) o) _ _ _ _ (c.outcome_is.ensures (laid_is c.args.rest.now) (λ v b p. search rules)) c.layout_in-l.ensures.0 (not-true _ (ap not c.if-not-outcome_is.true)))
 
-pub numbers_in-requires : goal.numbers_in-requires
-numbers_in-requires c = tt
-
-pub shape_of-xs-then-not-numbers_in : goal.shape_of-xs-then-not-numbers_in
-shape_of-xs-then-not-numbers_in c = c.layout_in-l.auto.xs
-
-pub shape_of-ys-then-not-numbers_in : goal.shape_of-ys-then-not-numbers_in
-shape_of-ys-then-not-numbers_in c = c.layout_in-l.auto.ys
-
 pub returns-then-not-numbers_in : goal.returns-then-not-numbers_in
 unfolding layout_is
 returns-then-not-numbers_in c = rw (← c.index-n.ensures.0, ← c.index.ensures.0, ← c.index-2.ensures.0, tested (λ (o : Outcome (ℕ × Float × Float)). outcome_right c.args.answer (laid_is c.args.rest.now) o) _ _ _ _ (c.outcome_is.ensures (laid_is c.args.rest.now) (λ v b p. search rules)) c.layout_in-l.ensures.0 (not-false _ (ap not c.if-not-outcome_is.false)), tested (λ (l : List Float). numbers_stand_in c.args.rest.now 22 c.index-n.result l) _ _ _ _ c.numbers_in.ensures c.layout_in-l.ensures.1 (not-true _ (ap not c.if-not-numbers_in.true)))
-
-pub numbers_in-requires-2 : goal.numbers_in-requires-2
-numbers_in-requires-2 c = tt
-
-pub shape_of-xs : goal.shape_of-xs
-shape_of-xs c = c.layout_in-l.auto.xs
-
-pub shape_of-ys : goal.shape_of-ys
-shape_of-ys c = c.layout_in-l.auto.ys
 
 pub returns : goal.returns
 unfolding layout_is

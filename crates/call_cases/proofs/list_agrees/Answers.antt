@@ -8,9 +8,6 @@ use Rattle.cases.specs.Laws.{part-tail}
 use Rattle.call_cases.specs.Cases.{list_is, list_agrees}
 use Rattle.call_cases.proofs.list_agrees.Goals as goal
 
-pub index-room-requires : goal.index-room-requires
-index-room-requires c = tt
-
 pub returns-then-rest-lt2 : goal.returns-then-rest-lt2
 unfolding list_agrees
 returns-then-rest-lt2 c = rw (lt-leb _ _ c.if-rest-lt2.true)

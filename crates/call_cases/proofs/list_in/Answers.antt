@@ -7,9 +7,6 @@ use Rattle.calls.specs.Calls.{list, list_after}
 use Rattle.call_cases.specs.Laws.{lent-many, middle_back}
 use Rattle.call_cases.proofs.list_in.Goals as goal
 
-pub list-requires : goal.list-requires
-list-requires c = tt
-
 pub returns : goal.returns
 returns c = let e : 16 + c.args.room - 16 ≡ c.args.room = omega arith in
     (c.list.ensures.0 ∙ ap (list c.args.sheet.now c.args.m c.args.by) (lent-many c.args.room _ c.args.out.now e (omega arith)), middle_back c.args.room _ c.args.out.now _ (list_after c.args.sheet.now c.args.m c.args.by) e (c.list.ensures.1 ∙ ap (λ (k : ℕ). list_after c.args.sheet.now c.args.m c.args.by (take k (drop 16 c.args.out.now))) e))

@@ -9,9 +9,6 @@ use Rattle.cases.specs.Laws.{part-tail}
 use Rattle.call_cases.specs.Cases.{number_is, number_agrees}
 use Rattle.call_cases.proofs.number_agrees.Goals as goal
 
-pub index-room-requires : goal.index-room-requires
-index-room-requires c = tt
-
 pub returns-then-room-gt64 : goal.returns-then-room-gt64
 unfolding number_agrees
 returns-then-room-gt64 c = rw (← c.index-room.ensures.0, lt-leb _ _ c.if-room-gt64.true)
@@ -19,9 +16,6 @@ returns-then-room-gt64 c = rw (← c.index-room.ensures.0, lt-leb _ _ c.if-room-
 pub returns-then-rest-lt10 : goal.returns-then-rest-lt10
 unfolding number_agrees
 returns-then-rest-lt10 c = rw (← c.index-room.ensures.0, le-leb _ _ c.if-room-gt64.false, lt-leb _ _ c.if-rest-lt10.true)
-
-pub float-requires : goal.float-requires
-float-requires c = tt
 
 pub returns : goal.returns
 unfolding number_agrees

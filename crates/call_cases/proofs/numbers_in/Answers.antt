@@ -11,14 +11,8 @@ pub returns-then-n-gt5120 : goal.returns-then-n-gt5120
 unfolding numbers_stand_in
 returns-then-n-gt5120 c = rw (lt-leb _ _ c.if-n-gt5120.true)
 
-pub fill_floats-requires : goal.fill_floats-requires
-fill_floats-requires c = tt
-
 pub slice_bounds-numbers_stand-end : goal.slice_bounds-numbers_stand-end
 slice_bounds-numbers_stand-end c = sym (length-take-le _ _ (omega arith))
-
-pub numbers_stand-requires : goal.numbers_stand-requires
-numbers_stand-requires c = tt
 
 pub returns : goal.returns
 unfolding numbers_stand_in

@@ -8,18 +8,9 @@ use Rattle.cases.specs.Laws.{part-tail}
 use Rattle.call_cases.specs.Cases.{unset, route_is, route_agrees}
 use Rattle.call_cases.proofs.route_agrees.Goals as goal
 
-pub index-requires : goal.index-requires
-index-requires c = tt
-
-pub index-requires-2 : goal.index-requires-2
-index-requires-2 c = tt
-
 pub returns-then-index-gt5200 : goal.returns-then-index-gt5200
 unfolding route_agrees
 returns-then-index-gt5200 c = rw (← c.index-2.ensures.0, lt-leb _ _ c.if-index-gt5200.true)
-
-pub index-requires-3 : goal.index-requires-3
-index-requires-3 c = tt
 
 pub returns-then-index-gt25700 : goal.returns-then-index-gt25700
 unfolding route_agrees

@@ -9,9 +9,6 @@ use Rattle.calls.specs.Calls.{route, records_after, text_after}
 use Rattle.call_cases.specs.Laws.{lent-many, middle_back}
 use Rattle.call_cases.proofs.route_in.Goals as goal
 
-pub route-requires : goal.route-requires
-route-requires c = tt
-
 pub returns : goal.returns
 returns c = let e : 16 + c.args.room - 16 ≡ c.args.room = omega arith in
     let f : 16 + c.args.bytes - 16 ≡ c.args.bytes = omega arith in

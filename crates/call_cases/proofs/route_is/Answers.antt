@@ -11,46 +11,13 @@ use Rattle.call_cases.specs.Laws.{tested}
 use mathlib.Core.Bool.{not}
 use Rattle.call_cases.proofs.route_is.Goals as goal
 
-pub index-n-requires : goal.index-n-requires
-index-n-requires c = tt
-
-pub index-requires : goal.index-requires
-index-requires c = tt
-
-pub index-requires-2 : goal.index-requires-2
-index-requires-2 c = tt
-
-pub shape_of-records-then-not-outcome_is : goal.shape_of-records-then-not-outcome_is
-shape_of-records-then-not-outcome_is c = c.route_in-r.auto.records
-
-pub shape_of-out-then-not-outcome_is : goal.shape_of-out-then-not-outcome_is
-shape_of-out-then-not-outcome_is c = c.route_in-r.auto.out
-
 pub returns-then-not-outcome_is : goal.returns-then-not-outcome_is
 unfolding route_is
 returns-then-not-outcome_is c = rw (← c.index-n.ensures.0, ← c.index.ensures.0, ← c.index-2.ensures.0, tested (λ (o : Outcome (ℕ × ℕ)). outcome_right c.args.answer (lengths_are c.index-n.result c.args.text.now) o) _ _ _ _ (c.outcome_is.ensures (lengths_are c.index-n.result c.args.text.now) (λ v b p. search rules)) c.route_in-r.ensures.0 (not-true _ (ap not c.if-not-outcome_is.true)))
 
-pub numbers_in-requires : goal.numbers_in-requires
-numbers_in-requires c = tt
-
-pub shape_of-records-then-not-numbers_in : goal.shape_of-records-then-not-numbers_in
-shape_of-records-then-not-numbers_in c = c.route_in-r.auto.records
-
-pub shape_of-out-then-not-numbers_in : goal.shape_of-out-then-not-numbers_in
-shape_of-out-then-not-numbers_in c = c.route_in-r.auto.out
-
 pub returns-then-not-numbers_in : goal.returns-then-not-numbers_in
 unfolding route_is
 returns-then-not-numbers_in c = rw (← c.index-n.ensures.0, ← c.index.ensures.0, ← c.index-2.ensures.0, tested (λ (o : Outcome (ℕ × ℕ)). outcome_right c.args.answer (lengths_are c.index-n.result c.args.text.now) o) _ _ _ _ (c.outcome_is.ensures (lengths_are c.index-n.result c.args.text.now) (λ v b p. search rules)) c.route_in-r.ensures.0 (not-false _ (ap not c.if-not-outcome_is.false)), tested (λ (l : List Float). numbers_stand_in c.args.rest.now 6 c.index-n.result l) _ _ _ _ c.numbers_in.ensures c.route_in-r.ensures.1 (not-true _ (ap not c.if-not-numbers_in.true)))
-
-pub text_stands-requires : goal.text_stands-requires
-text_stands-requires c = tt
-
-pub shape_of-records : goal.shape_of-records
-shape_of-records c = c.route_in-r.auto.records
-
-pub shape_of-out : goal.shape_of-out
-shape_of-out c = c.route_in-r.auto.out
 
 pub returns : goal.returns
 unfolding route_is

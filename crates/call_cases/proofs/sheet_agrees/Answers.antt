@@ -8,9 +8,6 @@ use Rattle.cases.specs.Laws.{part-tail}
 use Rattle.call_cases.specs.Cases.{sheet_is, sheet_agrees}
 use Rattle.call_cases.proofs.sheet_agrees.Goals as goal
 
-pub length_at-room-requires : goal.length_at-room-requires
-length_at-room-requires c = tt
-
 pub returns-then-room-gt65568 : goal.returns-then-room-gt65568
 unfolding sheet_agrees
 returns-then-room-gt65568 c = rw (← c.length_at-room.ensures.0, lt-leb _ _ c.if-room-gt65568.true)

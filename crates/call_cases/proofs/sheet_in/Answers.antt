@@ -7,9 +7,6 @@ use Rattle.calls.specs.Calls.{write_sheet, write_sheet_after}
 use Rattle.call_cases.specs.Laws.{lent-many, middle_back}
 use Rattle.call_cases.proofs.sheet_in.Goals as goal
 
-pub write_sheet-requires : goal.write_sheet-requires
-write_sheet-requires c = tt
-
 pub returns : goal.returns
 returns c = let e : 16 + c.args.room - 16 ≡ c.args.room = omega arith in
     (c.write_sheet.ensures.0 ∙ ap (write_sheet c.args.sheet.now c.args.m) (lent-many c.args.room _ c.args.out.now e (omega arith)), middle_back c.args.room _ c.args.out.now _ (write_sheet_after c.args.sheet.now c.args.m) e (c.write_sheet.ensures.1 ∙ ap (λ (k : ℕ). write_sheet_after c.args.sheet.now c.args.m (take k (drop 16 c.args.out.now))) e))

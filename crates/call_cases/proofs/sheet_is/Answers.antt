@@ -12,18 +12,9 @@ use Rattle.call_cases.specs.Laws.{tested}
 use mathlib.Core.Bool.{not}
 use Rattle.call_cases.proofs.sheet_is.Goals as goal
 
-pub shape_of-out-then-not-outcome_is : goal.shape_of-out-then-not-outcome_is
-shape_of-out-then-not-outcome_is c = c.sheet_in-w.auto.out
-
 pub returns-then-not-outcome_is : goal.returns-then-not-outcome_is
 unfolding sheet_is
 returns-then-not-outcome_is c = rw (tested (λ (o : Outcome ℕ). outcome_right c.args.answer (λ (n : ℕ). eqb n (length c.args.text.now)) o) _ _ _ _ (c.outcome_is.ensures (λ (n : ℕ). eqb n (length c.args.text.now)) (λ n b p. search rules)) c.sheet_in-w.ensures.0 (not-true _ (ap not c.if-not-outcome_is.true)))
-
-pub text_stands-requires : goal.text_stands-requires
-text_stands-requires c = tt
-
-pub shape_of-out : goal.shape_of-out
-shape_of-out c = c.sheet_in-w.auto.out
 
 pub returns : goal.returns
 unfolding sheet_is

@@ -5,15 +5,9 @@ use mathlib.Core.Path.{ap}
 use mathlib.Core.Bool.{not}
 use Rattle.call_cases.proofs.size_is.Goals as goal
 
-pub same_float-requires : goal.same_float-requires
-same_float-requires c = tt
-
 pub returns-then-not-same_float : goal.returns-then-not-same_float
 unfolding size_is
 returns-then-not-same_float c = rw (← c.same_float.ensures, not-true c.same_float.result (ap not c.if-not-same_float.true))
-
-pub same_float-requires-2 : goal.same_float-requires-2
-same_float-requires-2 c = tt
 
 pub returns : goal.returns
 unfolding size_is

@@ -30,9 +30,6 @@ pub draw_near-requires : goal.draw_near-requires
 draw_near-requires c = let p = c.requires in
     (c.state_count-n.ensures, omega (arith, p.0, c.state_count-n.ensures), p.1, p.2)
 
-pub shape_of-buf : goal.shape_of-buf
-shape_of-buf c = c.draw_near.auto.buf
-
 pub returns : goal.returns
 returns c = let g : Graph = meaning c.args.s.now in
     let xs : List Float = c.args.xs.now in

@@ -26,6 +26,3 @@ draw_read-requires c = let m : c.arrow_count-m.result ≡ length (arrows_of c.ar
   fact = (length-take-le _ _ (omega arith) ∙ c.requires.0, omega arith, omega arith);
   fact_2 = (length-take-le _ _ (omega arith) ∙ m, length-take-le _ _ (omega arith) ∙ m, length-take-le _ _ (omega arith) ∙ m, length-take-le _ _ (omega arith) ∙ m, c.requires.2);
 }
-
-pub shape_of-buf : goal.shape_of-buf
-shape_of-buf c = c.draw_read.auto.buf

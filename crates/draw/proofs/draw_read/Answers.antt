@@ -6,21 +6,6 @@ use native.Mathlib.Omega.{arith}
 use Rattle.draw.proofs.Laws.{route-refused, route-drawn}
 use Rattle.draw.proofs.draw_read.Goals as goal
 
-pub shape_of-flags-then-beyond : goal.shape_of-flags-then-beyond
-shape_of-flags-then-beyond c = c.read_graph.auto.flags
-
-pub shape_of-sources-then-beyond : goal.shape_of-sources-then-beyond
-shape_of-sources-then-beyond c = c.read_graph.auto.sources
-
-pub shape_of-targets-then-beyond : goal.shape_of-targets-then-beyond
-shape_of-targets-then-beyond c = c.read_graph.auto.targets
-
-pub shape_of-widths-then-beyond : goal.shape_of-widths-then-beyond
-shape_of-widths-then-beyond c = c.read_graph.auto.widths
-
-pub shape_of-heights-then-beyond : goal.shape_of-heights-then-beyond
-shape_of-heights-then-beyond c = c.read_graph.auto.heights
-
 pub returns-then-beyond : goal.returns-then-beyond
 returns-then-beyond c = let a = c.args in
     let g : Graph = meaning a.s.now in
@@ -31,24 +16,6 @@ pub geometry-requires : goal.geometry-requires
 geometry-requires c = let q = c.requires in
     let k = c.read_graph.auto in
     (omega (arith, k.flags, q.fact.0, q.fact.1), omega (arith, k.sources, q.fact_2.0, q.fact_2.4), omega (arith, k.sources, k.targets, q.fact_2.0, q.fact_2.1), omega (arith, k.sources, k.widths, q.fact_2.0, q.fact_2.2), omega (arith, k.sources, k.heights, q.fact_2.0, q.fact_2.3), omega (arith, k.sources, q.fact_2.0, q.fact_2.4, q.fact.2))
-
-pub shape_of-flags : goal.shape_of-flags
-shape_of-flags c = c.read_graph.auto.flags
-
-pub shape_of-sources : goal.shape_of-sources
-shape_of-sources c = c.read_graph.auto.sources
-
-pub shape_of-targets : goal.shape_of-targets
-shape_of-targets c = c.read_graph.auto.targets
-
-pub shape_of-widths : goal.shape_of-widths
-shape_of-widths c = c.read_graph.auto.widths
-
-pub shape_of-heights : goal.shape_of-heights
-shape_of-heights c = c.read_graph.auto.heights
-
-pub shape_of-buf : goal.shape_of-buf
-shape_of-buf c = c.geometry.auto.records
 
 pub returns : goal.returns
 returns c = let a = c.args in

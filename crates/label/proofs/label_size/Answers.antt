@@ -10,9 +10,6 @@ use Rattle.label.proofs.label_size.Goals as goal
 pub returns-then-m-lengths : goal.returns-then-m-lengths
 returns-then-m-lengths c = sym (sized-many c.args.m c.args.text.now c.args.lengths.now c.if-m-lengths.true)
 
-pub lengths_fit-requires : goal.lengths_fit-requires
-lengths_fit-requires c = tt
-
 pub returns-then-not-lengths_fit : goal.returns-then-not-lengths_fit
 returns-then-not-lengths_fit c = sym (sized_unfit c.args.m c.args.text.now c.args.lengths.now c.if-m-lengths.false (sym c.lengths_fit.ensures ∙ not-true _ (ap not c.if-not-lengths_fit.true)))
 

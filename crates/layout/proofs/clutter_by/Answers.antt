@@ -16,12 +16,6 @@ clutter-requires c = let a = c.args in
     let r = reads_drawn (plan_frame p (placing a.xs.now a.ys.now)) p.sizes _ _ _ c.geometry-count.ensures.0 c.geometry-count.ensures.1 (omega (arith, c.requires.1.0, zip_length ends_by a.sources.now a.targets.now c.requires.1.1)) (omega arith) in
     (omega (arith, c.requires.0.2, c.requires.0.3, c.centred.auto.out, c.centred-2.auto.out), omega (arith, r.most), r.most, r.small)
 
-pub shape_of-px : goal.shape_of-px
-shape_of-px c = c.centred.auto.out
-
-pub shape_of-py : goal.shape_of-py
-shape_of-py c = c.centred-2.auto.out
-
 pub returns : goal.returns
 returns c = let a = c.args in
     let p : Plan = plan_by a.flags.now a.sources.now a.targets.now a.widths.now a.heights.now in

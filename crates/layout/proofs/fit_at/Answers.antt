@@ -13,12 +13,6 @@ fit-requires c = let a = c.args in
     let r = reads_drawn (plan_frame p (placing a.xs.now a.ys.now)) p.sizes _ _ _ c.geometry-count.ensures.0 c.geometry-count.ensures.1 (omega (arith, c.requires.1.0, zip_length ends_by a.sources.now a.targets.now c.requires.1.1)) (omega arith) in
     (omega arith, omega arith, omega (arith, r.most))
 
-pub shape_of-xs : goal.shape_of-xs
-shape_of-xs c = c.fit.auto.xs
-
-pub shape_of-ys : goal.shape_of-ys
-shape_of-ys c = c.fit.auto.ys
-
 pub returns : goal.returns
 returns c = let a = c.args in
     let p : Plan = plan_by a.flags.now a.sources.now a.targets.now a.widths.now a.heights.now in

@@ -9,12 +9,6 @@ use Rattle.layout.proofs.layers_at.Goals as goal
 pub layered-requires : goal.layered-requires
 layered-requires c = (omega arith, omega arith, omega (arith, start-below c.args.flags.now (omega arith), c.start_index-start.ensures), omega arith, omega arith)
 
-pub shape_of-xs : goal.shape_of-xs
-shape_of-xs c = c.layered.auto.xs
-
-pub shape_of-ys : goal.shape_of-ys
-shape_of-ys c = c.layered.auto.ys
-
 pub returns : goal.returns
 returns c = let a = c.args in
     let n : length a.xs.now ≡ length a.flags.now = omega arith in

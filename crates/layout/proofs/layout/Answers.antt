@@ -10,12 +10,6 @@ returns-then-flags-eq0 c = let a = c.args in
     let p : Plan = plan_by a.flags.now a.sources.now a.targets.now a.widths.now a.heights.now in
     left_none (kind_number a.kind) p _ a.xs.now a.ys.now c.if-flags-eq0.true (omega arith) (omega arith) refl refl
 
-pub shape_of-xs : goal.shape_of-xs
-shape_of-xs c = c.fit_at.auto.xs ∙ c.place.auto.xs ∙ c.choose-placement.auto.xs
-
-pub shape_of-ys : goal.shape_of-ys
-shape_of-ys c = c.fit_at.auto.ys ∙ c.place.auto.ys ∙ c.choose-placement.auto.ys
-
 pub returns : goal.returns
 returns c = let a = c.args in
     let p : Plan = plan_by a.flags.now a.sources.now a.targets.now a.widths.now a.heights.now in

@@ -7,22 +7,10 @@ use Rattle.layout.specs.Layout.{Plan, plan_by, placed}
 use Rattle.layout.specs.Slices.{ring-slices}
 use Rattle.layout.proofs.place.Goals as goal
 
-pub shape_of-xs-in-Layers : goal.shape_of-xs-in-Layers
-shape_of-xs-in-Layers c = c.layers_at.auto.xs
-
-pub shape_of-ys-in-Layers : goal.shape_of-ys-in-Layers
-shape_of-ys-in-Layers c = c.layers_at.auto.ys
-
 pub returns-in-Layers : goal.returns-in-Layers
 returns-in-Layers c = let a = c.args in
     let p : Plan = plan_by a.flags.now a.sources.now a.targets.now a.widths.now a.heights.now in
     c.layers_at.ensures ∙ ap (λ (q : Placement). placed q p) (sym c.in-Layers.is)
-
-pub shape_of-xs-in-Ring : goal.shape_of-xs-in-Ring
-shape_of-xs-in-Ring c = c.ring_at.auto.xs
-
-pub shape_of-ys-in-Ring : goal.shape_of-ys-in-Ring
-shape_of-ys-in-Ring c = c.ring_at.auto.ys
 
 pub returns-in-Ring : goal.returns-in-Ring
 returns-in-Ring c = let a = c.args in

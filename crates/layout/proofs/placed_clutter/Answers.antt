@@ -3,12 +3,6 @@ use mathlib.Core.Path.{ap, ◌∙◌}
 use Rattle.layout.specs.Layout.{Plan, plan_by, clutter_at}
 use Rattle.layout.proofs.placed_clutter.Goals as goal
 
-pub shape_of-xs : goal.shape_of-xs
-shape_of-xs c = c.place.auto.xs
-
-pub shape_of-ys : goal.shape_of-ys
-shape_of-ys c = c.place.auto.ys
-
 pub returns : goal.returns
 returns c = let a = c.args in
     let p : Plan = plan_by a.flags.now a.sources.now a.targets.now a.widths.now a.heights.now in

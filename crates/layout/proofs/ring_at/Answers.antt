@@ -9,12 +9,6 @@ use Rattle.layout.proofs.ring_at.Goals as goal
 pub circular-requires : goal.circular-requires
 circular-requires c = (omega arith, omega arith, omega (arith, start-below c.args.flags.now (omega arith), c.start_index.ensures))
 
-pub shape_of-xs : goal.shape_of-xs
-shape_of-xs c = c.circular.auto.xs
-
-pub shape_of-ys : goal.shape_of-ys
-shape_of-ys c = c.circular.auto.ys
-
 pub returns : goal.returns
 returns c = let a = c.args in
     let n : length a.xs.now ≡ length a.flags.now = omega arith in

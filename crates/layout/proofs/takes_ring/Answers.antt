@@ -21,12 +21,6 @@ overflow_add-result c = let a = c.args in
     let m : clutter_at p (ring p) ≤ 65792 = clutter_most p (ring p) (omega (arith, c.requires.1.0, zip_length ends_by a.sources.now a.targets.now c.requires.1.1)) in
     omega (arith, c.placed_clutter-ring.ensures)
 
-pub shape_of-xs : goal.shape_of-xs
-shape_of-xs c = c.placed_clutter-ring.auto.xs ∙ c.placed_clutter-layers.auto.xs
-
-pub shape_of-ys : goal.shape_of-ys
-shape_of-ys c = c.placed_clutter-ring.auto.ys ∙ c.placed_clutter-layers.auto.ys
-
 pub returns : goal.returns
 returns c = let a = c.args in
     let p : Plan = plan_by a.flags.now a.sources.now a.targets.now a.widths.now a.heights.now in

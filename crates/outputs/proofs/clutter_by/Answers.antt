@@ -5,11 +5,5 @@ use Rattle.records.specs.Records.{decode_records}
 use Rattle.outputs.proofs.Laws.{centred-clutter}
 use Rattle.outputs.proofs.clutter_by.Goals as goal
 
-pub shape_of-across : goal.shape_of-across
-shape_of-across c = c.centred.auto.out
-
-pub shape_of-down : goal.shape_of-down
-shape_of-down c = c.centred-2.auto.out
-
 pub returns : goal.returns
 returns c = c.clutter.ensures ∙ centred-clutter c.args.xs.now c.args.ys.now c.args.across.now c.args.down.now _ _ (decode_records c.args.count c.args.drawing.now) (omega arith) c.centred.ensures c.centred-2.ensures

@@ -9,11 +9,5 @@ returns-then-xs-n c = place_xs c.args.across.now c.args.down.now c.args.width c.
 pub returns-then-ys-n : goal.returns-then-ys-n
 returns-then-ys-n c = place_ys c.args.across.now c.args.down.now c.args.width c.args.height c.args.xs.now c.args.ys.now (omega arith) c.if-ys-n.true
 
-pub shape_of-xs : goal.shape_of-xs
-shape_of-xs c = c.copy.auto.to
-
-pub shape_of-ys : goal.shape_of-ys
-shape_of-ys c = c.copy-2.auto.to
-
 pub returns : goal.returns
 returns c = place_done c.args.across.now c.args.down.now c.args.width c.args.height c.args.xs.now c.args.ys.now (omega arith) _ _ c.if-xs-n.false c.if-ys-n.false c.copy.ensures c.copy-2.ensures

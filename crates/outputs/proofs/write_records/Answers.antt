@@ -19,21 +19,12 @@ geometry_at-g-requires c = omega arith
 pub write_at-requires : goal.write_at-requires
 write_at-requires c = omega arith
 
-pub overflow_step-k : goal.overflow_step-k
-overflow_step-k c = omega arith
-
-pub loop-k-smaller : goal.loop-k-smaller
-loop-k-smaller c = omega arith
-
 pub loop-k-preserved : goal.loop-k-preserved
 loop-k-preserved c = let a = c.args in
     let l = c.loop-k in
     let g = c.geometry_at-g in
     let w = c.write_at in
     (omega arith, w.auto.records ∙ l.invariant.1, w.ensures ∙ record_step a.drawing.now a.records.now l.records l.k g.result g.ensures l.invariant.2)
-
-pub shape_of-records : goal.shape_of-records
-shape_of-records c = c.loop-k.invariant.1
 
 pub returns : goal.returns
 returns c = let a = c.args in

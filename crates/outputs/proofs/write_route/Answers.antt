@@ -22,9 +22,6 @@ returns-then-records-n c = fill-records (take (20 * c.args.count) c.args.drawing
 pub returns-then-text-need : goal.returns-then-text-need
 returns-then-text-need c = fill_text (take (20 * c.args.count) c.args.drawing.now) (decode_records c.args.count c.args.drawing.now) c.args.records.now c.args.text.now c.paths_writable.result c.paths_writable.ensures (ap not c.if-not-paths_writable.false) c.paths_length-need.result c.paths_length-need.ensures (omega arith) c.if-text-need.true
 
-pub shape_of-records : goal.shape_of-records
-shape_of-records c = c.write_records.auto.records
-
 pub returns : goal.returns
 returns c = let a = c.args in
     let d = a.drawing.now in

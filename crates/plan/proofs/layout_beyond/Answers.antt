@@ -8,12 +8,6 @@ returns-then-flags-eq0 c = let a = c.args in
     let p : Plan = plan_by a.flags.now a.sources.now a.targets.now a.widths.now a.heights.now in
     none_refused p (kind_number a.kind) c.if-flags-eq0.true
 
-pub shape_of-px : goal.shape_of-px
-shape_of-px c = c.kind_beyond.auto.px
-
-pub shape_of-py : goal.shape_of-py
-shape_of-py c = c.kind_beyond.auto.py
-
 pub returns : goal.returns
 returns c = let a = c.args in
     let p : Plan = plan_by a.flags.now a.sources.now a.targets.now a.widths.now a.heights.now in

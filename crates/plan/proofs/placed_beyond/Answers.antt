@@ -4,12 +4,6 @@ use Rattle.layout.specs.Layout.{Plan, plan_by}
 use Rattle.plan.specs.Measured.{beyond_at}
 use Rattle.plan.proofs.placed_beyond.Goals as goal
 
-pub shape_of-px : goal.shape_of-px
-shape_of-px c = c.place.auto.xs
-
-pub shape_of-py : goal.shape_of-py
-shape_of-py c = c.place.auto.ys
-
 pub returns : goal.returns
 returns c = let a = c.args in
     let p : Plan = plan_by a.flags.now a.sources.now a.targets.now a.widths.now a.heights.now in

@@ -23,12 +23,6 @@ plan_accepted-requires c = let a = c.args in
     let w = within-limits a.m a.s.now (sym c.in_ok-check_within.ensures) in
     (omega (arith, w.states, q.0), omega (arith, w.arrows, q.1), q.2, q.3)
 
-pub shape_of-xs : goal.shape_of-xs
-shape_of-xs c = c.plan_accepted.auto.xs
-
-pub shape_of-ys : goal.shape_of-ys
-shape_of-ys c = c.plan_accepted.auto.ys
-
 pub returns : goal.returns
 returns c = let a = c.args in
     kind_accepted a.m c.in_ok-kind.kind c.in_ok-kind.ensures a.s.now a.xs.now a.ys.now _ _ _ c.in_ok-check_within.ensures c.plan_accepted.ensures

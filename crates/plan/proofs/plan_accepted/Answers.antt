@@ -5,9 +5,3 @@ use Rattle.plan.proofs.plan_accepted.Goals as goal
 pub plan_sized-requires : goal.plan_sized-requires
 plan_sized-requires c = let q = c.requires in
     (c.state_count-n.ensures, omega (arith, q.0, c.state_count-n.ensures), c.arrow_count-m.ensures, omega (arith, q.1, c.arrow_count-m.ensures), q.2, q.3)
-
-pub shape_of-xs : goal.shape_of-xs
-shape_of-xs c = c.plan_sized.auto.xs
-
-pub shape_of-ys : goal.shape_of-ys
-shape_of-ys c = c.plan_sized.auto.ys

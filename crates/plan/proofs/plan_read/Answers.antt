@@ -12,27 +12,6 @@ layout_beyond-requires c = let k = c.read_graph.auto in
     let q = c.requires in
     (omega (arith, k.flags, q.fact.0, q.fact.3), omega (arith, k.flags, q.fact.0, q.fact.1), omega (arith, k.flags, q.fact.0, q.fact.2), (omega (arith, k.sources, q.fact_2.0, q.fact_2.4), omega (arith, k.sources, k.targets, q.fact_2.0, q.fact_2.1), omega (arith, k.sources, k.widths, q.fact_2.0, q.fact_2.2), omega (arith, k.sources, k.heights, q.fact_2.0, q.fact_2.3)))
 
-pub shape_of-flags-then-layout_beyond : goal.shape_of-flags-then-layout_beyond
-shape_of-flags-then-layout_beyond c = c.read_graph.auto.flags
-
-pub shape_of-sources-then-layout_beyond : goal.shape_of-sources-then-layout_beyond
-shape_of-sources-then-layout_beyond c = c.read_graph.auto.sources
-
-pub shape_of-targets-then-layout_beyond : goal.shape_of-targets-then-layout_beyond
-shape_of-targets-then-layout_beyond c = c.read_graph.auto.targets
-
-pub shape_of-widths-then-layout_beyond : goal.shape_of-widths-then-layout_beyond
-shape_of-widths-then-layout_beyond c = c.read_graph.auto.widths
-
-pub shape_of-heights-then-layout_beyond : goal.shape_of-heights-then-layout_beyond
-shape_of-heights-then-layout_beyond c = c.read_graph.auto.heights
-
-pub shape_of-px-then-layout_beyond : goal.shape_of-px-then-layout_beyond
-shape_of-px-then-layout_beyond c = c.layout_beyond.auto.px
-
-pub shape_of-py-then-layout_beyond : goal.shape_of-py-then-layout_beyond
-shape_of-py-then-layout_beyond c = c.layout_beyond.auto.py
-
 pub returns-then-layout_beyond : goal.returns-then-layout_beyond
 returns-then-layout_beyond c = let a = c.args in
     let g : Graph = meaning a.s.now in
@@ -51,33 +30,6 @@ copy-requires c = let q = c.requires in omega (arith, c.layout-size.auto.xs, c.l
 
 pub copy-requires-2 : goal.copy-requires-2
 copy-requires-2 c = let q = c.requires in omega (arith, c.layout-size.auto.ys, c.layout_beyond.auto.py, q.fact.2, q.fact.3, q.fact.5)
-
-pub shape_of-flags : goal.shape_of-flags
-shape_of-flags c = c.read_graph.auto.flags
-
-pub shape_of-sources : goal.shape_of-sources
-shape_of-sources c = c.read_graph.auto.sources
-
-pub shape_of-targets : goal.shape_of-targets
-shape_of-targets c = c.read_graph.auto.targets
-
-pub shape_of-widths : goal.shape_of-widths
-shape_of-widths c = c.read_graph.auto.widths
-
-pub shape_of-heights : goal.shape_of-heights
-shape_of-heights c = c.read_graph.auto.heights
-
-pub shape_of-px : goal.shape_of-px
-shape_of-px c = c.layout-size.auto.xs ∙ c.layout_beyond.auto.px
-
-pub shape_of-py : goal.shape_of-py
-shape_of-py c = c.layout-size.auto.ys ∙ c.layout_beyond.auto.py
-
-pub shape_of-xs : goal.shape_of-xs
-shape_of-xs c = c.copy.auto.to
-
-pub shape_of-ys : goal.shape_of-ys
-shape_of-ys c = c.copy-2.auto.to
 
 pub returns : goal.returns
 returns c = let a = c.args in

@@ -30,9 +30,3 @@ plan_read-requires c = let q = c.requires in record {
   fact = (length-take-le _ _ (omega (arith, q.1)) ∙ q.0, length-take-le _ _ (omega (arith, q.1)) ∙ q.0, length-take-le _ _ (omega (arith, q.1)) ∙ q.0, omega (arith, q.0, q.1), q.4, q.5);
   fact_2 = (length-take-le _ _ (omega (arith, q.3)) ∙ q.2, length-take-le _ _ (omega (arith, q.3)) ∙ q.2, length-take-le _ _ (omega (arith, q.3)) ∙ q.2, length-take-le _ _ (omega (arith, q.3)) ∙ q.2, omega (arith, q.2, q.3));
 }
-
-pub shape_of-xs : goal.shape_of-xs
-shape_of-xs c = c.plan_read.auto.xs
-
-pub shape_of-ys : goal.shape_of-ys
-shape_of-ys c = c.plan_read.auto.ys
