@@ -7,5 +7,6 @@ use Rattle.listing.proofs.put_refused.Goals as goal
 pub returns : goal.returns
 unfolding refused_text
 returns c =
-    front (wrote-more (wrote-more c.put_bytes-word.ensures c.put_number-end.ensures) c.put_byte.ensures)
-    (omega (arith, refused-short c.args.n c.ranges.n.fits, c.requires))
+    rw (← c.from.ensures)
+    (front (wrote-more (wrote-more c.put_bytes-word.ensures c.put_number-end.ensures) c.put_byte.ensures)
+    (omega (arith, refused-short c.from.result (omega (arith, c.from.ensures)), c.requires)))
