@@ -2,9 +2,8 @@
 // how many there were and how many differ. `oracle/README.md` says how the stream is made.
 #![tactic(auto)]
 
-use std::fmt;
-use std::io;
 use std::io::Read;
+use std::{fmt, io};
 
 // One case more than any stream has; a longer stream counts as cut short.
 const MOST: u32 = 1000000;
@@ -57,7 +56,10 @@ struct Count {
 }
 
 impl Count {
-    const NONE: Count = Count { cases: 0, differ: 0 };
+    const NONE: Count = Count {
+        cases: 0,
+        differ: 0,
+    };
 
     fn add(&mut self, more: Count) {
         self.cases = self.cases.wrapping_add(more.cases);
