@@ -78,10 +78,7 @@ pub fn over_limits(s: &[u8], m: Limits) -> bool
 fn feed_line(s: &[u8], k: u16) -> u8
     ensures { result ≡ feed_all 0 (S.line_of s.now k) }
 {
-    Chain::new(s, first_text_at(s, k)).fold(0, |st, i| {
-        let n = usize::from(one_at(s, i));
-        text::feed_part(s, place_of(i) + 4, n, st)
-    })
+    Chain::new(s, first_text_at(s, k)).fold(0, |st, i| text::feed_part(piece_at(s, i), st))
 }
 
 // Whether the line of record k is not well-formed UTF-8.

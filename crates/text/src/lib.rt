@@ -73,22 +73,12 @@ pub fn feed(st: u8, b: u8) -> u8
     }
 }
 
-// The state after the n bytes of s from a on, or as many as there are.
-pub fn feed_part(s: &[u8], a: usize, n: usize, st: u8) -> u8
-    ensures { result ≡ feed_all st (take n (drop a s.now)) }
+// The state after the bytes of s.
+#[tactic(auto, using(laws::specs::Chains::over_list), unfolding(crate::specs::Automaton::feed_all))]
+pub fn feed_part(s: &[u8], st: u8) -> u8
+    ensures { result ≡ feed_all st s.now }
 {
-    let mut t = st;
-    let mut i = a;
-    let mut left = n;
-    while 0 < left {
-        if s.len() <= i {
-            return t;
-        }
-        t = feed(t, s[i]);
-        i += 1;
-        left -= 1;
-    }
-    t
+    s.iter().fold(st, |t, b| feed(t, *b))
 }
 
 // The bits of a code point that a character's first byte brings.
