@@ -121,7 +121,7 @@ fn wrong_record(s: &[u8], k: u16) -> bool
 fn some_wrong(s: &[u8], n: u16) -> bool
     ensures { result ≡ any_up (R.wrong_record s.now) 1 (n + 1) }
 {
-    (1..=n).any(|k| wrong_record(s, k))
+    (1..usize::from(n) + 1).any(|k| wrong_record(s, k as u16))
 }
 
 // Whether a byte of the sheet refuses it.

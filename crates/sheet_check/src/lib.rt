@@ -95,7 +95,7 @@ fn walk_all(s: &[u8], marks: &mut [u8]) -> bool
 fn some_unmarked(marks: &[u8], n: u16) -> bool
     ensures { result ≡ any_up (W.unmarked marks.now) 1 (n + 1) }
 {
-    (1..=n).any(|k| sheet::byte_at(marks, usize::from(k)) == 0)
+    (1..usize::from(n) + 1).any(|k| sheet::byte_at(marks, k) == 0)
 }
 
 // Whether the chains refuse a sheet of at most 4,095 records.
