@@ -78,18 +78,11 @@ pub fn feed(st: u8, b: u8) -> u8
 pub fn feed_part(s: &[u8], a: usize, n: usize, st: u8) -> u8
     ensures { result ≡ feed_all st (take n (drop a s.now)) }
 {
-    let mut t = st;
-    let mut i = a;
-    let mut left = n;
-    while 0 < left {
-        if s.len() <= i {
-            return t;
-        }
-        t = feed(t, s[i]);
-        i += 1;
-        left -= 1;
-    }
-    t
+    let Some(rest) = s.get(a..) else {
+        return st;
+    };
+    let part = &rest[..n.min(rest.len())];
+    part.iter().fold(st, |state, b| feed(state, *b))
 }
 
 // The bits of a code point that a character's first byte brings.
@@ -137,8 +130,8 @@ pub fn put_bytes(out: &mut [u8], at: usize, s: &[u8]) -> usize
     ensures { Wrote out.old at out.new result s.now }
 {
     let mut next = at;
-    for i in 0..s.len() {
-        next = put_byte(out, next, s[i]);
+    for b in s {
+        next = put_byte(out, next, *b);
     }
     next
 }
