@@ -1,4 +1,5 @@
-// The stand-ins for the library's float functions. Each operation rounds once.
+// The stand-ins for the library's float functions, as document 01 has them: of NaN, of zeros and of the last place the
+// library's own say something else, or nothing. Each operation rounds once.
 #![tactic(auto)]
 
 ghost use Rattle.std.specs.Prelude.{◌≡◌, ℕ, ◌*◌, ◌^◌, ◌<◌, ◌≤◌};
@@ -7,9 +8,8 @@ ghost use Rattle.root.specs.Rounded.{magnitude};
 ghost use Rattle.float.specs.Constants.{infinity};
 ghost use Rattle.float.specs.Standins as S;
 
-use std::cmp::Ordering;
-
 use root::{FRACTION, INFINITY_BITS, LEADING, SIGN};
+use std::cmp::Ordering;
 
 // The circle's half turn and its whole turn.
 pub const PI: f64 = 3.141592653589793;
