@@ -17,7 +17,7 @@ use Rattle.sheet.specs.Chains.{chain-end, chain-cut, chain-step}
 use Rattle.text.specs.Automaton.{feed_of, gather_of}
 use Rattle.label.specs.declared.Measure.{Measure}
 use Rattle.label.specs.declared.Block.{Block}
-use Rattle.refusal.specs.Refused.{Outcome, values, number}
+use Rattle.refusal.specs.Refused.{values, number}
 use Rattle.label.specs.Label.{char_width, line_width, wider_line, block_height, block, cut, total_length}
 use Rattle.label.specs.Measuring.{measure, measure_of, measure_all, measure_start, measured_formed, measured-width, lengths_fit, lines_size}
 

@@ -1,5 +1,5 @@
 -- `label::lengths_fit` meets its contract. The invariant: the test of the lengths that are left is the test of all.
-use Rattle.std.proofs.Common.{◌-◌, refl, ◌∙◌, arith}
+use Rattle.std.proofs.Common.{refl, ◌∙◌, arith}
 use Rattle.label.proofs.Laws.{fit_over_at, fit_short_at, fit_turn_at, fit_end_at}
 use Rattle.label.proofs.lengths_fit.Goals as goal
 

@@ -1,8 +1,8 @@
 -- `label::lines_size` meets its contract. The invariant: the size continued from this line is the size of all lines.
-use Rattle.std.proofs.Common.{◌+◌, ◌-◌, length, get_or, take, drop, refl, ap, ◌∙◌, arith}
+use Rattle.std.proofs.Common.{◌+◌, length, get_or, take, drop, refl, ap, ◌∙◌, arith}
 use lib.Ieee.{Float}
 use Rattle.label.specs.declared.Measure.{Measure}
-use Rattle.refusal.specs.Refused.{Outcome, values}
+use Rattle.refusal.specs.Refused.{values}
 use Rattle.label.specs.Label.{block_height, cut}
 use Rattle.label.specs.Measuring.{measure_all, lines_size}
 use Rattle.label.proofs.Laws.{line_ill, line_well, lines_end, total-at}

@@ -1,5 +1,5 @@
 -- `label::measure_line` meets its contract. The invariant: the measure continued from this piece is the measure of the line.
-use Rattle.std.proofs.Common.{◌≡◌, ◌-◌, ◌<◌}
+use Rattle.std.proofs.Common.{◌≡◌, ◌<◌}
 use mathlib.Core.List.{flat_map}
 use Rattle.sheet.specs.Sheet.{chain_by, piece, line_of}
 use Rattle.label.specs.Measuring.{measure_all, measure_start}

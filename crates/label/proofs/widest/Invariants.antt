@@ -1,5 +1,5 @@
 -- `label::widest` meets its contract. The invariant: the width continued from this line is the width of the block.
-use Rattle.std.proofs.Common.{◌≡◌, ◌-◌, ◌<◌, map}
+use Rattle.std.proofs.Common.{◌≡◌, ◌<◌, map}
 use Rattle.laws.specs.Loops.{over}
 use Rattle.sheet.specs.Sheet.{chain_by, line_of, lines_from}
 use Rattle.label.specs.Label.{wider_line, block_width}
