@@ -1,5 +1,5 @@
 -- A sheet's drawing, as it stands in a slice after it was drawn: nothing refused it, and its records are read back. Assumes nothing.
-use mathlib.Core.Path.{◌≡◌, refl, ap, ◌∙◌}
+use mathlib.Core.Path.{◌≡◌, refl, ◌∙◌}
 use mathlib.Core.List.{List, []}
 use Prim.Native.Nat.{ℕ, ◌*◌, ◌≤◌}
 use native.Mathlib.Omega.{arith}
@@ -7,7 +7,7 @@ use lib.ListN.{length, take, length-map}
 use lib.Ieee.{Float}
 use Rattle.laws.specs.Flat.{part-new}
 use Rattle.laws.specs.Put.{put, length-put}
-use Rattle.laws.specs.Refusals.{Refusal, decide, decide-map, Clear, First, clear_none, clear_from, clear_decides}
+use Rattle.laws.specs.Refusals.{Clear, First, clear_none, clear_from, clear_decides}
 use Rattle.sheet.specs.Sheet.{meaning}
 use Rattle.sheet.specs.Refusals.{refusals}
 use Rattle.sheet.specs.Order.{accepted_exactly}
@@ -18,7 +18,7 @@ use Rattle.records.specs.Back.{Small, length-records}
 use Rattle.routing.specs.Sheets.{ends_of, frame_of, sizes_of}
 use Rattle.routing_laws.proofs.Decoded.{records_most, records-small, records_decoded}
 use Rattle.draw.specs.Drawn.{draw_refusals, draw_of, draw_after}
-use Rattle.calls.specs.Calls.{Outcome, values, number, drawn_of, numbers_of}
+use Rattle.calls.specs.Calls.{values, number, drawn_of, numbers_of}
 use Rattle.calls.specs.Decided.{refused-first, answered-clear}
 
 -- ---- the drawing in the slice

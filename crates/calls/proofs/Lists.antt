@@ -10,7 +10,7 @@ use lib.ListN.{length, take}
 use lib.Ieee.{Float}
 use Rattle.laws.specs.Cases.{by_bool}
 use Rattle.laws.specs.Flat.{part-new}
-use Rattle.laws.specs.Refusals.{Refusal, refusal, decide, decide-map, Clear, First, FirstOrClear, stops, goes, first_or_clear, clear_none, clear_from, first_decides, clear_decides, first-joined, clear-joined}
+use Rattle.laws.specs.Refusals.{Refusal, refusal, decide, Clear, First, FirstOrClear, stops, goes, first_or_clear, clear_none, clear_from, first_decides, clear_decides, first-joined, clear-joined}
 use Rattle.sheet.specs.Sheet.{meaning, flags_of}
 use Rattle.sheet.specs.Refusals.{refusals}
 use Rattle.sheet.specs.Accepted.{OnMainScreen}
@@ -31,7 +31,7 @@ use Rattle.plan.specs.Planned as Planned
 use Rattle.calls.specs.Calls.{Outcome, number, values, capped_limits, drawn_of, onto, layout_for, layout, xs_after, ys_after, listing, listing_writable, list_refusals, list, list_after}
 use Rattle.calls.specs.Laws.{accepted_shown}
 use Rattle.calls.specs.Decided.{refused-first, answered-clear}
-use Rattle.outputs.specs.Answers.{place_refusals, text_refusals, written_of, PlacedInto, WrittenInto}
+use Rattle.outputs.specs.Answers.{place_refusals, text_refusals, PlacedInto, WrittenInto}
 use Rattle.calls.specs.Listed.{listing_at, listed_after}
 use Rattle.calls.proofs.Held.{DrawingHeld, draw_stopped}
 

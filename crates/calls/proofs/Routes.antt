@@ -6,7 +6,7 @@ use native.Mathlib.Omega.{arith}
 use lib.ListN.{length, take}
 use lib.Ieee.{Float}
 use Rattle.laws.specs.Flat.{table}
-use Rattle.laws.specs.Refusals.{Refusal, decide-map, Clear, First, first_decides, clear_decides, first-joined, clear-joined}
+use Rattle.laws.specs.Refusals.{Refusal, Clear, First, first_decides, clear_decides, first-joined, clear-joined}
 use Rattle.sheet.specs.Sheet.{meaning}
 use Rattle.sheet.specs.declared.Limits.{Limits}
 use Rattle.records.specs.Records.{decode_records}

@@ -6,7 +6,7 @@ use native.Mathlib.Omega.{arith}
 use borrow.Author.Tests.{lt-ltb, le-ltb}
 use lib.ListN.{length}
 use Rattle.laws.specs.Put.{put, put_front}
-use Rattle.laws.specs.Refusals.{decide-map, decide-first, decide-rest, clear_none, clear_decides}
+use Rattle.laws.specs.Refusals.{decide-first, decide-rest, clear_none, clear_decides}
 use Rattle.sheet.specs.Sheet.{states_of, arrows_of, meaning}
 use Rattle.sheet.specs.Refusals.{check_of}
 use Rattle.sheet.specs.Order.{accepted_exactly, check-refused, check_accepted}

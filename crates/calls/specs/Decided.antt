@@ -1,6 +1,6 @@
 -- What the answer of a call says of its refusals, and they of it. Assumes nothing.
 use Rattle.std.specs.Prelude.{◌≡◌, List, ℕ}
-use Rattle.std.proofs.Common.{sym, ◌∙◌, arith}
+use Rattle.std.proofs.Common.{sym, ◌∙◌}
 use Rattle.laws.specs.Refusals.{Refusal, decide, Clear, First, first_decides, clear_decides}
 use Rattle.laws.specs.Refusals as Refusals
 use Rattle.calls.specs.Calls.{values, number}

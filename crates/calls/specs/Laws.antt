@@ -3,14 +3,14 @@ use Rattle.std.specs.Prelude.{◌≡◌, refl, List, ℕ, ◌≤◌, length, Flo
 use Rattle.std.proofs.Common.{arith, lt-ltb, le-ltb, le-leb}
 use Rattle.std.proofs.lemmas.Bool.{lt-leb}
 use Rattle.laws.specs.Cases.{by_bool, by_lt}
-use Rattle.laws.specs.Refusals.{decide, decide-map, Clear}
+use Rattle.laws.specs.Refusals.{decide, Clear}
 use Rattle.sheet.specs.Sheet.{meaning}
 use Rattle.sheet.specs.Refusals.{AtMost, refusals, check_of}
 use Rattle.sheet.specs.Order.{accepted_exactly}
 use Rattle.sheet.specs.Accepted.{OnMainScreen, on_main_screen}
 use Rattle.sheet.specs.Over.{clear_higher}
 use Rattle.sheet.specs.declared.Limits.{Limits}
-use Rattle.label.specs.Label.{label_refusals, cut, block_width, block_height, sized}
+use Rattle.label.specs.Label.{sized}
 use Rattle.number.specs.Number.{too_large, num_text, written, written_after}
 use Rattle.calls.specs.Calls.{main_screen, smaller, capped_limits, check, label_size, write_num, write_num_after}
 

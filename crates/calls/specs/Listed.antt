@@ -8,7 +8,7 @@ use Rattle.totals.specs.Totals.{totals_of}
 use Rattle.drawing_text.specs.Lines.{list_text, list_writable}
 use Rattle.draw.specs.Drawn.{draw_refusals}
 use Rattle.outputs.specs.Answers.{written_of, out_written}
-use Rattle.refusal.specs.Refused.{Outcome, values, number}
+use Rattle.refusal.specs.Refused.{Outcome, number}
 use Rattle.calls.specs.Calls.{drawn_of}
 
 abbrev pub listing_at : Limits → List ℕ → Float → Float → List Float → List Float → ℕ → Outcome ℕ

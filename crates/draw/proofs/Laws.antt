@@ -2,7 +2,7 @@
 use mathlib.Core.Path.{◌≡◌, sym, ap, ap₂, ◌∙◌}
 use mathlib.Core.Bool.{true, false}
 use mathlib.Core.List.{List, []}
-use Prim.Native.Nat.{ℕ, ◌-◌}
+use Prim.Native.Nat.{ℕ}
 use lib.Ieee.{Float}
 use Rattle.laws.specs.Refusals.{decide, decide-first}
 use Rattle.laws.specs.Put.{put}
@@ -12,7 +12,7 @@ use Rattle.routing.specs.Sheets.{frame_of, sizes_of}
 use Rattle.geometry.specs.Geometry.{record_count, numbers}
 use Rattle.beyond.specs.Beyond.{beyond}
 use Rattle.draw.specs.Drawn.{bow_refusals, draw_answer, left_by}
-use Rattle.refusal.specs.Refused.{Outcome, values, number}
+use Rattle.refusal.specs.Refused.{values, number}
 
 module _ (g : Graph) (xs ys : List Float) {f : Frame} (e : f ≡ frame_of g xs ys) where
   -- refused by 9

@@ -4,8 +4,11 @@
 
 ghost use Rattle.std.specs.Prelude.{◌≡◌};
 ghost use Rattle.std.proofs.Math.ListN as L;
+ghost use Rattle.refusal.specs.Refused.{outcome};
 ghost use Rattle.calls.specs.Calls as C;
 ghost use Rattle.murshogi.specs.Exports as S;
+
+use refusal::Refusal;
 
 // The limits in an array: states, arrows, lines of an arrow.
 fn limits_of(limits: &[usize; 3]) -> sheet::Limits
@@ -15,6 +18,22 @@ fn limits_of(limits: &[usize; 3]) -> sheet::Limits
         states: limits[0],
         arrows: limits[1],
         lines: limits[2],
+    }
+}
+
+// What a call returns that fills one place with its values: 0, or the number of the refusal.
+fn filled<A, B: Copy, F: FnOnce(A) -> B>(answered: Result<A, Refusal>, place: &mut B, held: F) -> u8
+    requires { F.IsAlwaysCallable held }
+    ensures { (good : A → B) → ((values : A) (b : B) → F.post held values b → b ≡ good values)
+        → (result ≡ S.returned (outcome answered))
+        × (place.new ≡ S.held_after good (outcome answered) place.old) }
+{
+    match answered {
+        Ok(values) => {
+            *place = held(values);
+            0
+        }
+        Err(refusal) => refusal.into(),
     }
 }
 
@@ -43,14 +62,13 @@ pub extern "C" fn murshogi_label_size(
         (result ≡ S.returned sized) × (size.new ≡ S.held_after S.both sized size.old) }
 {
     let m = limits_of(limits);
-    let c = calls::label_size(text, lengths, m);
-    match c {
-        Ok((w, h)) => {
-            *size = [w, h];
-            0
-        }
-        Err(refusal) => refusal.into(),
-    }
+    filled(
+        calls::label_size(text, lengths, m),
+        size,
+        |(w, h)|
+            ensures { result ≡ S.both (w, h) }
+        { [w, h] },
+    )
 }
 
 // Lays out a sheet by kind: the centres in `x` and `y`, the drawing's width and height, the number of states.
@@ -111,14 +129,13 @@ pub extern "C" fn murshogi_route(
         × (lengths.new ≡ S.held_after S.both routed lengths.old) }
 {
     let m = limits_of(limits);
-    let c = calls::route(sheet, m, x, y, records, text);
-    match c {
-        Ok((n, m)) => {
-            *lengths = [n, m];
-            0
-        }
-        Err(refusal) => refusal.into(),
-    }
+    filled(
+        calls::route(sheet, m, x, y, records, text),
+        lengths,
+        |(n, m)|
+            ensures { result ≡ S.both (n, m) }
+        { [n, m] },
+    )
 }
 
 // Counts the clutter of a sheet at given centres.
@@ -135,14 +152,7 @@ pub extern "C" fn murshogi_clutter(
         (result ≡ S.returned counted) × (count.new ≡ S.held_after S.itself counted count.old) }
 {
     let m = limits_of(limits);
-    let c = calls::clutter(sheet, m, x, y);
-    match c {
-        Ok(n) => {
-            *count = n;
-            0
-        }
-        Err(refusal) => refusal.into(),
-    }
+    filled(calls::clutter(sheet, m, x, y), count, |n| n)
 }
 
 // Writes a number into `out`; `length` is the bytes written.
@@ -153,14 +163,7 @@ pub extern "C" fn murshogi_write_num(v: f64, out: &mut [u8], length: &mut usize)
         × (out.new ≡ C.write_num_after v out.old)
         × (length.new ≡ S.held_after S.itself written length.old) }
 {
-    let c = calls::write_num(v, out);
-    match c {
-        Ok(n) => {
-            *length = n;
-            0
-        }
-        Err(refusal) => refusal.into(),
-    }
+    filled(calls::write_num(v, out), length, |n| n)
 }
 
 // Lists a drawing, laid out by kind, into `out`; `length` is the bytes written.
@@ -179,14 +182,7 @@ pub extern "C" fn murshogi_list(
         × (length.new ≡ S.held_after S.itself listed length.old) }
 {
     let m = limits_of(limits);
-    let c = calls::list(sheet, m, kind, out);
-    match c {
-        Ok(n) => {
-            *length = n;
-            0
-        }
-        Err(refusal) => refusal.into(),
-    }
+    filled(calls::list(sheet, m, kind, out), length, |n| n)
 }
 
 // Writes a sheet afresh into `out`, as the editor saves it; `length` is the bytes written.
@@ -204,12 +200,5 @@ pub extern "C" fn murshogi_write_sheet(
         × (length.new ≡ S.held_after S.itself written length.old) }
 {
     let m = limits_of(limits);
-    let c = calls::write_sheet(sheet, m, out);
-    match c {
-        Ok(n) => {
-            *length = n;
-            0
-        }
-        Err(refusal) => refusal.into(),
-    }
+    filled(calls::write_sheet(sheet, m, out), length, |n| n)
 }

@@ -61,13 +61,13 @@ module _ (m : Limits) (kind : ℕ) (s : List ℕ) (xs ys : List Float) where
       (λ A refuse accept. decide-first 11 (ltb last_kind kind) (sheet_refusals m kind s) refuse accept (lt-ltb last_kind kind h))
 
   -- 1 to 6
-  plan-refused : (n : ℕ) → kind ≤ last_kind → number n ≡ check_of m s → Left (plan_refusals m kind s) kind (meaning s) (number n) xs ys xs ys
+  pub plan-refused : (n : ℕ) → kind ≤ last_kind → number n ≡ check_of m s → Left (plan_refusals m kind s) kind (meaning s) (number n) xs ys xs ys
   plan-refused n h e =
       left-refused (plan_refusals m kind s) n kind (meaning s) xs ys
       (λ A refuse accept.
       check-refused m s (measured_refusals kind (meaning s)) refuse accept n e ∙ decide-rest 11 (ltb last_kind kind) (sheet_refusals m kind s) refuse accept (le-ltb last_kind kind h))
 
-  plan_accepted : (r : Outcome (ℕ × Float × Float)) (xs' ys' : List Float) → kind ≤ last_kind → values tt ≡ check_of m s
+  pub plan_accepted : (r : Outcome (ℕ × Float × Float)) (xs' ys' : List Float) → kind ≤ last_kind → values tt ≡ check_of m s
       → Left (measured_refusals kind (meaning s)) kind (meaning s) r xs ys xs' ys' → Left (plan_refusals m kind s) kind (meaning s) r xs ys xs' ys'
   plan_accepted r xs' ys' h e =
       left_as (measured_refusals kind (meaning s)) (plan_refusals m kind s) kind (meaning s) r xs ys xs' ys'

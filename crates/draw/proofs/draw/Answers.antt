@@ -1,9 +1,8 @@
 -- `draw::draw` meets its contract.
 use mathlib.Core.Path.{sym, ◌∙◌}
-use mathlib.Core.List.{List, flat_map}
+use mathlib.Core.List.{flat_map}
 use native.Mathlib.Omega.{arith}
 use lib.ListN.{length}
-use lib.Ieee.{Float}
 use Rattle.std.proofs.lemmas.Result.{err_from_is_err_and}
 use Rattle.refusal.specs.Refused.{values, number}
 use Rattle.laws.specs.Put.{put}

@@ -11,7 +11,7 @@ use Rattle.sheet.specs.Sheet.{Graph, meaning}
 use Rattle.records.specs.Records.{fields}
 use Rattle.routing.specs.Sheets.{records_of}
 use Rattle.draw.specs.Drawn.{far_centre, bow_refusals}
-use Rattle.refusal.specs.Refused.{Outcome, values, number}
+use Rattle.refusal.specs.Refused.{values, number}
 use Rattle.laws.specs.Refusals.{decide-first, decide-rest}
 use Rattle.draw.proofs.draw_accepted.Goals as goal
 

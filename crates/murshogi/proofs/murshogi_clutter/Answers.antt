@@ -1,15 +1,12 @@
 -- `murshogi::murshogi_clutter` meets its contract.
-use mathlib.Core.Path.{ap, sym, ◌∙◌}
-use Rattle.refusal.specs.Refused.{outcome}
+use Rattle.std.proofs.Common.{rules, ◌∙◌}
 use Rattle.murshogi.specs.Exports.{itself}
 use Rattle.murshogi.specs.Laws.{told}
 use Rattle.murshogi.proofs.murshogi_clutter.Goals as goal
 
-pub returns-in-Ok : goal.returns-in-Ok
-returns-in-Ok c = let l = rw c.limits_of-m.ensures at c.clutter-c.ensures in
-    told itself c.args.count.now (ap outcome (sym c.in-Ok.is) ∙ l)
-
-pub returns-in-Err : goal.returns-in-Err
-returns-in-Err c = let l = rw c.limits_of-m.ensures at c.clutter-c.ensures in
-    let t = told itself c.args.count.now (ap outcome (sym c.in-Err.is) ∙ l) in
-    (c.into.ensures ∙ t.0, t.1)
+pub returns : goal.returns
+returns c =
+    let l = rw c.limits_of-m.ensures at c.clutter.ensures in
+    let t = told itself c.args.count.now l in
+    let p = c.filled.ensures itself (λ v b q. search rules) in
+    (p.0 ∙ t.0, p.1 ∙ t.1)

@@ -1,16 +1,12 @@
 -- `murshogi::murshogi_route` meets its contract.
-use mathlib.Core.Path.{ap, sym, ◌∙◌}
-use Rattle.refusal.specs.Refused.{outcome}
+use Rattle.std.proofs.Common.{rules, ◌∙◌}
 use Rattle.murshogi.specs.Exports.{both}
 use Rattle.murshogi.specs.Laws.{told}
 use Rattle.murshogi.proofs.murshogi_route.Goals as goal
 
-pub returns-in-Ok : goal.returns-in-Ok
-returns-in-Ok c = let l = rw c.limits_of-m.ensures at c.route-c.ensures in
-    let t = told both c.args.lengths.now (ap outcome (sym c.in-Ok.is) ∙ l.0) in
-    (t.0, l.1, l.2, t.1)
-
-pub returns-in-Err : goal.returns-in-Err
-returns-in-Err c = let l = rw c.limits_of-m.ensures at c.route-c.ensures in
-    let t = told both c.args.lengths.now (ap outcome (sym c.in-Err.is) ∙ l.0) in
-    (c.into.ensures ∙ t.0, l.1, l.2, t.1)
+pub returns : goal.returns
+returns c =
+    let l = rw c.limits_of-m.ensures at c.route.ensures in
+    let t = told both c.args.lengths.now l.0 in
+    let p = c.filled.ensures both (λ v b q. search rules) in
+    (p.0 ∙ t.0, l.1, l.2, p.1 ∙ t.1)
