@@ -6,14 +6,14 @@ ghost use Rattle.sheet.specs.Sheet as S;
 ghost use Rattle.meaning.specs.Read as M;
 ghost use Rattle.graph.specs.Sizes as Z;
 
-// The size of each arrow's label, from the first line record of each arrow.
+// The size of each arrow's label, from the first line record of each arrow. By index, since a proof knows nothing of a slice that an adapter of `iter_mut` writes.
 fn sizes_from(s: &[u8], heads: &[u16], widths: &mut [f64], heights: &mut [f64])
     requires { (length widths.old ≡ length heads.now) × (length heights.old ≡ length heads.now) }
     ensures { (widths.new ≡ map (Z.width_from s.now) heads.now)
         × (heights.new ≡ map (Z.height_from s.now) heads.now) }
 {
-    for k in 0..heads.len() {
-        let b = label::block_at(s, heads[k]);
+    for (k, head) in heads.iter().enumerate() {
+        let b = label::block_at(s, *head);
         widths[k] = b.width;
         heights[k] = b.height;
     }

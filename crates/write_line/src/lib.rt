@@ -76,7 +76,7 @@ fn put_piece(piece: &[u8], out: &mut [u8], k: u16, next: u16)
     copy_to(piece, out, place_of(k) + 4);
 }
 
-// The pieces of a line, from record k on; the record after them.
+// The pieces of a line, from record k on; the record after them. No `chunks`, since a piece has the index of the next one only where bytes are left.
 fn write_pieces(line: &[u8], out: &mut [u8], k: u16) -> u16
     requires { let behind = k + E.space_of E.piece_size (E.pieces line.now) in
         (behind < 65536) × (16 * behind ≤ length out.old) }

@@ -1,14 +1,10 @@
 -- `graph::sizes_from` meets its contract.
 use mathlib.Core.Path.{◌≡◌}
 use mathlib.Core.List.{◌++◌, map}
-use Prim.Native.Nat.{◌-◌, ◌≤◌}
 use lib.ListN.{length, take, drop}
 use Rattle.graph.specs.Sizes.{width_from, height_from}
 use Rattle.graph.proofs.sizes_from.Given as goal
 
 abbrev pub invariant-loop-k : goal.invariant-loop-k
-invariant-loop-k l = (l.k-end ≡ length l.heads) × (l.k ≤ length l.heads) × (length l.widths ≡ length l.heads) × (length l.heights ≡ length l.heads)
+invariant-loop-k l = (length l.widths ≡ length l.heads) × (length l.heights ≡ length l.heads)
     × (take l.k l.widths ++ map (width_from l.s) (drop l.k l.heads) ≡ map (width_from l.s) l.heads) × (take l.k l.heights ++ map (height_from l.s) (drop l.k l.heads) ≡ map (height_from l.s) l.heads)
-
-abbrev pub decreases-loop-k : goal.decreases-loop-k
-decreases-loop-k l = length l.heads - l.k
