@@ -100,10 +100,6 @@ sine_divisor k = 2 * k * (2 * k + 1)
 abbrev pub cosine_divisor : ℕ → ℕ
 cosine_divisor k = (2 * k - 1) * (2 * k)
 
-abbrev pub divisor : Bool → ℕ → ℕ
-divisor true = sine_divisor
-divisor false = cosine_divisor
-
 -- "t = 1. For k = 14 down to 1"
 unfoldable pub series : (ℕ → ℕ) → Float → Float
 series d z = countdown (λ k. term z (d k)) 14 f1

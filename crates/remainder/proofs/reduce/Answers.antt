@@ -1,25 +1,26 @@
 -- `remainder::reduce` meets its contract.
-use mathlib.Core.Path.{◌≡◌, refl, sym, ap, ◌∙◌}
+use mathlib.Core.Path.{refl, ◌∙◌}
 use native.Mathlib.Omega.{arith}
-use native.Mathlib.Numerals.{unary_clauses}
-use Prim.Native.Nat.{ℕ, ◌+◌, ◌-◌, ◌*◌, ◌/◌, ◌%◌, ◌^◌}
 use Rattle.remainder.specs.Modulo.{mod-step, mod-last}
 use Rattle.remainder.proofs.reduce.Goals as goal
 
-pub loop-init : goal.loop-init
-loop-init c = (c.requires, simp unary_clauses refl)
+pub loop-left-init : goal.loop-left-init
+loop-left-init c = (c.requires, refl)
 
 pub overflow_mul-r : goal.overflow_mul-r
 overflow_mul-r c = omega arith
 
-pub loop-preserved : goal.loop-preserved
-loop-preserved c =
-    let done = c.loop.counter in
-    let e : c.args.k - 11 * (done + 1) ≡ c.args.k - 11 * done - 11 = omega arith in
-    (omega arith, rw e (mod-step c.loop.r 11 (c.args.k - 11 * done) 7074237752028440 (omega arith) ∙ c.loop.invariant.1))
+pub overflow_sub-left : goal.overflow_sub-left
+overflow_sub-left c = omega arith
+
+pub loop-left-smaller : goal.loop-left-smaller
+loop-left-smaller c = omega arith
+
+pub loop-left-preserved : goal.loop-left-preserved
+loop-left-preserved c = (omega arith, mod-step c.loop-left.r 11 c.loop-left.left 7074237752028440 (omega arith) ∙ c.loop-left.invariant.1)
+
+pub overflow_shl-result : goal.overflow_shl-result
+overflow_shl-result c = omega arith
 
 pub returns : goal.returns
-returns c =
-    let e : c.args.k - 11 * c.loop.counter ≡ c.args.k % 11 = omega arith in
-    mod-last c.loop.r (c.args.k % 11) 7074237752028440 c.loop.invariant.0 (omega arith)
-    ∙ ap (λ (k : ℕ). c.loop.r * 2 ^ k % 7074237752028440) (sym e) ∙ c.loop.invariant.1
+returns c = mod-last c.loop-left.r c.loop-left.left 7074237752028440 c.loop-left.invariant.0 (omega arith) ∙ c.loop-left.invariant.1
