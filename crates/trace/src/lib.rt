@@ -141,26 +141,18 @@ impl Trace {
     }
 
     // Whether the bounds touch the box. Where they do not the trace does not meet it.
-    pub fn reaches(&self, r: Rect) -> bool
+    fn reaches(&self, r: Rect) -> bool
         ensures { result ≡ touches self.now.bounds r }
     {
         self.bounds.reaches(r)
     }
 
-    // Whether the trace meets the box.
-    #[tactic(auto, unfolding(crate::specs::Traces::hits_rect))]
-    fn hits_rect(&self, r: Rect) -> bool
-        ensures { result ≡ S.hits_rect (F.trace_in self.now) r }
-    {
-        self.reaches(r) && any_hit(self.points.as_slice(), r)
-    }
-
-    // Whether the trace is not the arrow's own and meets the box.
-    #[tactic(auto, unfolding(crate::specs::Traces::struck))]
+    // Whether the trace is not the arrow's own and meets the box; its bounds are tested first.
+    #[tactic(auto, using(crate::proofs::Laws::apart_struck), unfolding(crate::specs::Traces::struck, crate::specs::Traces::hits_rect))]
     pub fn strikes(&self, own: usize, r: Rect) -> bool
         ensures { result ≡ S.struck own r (F.trace_in self.now) }
     {
-        self.foreign(own) && self.hits_rect(r)
+        self.reaches(r) && self.foreign(own) && any_hit(self.points.as_slice(), r)
     }
 
     // Whether the segment from a to b crosses one of the trace.
