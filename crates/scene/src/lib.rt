@@ -1,8 +1,8 @@
 // The scene while labels are placed: what a label costs in it, and the search for the label's place.
 #![tactic(auto)]
 
-ghost use Rattle.std.specs.Prelude.{◌≡◌, Bool, cond, map, ◌+◌, ◌*◌, ◌≤◌, ◌<◌, ltb, length};
-ghost use Rattle.laws.specs.Best.{cut_total};
+ghost use Rattle.std.specs.Prelude.{◌≡◌, ℕ, Bool, map, ◌+◌, ◌*◌, ◌≤◌, ◌<◌, length};
+ghost use Rattle.laws.specs.Best.{cut_total, search_from};
 ghost use Rattle.laws.specs.Counting.{worth};
 ghost use Rattle.std.specs.Fn.{FnReturnsAt};
 ghost use Rattle.std.specs.List.{count_by};
@@ -23,7 +23,7 @@ const KEEP: f64 = 4.0;
 const NEAR26_SQUARED: f64 = (NODE_RADIUS + KEEP) * (NODE_RADIUS + KEEP);
 
 // Above every cost.
-pub const NO_LIMIT: usize = 18446744073709551615;
+const NO_LIMIT: usize = 18446744073709551615;
 
 // What is drawn already while labels are placed: the states' centres, the labels placed so far, and the traces.
 #[derive(Clone, Copy)]
@@ -117,21 +117,26 @@ impl<'a> Scene<'a> {
 
 // ---- the search for a place
 
-// The best cost so far, and its place.
-#[derive(Clone, Copy)]
-pub struct Found {
-    pub limit: usize,
-    pub place: usize,
-}
-
-pub fn better(f: Found, c: usize, j: usize) -> Found
-    ensures { let cheaper = ltb c f.limit in
-        (result.limit ≡ cond cheaper c f.limit) × (result.place ≡ cond cheaper j f.place) }
+// Of so many places the first that no other undercuts. A cost is given the best so far, and need not be counted above it.
+// A place of cost 0 ends the search.
+pub fn first_least<F: Fn(usize, usize) -> usize>(places: usize, cost: F) -> usize
+    requires callable { (limit j : ℕ) → limit < 18446744073709551616 → j < places → F.pre cost limit j }
+    ensures { (cut : ℕ → ℕ → ℕ) → ((limit j c : ℕ) → limit < 18446744073709551616 → j < places → F.post cost limit j c → c ≡ cut limit j)
+        → result ≡ search_from cut places 0 18446744073709551615 0 }
 {
-    if c < f.limit {
-        return Found { limit: c, place: j };
+    let mut least = NO_LIMIT;
+    let mut place: usize = 0;
+    for j in 0..places {
+        let c = cost(least, j);
+        if c < least {
+            least = c;
+            place = j;
+        }
+        if c == 0 {
+            return place;
+        }
     }
-    f
+    place
 }
 
 // The arrow with its label at place j.
@@ -151,20 +156,13 @@ impl<'a> Scene<'a> {
         requires { up ≡ upper t.arrow.curve }
         ensures { result ≡ T.taken (S.scene_in self.now) t }
     {
-        let mut f = Found {
-            limit: NO_LIMIT,
-            place: 0,
-        };
         let arrow = t.arrow;
-        for j in 0..label_spots::spot_count(arrow.shape) {
-            let g = labelled_at(t, up, j);
-            let c = self.cut_cost(t.edge, g.label_box, f.limit);
-            f = better(f, c, j);
-            if c == 0 {
-                return f.place;
-            }
-        }
-        f.place
+        first_least(
+            label_spots::spot_count(arrow.shape),
+            |limit: usize, j: usize| {
+                self.cut_cost(t.edge, labelled_at(t, up, j).label_box, limit)
+            },
+        )
     }
 
     // The arrow with its label at the place that it takes.

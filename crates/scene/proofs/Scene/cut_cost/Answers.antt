@@ -20,4 +20,4 @@ returns-clause-cost c = let a = c.args in
     (c.states_cost-states.ensures.0 ∙ ap (λ (n : ℕ). 10 * n) (sym (how_many_list (near26 a.b) a.self.now.states.now)))
     (c.cut_count-more.ensures.sum (overlapping far) (λ x r q. search (rules, tests)))
     (c.cut_count.ensures.sum (λ t. struck a.own wide (trace_in t)) (λ x r q. search (rules, tests))
-      ∙ ap (λ (l : List ℕ). cut_total a.limit more l) (worth_map (struck a.own wide) trace_in 3 a.self.now.traces.now))
+    ∙ ap (λ (l : List ℕ). cut_total a.limit more l) (worth_map (struck a.own wide) trace_in 3 a.self.now.traces.now))
