@@ -157,12 +157,10 @@ impl<'a> Scene<'a> {
         ensures { result ≡ T.taken (S.scene_in self.now) t }
     {
         let arrow = t.arrow;
-        first_least(
-            label_spots::spot_count(arrow.shape),
-            |limit: usize, j: usize| {
-                self.cut_cost(t.edge, labelled_at(t, up, j).label_box, limit)
-            },
-        )
+        let places = label_spots::spot_count(arrow.shape);
+        first_least(places, |limit: usize, j: usize| {
+            self.cut_cost(t.edge, labelled_at(t, up, j).label_box, limit)
+        })
     }
 
     // The arrow with its label at the place that it takes.

@@ -1,5 +1,5 @@
 -- `scene::Scene::take_spot` meets its contract.
-use Rattle.std.proofs.Common.{rules, tests, ◌∙◌, ap, arith}
+use Rattle.std.proofs.Common.{rules, tests, ◌∙◌, arith}
 use Rattle.std.proofs.lemmas.List.{length-map}
 use Rattle.trace.specs.Form.{trace_in}
 use Rattle.scene.specs.Scene.{scene_in}
