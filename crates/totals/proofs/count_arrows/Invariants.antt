@@ -1,7 +1,7 @@
 -- `totals::count_arrows` meets its contract.
 use mathlib.Core.Path.{◌≡◌}
 use mathlib.Core.List.{map}
-use Prim.Native.Nat.{◌+◌, ◌-◌, ◌*◌, ◌≤◌, ◌<◌}
+use Prim.Native.Nat.{◌+◌, ◌*◌, ◌≤◌, ◌<◌}
 use Rattle.laws.specs.Loops.{over}
 use Rattle.sheet.specs.Sheet.{chain_by, arrow_of, arrows_of}
 use Rattle.totals.specs.Arrows.{none_counted, with_arrow}
