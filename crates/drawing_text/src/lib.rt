@@ -4,11 +4,11 @@
 
 ghost use Rattle.std.specs.Prelude.{◌≡◌, cond, true, ◌*◌, ◌≤◌, length};
 ghost use mathlib.Core.List.{[], ◌∷◌, map, flat_map};
+ghost use Rattle.std.specs.List.{list_all};
 ghost use Rattle.laws.specs.Writers.{Wrote};
 ghost use Rattle.svg.specs.Paths.{curve_path, path_writable};
 ghost use Rattle.shape.specs.Centres.{centres};
 ghost use Rattle.sheet.specs.Meaning.{is_start};
-ghost use Rattle.records.specs.Records.{decode_records};
 ghost use Rattle.totals.specs.declared.Totals as T;
 ghost use Rattle.drawing_text.specs.Lines as S;
 
@@ -19,47 +19,44 @@ use totals::Totals;
 // ---- path text
 
 // A record's path, ended by a newline.
-fn put_path_line(out: &mut [u8], at: usize, g: Geometry) -> usize
-    ensures { Wrote out.old at out.new result (S.path_line (curve_path g.curve)) }
+fn put_path_line(out: &mut [u8], at: usize, g: &Geometry) -> usize
+    ensures { Wrote out.old at out.new result (S.path_line (curve_path g.now.curve)) }
 {
     let curve = g.curve;
     let newline = svg::put_path(out, at, curve);
     text::put_byte(out, newline, b'\n')
 }
 
-// The paths of the first `count` records, each ended by a newline.
-pub fn put_paths(out: &mut [u8], at: usize, records: &[f64], count: usize) -> usize
-    requires { 20 * count ≤ length records.now }
-    ensures { let drawn = decode_records count records.now in
-        Wrote out.old at out.new result (S.paths_text drawn) }
+// The paths of a drawing, each ended by a newline.
+pub fn put_paths(out: &mut [u8], at: usize, drawn: &[Geometry]) -> usize
+    ensures { Wrote out.old at out.new result (S.paths_text drawn.now) }
 {
     let mut next = at;
-    for k in 0..count {
-        let g = records::geometry_at(records, k);
+    for g in drawn {
         next = put_path_line(out, next, g);
     }
     next
 }
 
-fn path_ok(g: Geometry) -> bool
-    ensures { result ≡ path_writable (curve_path g.curve) }
+fn path_ok(g: &Geometry) -> bool
+    ensures { result ≡ path_writable (curve_path g.now.curve) }
 {
     let curve = g.curve;
     svg::curve_writable(curve)
 }
 
 // Whether every coordinate of their paths may be written.
-pub fn paths_writable(records: &[f64], count: usize) -> bool
-    requires { 20 * count ≤ length records.now }
-    ensures { result ≡ S.paths_writable (decode_records count records.now) }
+#[tactic(auto, using(crate::proofs::Laws::paths_list))]
+pub fn paths_writable(drawn: &[Geometry]) -> bool
+    ensures { result ≡ S.paths_writable drawn.now }
 {
-    for k in 0..count {
-        let g = records::geometry_at(records, k);
-        if !path_ok(g) {
-            return false;
-        }
-    }
-    true
+    paths_ok(drawn)
+}
+
+fn paths_ok(drawn: &[Geometry]) -> bool
+    ensures { result ≡ list_all (λ g. path_writable (curve_path g.curve)) drawn.now }
+{
+    drawn.iter().all(|g| path_ok(g))
 }
 
 // ---- the listing's fields
@@ -141,8 +138,8 @@ fn put_state_line(out: &mut [u8], at: usize, k: usize, c: V) -> usize
     text::put_byte(out, end, b'\n')
 }
 
-fn put_edge_line(out: &mut [u8], at: usize, g: Geometry) -> usize
-    ensures { Wrote out.old at out.new result (S.line_text (S.edge_line g)) }
+fn put_edge_line(out: &mut [u8], at: usize, g: &Geometry) -> usize
+    ensures { Wrote out.old at out.new result (S.line_text (S.edge_line g.now)) }
 {
     let curve = g.curve;
     let path = put_titled(out, at, b"edge", g.edge);
@@ -150,8 +147,8 @@ fn put_edge_line(out: &mut [u8], at: usize, g: Geometry) -> usize
     text::put_byte(out, end, b'\n')
 }
 
-fn put_tip_line(out: &mut [u8], at: usize, g: Geometry) -> usize
-    ensures { Wrote out.old at out.new result (S.line_text (S.tip_line g)) }
+fn put_tip_line(out: &mut [u8], at: usize, g: &Geometry) -> usize
+    ensures { Wrote out.old at out.new result (S.line_text (S.tip_line g.now)) }
 {
     let tip = put_titled(out, at, b"tip", g.edge);
     let angle = put_point(out, tip, g.tip);
@@ -159,16 +156,16 @@ fn put_tip_line(out: &mut [u8], at: usize, g: Geometry) -> usize
     text::put_byte(out, end, b'\n')
 }
 
-fn put_head_line(out: &mut [u8], at: usize, g: Geometry) -> usize
-    ensures { Wrote out.old at out.new result (S.line_text (S.head_line g)) }
+fn put_head_line(out: &mut [u8], at: usize, g: &Geometry) -> usize
+    ensures { Wrote out.old at out.new result (S.line_text (S.head_line g.now)) }
 {
     let head = put_titled(out, at, b"head", g.edge);
     let end = put_head(out, head, g.tip, g.tip_angle);
     text::put_byte(out, end, b'\n')
 }
 
-fn put_label_line(out: &mut [u8], at: usize, g: Geometry) -> usize
-    ensures { Wrote out.old at out.new result (S.line_text (S.label_line g)) }
+fn put_label_line(out: &mut [u8], at: usize, g: &Geometry) -> usize
+    ensures { Wrote out.old at out.new result (S.line_text (S.label_line g.now)) }
 {
     let anchor = g.anchor;
     let label = put_titled(out, at, b"label", g.edge);
@@ -178,8 +175,8 @@ fn put_label_line(out: &mut [u8], at: usize, g: Geometry) -> usize
 }
 
 // The four lines of a record.
-fn put_record_lines(out: &mut [u8], at: usize, g: Geometry) -> usize
-    ensures { Wrote out.old at out.new result (S.lines_text (S.record_lines g)) }
+fn put_record_lines(out: &mut [u8], at: usize, g: &Geometry) -> usize
+    ensures { Wrote out.old at out.new result (S.lines_text (S.record_lines g.now)) }
 {
     let tip = put_edge_line(out, at, g);
     let head = put_tip_line(out, tip, g);
@@ -241,14 +238,11 @@ fn put_states(out: &mut [u8], at: usize, xs: &[f64], ys: &[f64]) -> usize
     next
 }
 
-fn put_records(out: &mut [u8], at: usize, records: &[f64], count: usize) -> usize
-    requires { 20 * count ≤ length records.now }
-    ensures { let gs = decode_records count records.now in
-        Wrote out.old at out.new result (S.lines_text (flat_map S.record_lines gs)) }
+fn put_records(out: &mut [u8], at: usize, drawn: &[Geometry]) -> usize
+    ensures { Wrote out.old at out.new result (S.lines_text (flat_map S.record_lines drawn.now)) }
 {
     let mut next = at;
-    for k in 0..count {
-        let g = records::geometry_at(records, k);
+    for g in drawn {
         next = put_record_lines(out, next, g);
     }
     next
@@ -276,21 +270,18 @@ pub fn put_listing(
     xs: &[f64],
     ys: &[f64],
     flags: &[u8],
-    records: &[f64],
-    count: usize,
+    drawn: &[Geometry],
     totals: Totals,
 ) -> usize
     requires { (length ys.now ≡ length xs.now)
-        × (length flags.now ≡ length xs.now)
-        × (20 * count ≤ length records.now) }
-    ensures { let drawn = decode_records count records.now in
-        let nodes = centres xs.now ys.now in
-        let text = S.list_text width height nodes flags.now drawn totals in
+        × (length flags.now ≡ length xs.now) }
+    ensures { let nodes = centres xs.now ys.now in
+        let text = S.list_text width height nodes flags.now drawn.now totals in
         Wrote out.old at out.new result text }
 {
     let states = put_size_line(out, at, width, height);
     let edges = put_states(out, states, xs, ys);
-    let starts = put_records(out, edges, records, count);
+    let starts = put_records(out, edges, drawn);
     let total = put_starts(out, starts, xs, ys, flags);
     put_total_line(out, total, totals)
 }
@@ -315,8 +306,8 @@ fn point_ok(p: V) -> bool
     false
 }
 
-fn tip_ok(g: Geometry) -> bool
-    ensures { result ≡ S.line_writable (S.tip_line g) }
+fn tip_ok(g: &Geometry) -> bool
+    ensures { result ≡ S.line_writable (S.tip_line g.now) }
 {
     if point_ok(g.tip) {
         return number::writable(g.tip_angle);
@@ -325,8 +316,8 @@ fn tip_ok(g: Geometry) -> bool
 }
 
 // The four lines of a record.
-fn record_ok(g: Geometry) -> bool
-    ensures { result ≡ S.lines_writable (S.record_lines g) }
+fn record_ok(g: &Geometry) -> bool
+    ensures { result ≡ S.lines_writable (S.record_lines g.now) }
 {
     if !path_ok(g) {
         return false;
@@ -363,17 +354,10 @@ fn states_ok(xs: &[f64], ys: &[f64]) -> bool
     true
 }
 
-fn records_ok(records: &[f64], count: usize) -> bool
-    requires { 20 * count ≤ length records.now }
-    ensures { result ≡ S.lines_writable (flat_map S.record_lines (decode_records count records.now)) }
+fn records_ok(drawn: &[Geometry]) -> bool
+    ensures { result ≡ list_all (λ g. S.lines_writable (S.record_lines g)) drawn.now }
 {
-    for k in 0..count {
-        let g = records::geometry_at(records, k);
-        if !record_ok(g) {
-            return false;
-        }
-    }
-    true
+    drawn.iter().all(|g| record_ok(g))
 }
 
 fn starts_ok(xs: &[f64], ys: &[f64], flags: &[u8]) -> bool
@@ -396,15 +380,12 @@ pub fn listing_writable(
     xs: &[f64],
     ys: &[f64],
     flags: &[u8],
-    records: &[f64],
-    count: usize,
+    drawn: &[Geometry],
 ) -> bool
     requires { (length ys.now ≡ length xs.now)
-        × (length flags.now ≡ length xs.now)
-        × (20 * count ≤ length records.now) }
-    ensures { let drawn = decode_records count records.now in
-        let nodes = centres xs.now ys.now in
-        ((totals : T.Totals) → result ≡ S.list_writable width height nodes flags.now drawn totals) }
+        × (length flags.now ≡ length xs.now) }
+    ensures { let nodes = centres xs.now ys.now in
+        ((totals : T.Totals) → result ≡ S.list_writable width height nodes flags.now drawn.now totals) }
 {
     if !size_ok(width, height) {
         return false;
@@ -412,7 +393,7 @@ pub fn listing_writable(
     if !states_ok(xs, ys) {
         return false;
     }
-    if !records_ok(records, count) {
+    if !records_ok(drawn) {
         return false;
     }
     starts_ok(xs, ys, flags)

@@ -1,6 +1,5 @@
 -- `drawing_text::starts_ok` meets its contract. The invariant: the test of the states still to come decides.
 use mathlib.Core.Path.{refl, sym, ◌∙◌}
-use Prim.Native.Nat.{◌-◌}
 use native.Mathlib.Omega.{arith}
 use mathlib.Core.Bool.{Bool, true, cond}
 use borrow.Author.Tests.{not-true, not-false}

@@ -1,6 +1,5 @@
 -- `drawing_text::states_ok` meets its contract. The invariant: the test of the states still to come decides.
 use mathlib.Core.Path.{refl, sym, ◌∙◌}
-use Prim.Native.Nat.{◌-◌}
 use native.Mathlib.Omega.{arith}
 use borrow.Author.Tests.{not-true, not-false}
 use Rattle.laws.specs.Every.{every, every_stop, every-step, every-end, every_map}
