@@ -8,7 +8,6 @@ use borrow.Author.Tests.{not-true, not-false}
 use lib.Ieee.{Float, nan}
 use lib.ListN.{length, drop, get_or}
 use Rattle.laws.specs.Writers.{Wrote, wrote_as, wrote-more}
-use Rattle.laws.specs.Zip.{zip_past}
 use Rattle.laws.specs.Every.{every, every_join, every_map, every-all}
 use Rattle.laws.specs.Joined.{flat_join}
 use Rattle.laws.specs.Bools.{and_no, and_true, and_yes}
@@ -18,23 +17,21 @@ use Rattle.shape.specs.declared.Curve.TheVariants.{Line}
 use Rattle.label_spots.specs.declared.Anchor.TheVariants.{Start}
 use Rattle.svg.specs.Paths.{curve_path, path_writable}
 use Rattle.std.specs.List.{list_all}
-use Rattle.std.proofs.Common.{drop-cons}
+use Rattle.std.proofs.Common.{drop-cons, drop_of_length-le}
 use Rattle.laws.specs.Chains.{every_list}
-use Rattle.shape.specs.Centres.{centres, centre}
-use Rattle.shape.specs.CentresFrom.{centres_from}
 use Rattle.label_spots.specs.declared.Geometry.{Geometry}
 use Rattle.totals.specs.declared.Totals.{Totals}
 use Rattle.drawing_text.specs.Lines.{paths_of, paths_writable, Field, TextLine, named, listed_state, states_from, starts, field_text, fields_text, body_text, line_text, lines_text, field_writable, fields_writable, line_writable, lines_writable, size_line, state_line, start_line, total_line, record_lines, list_lines, list_writable}
 
 -- ---- the states from state k on
-pub states_front : (xs ys : List Float) (k : ℕ) (v : «V») → v ≡ centre (centres xs ys) k → length ys ≡ length xs → k < length xs
-    → states_from k (drop k (centres xs ys)) ≡ listed_state k v ∷ states_from (k + 1) (drop (k + 1) (centres xs ys))
+pub states_front : (nodes : List «V») (k : ℕ) → k < length nodes
+    → states_from k (drop k nodes) ≡ listed_state k (get_or nodes k (vec nan nan)) ∷ states_from (k + 1) (drop (k + 1) nodes)
 unfolding states_from
-states_front xs ys k v e h i = rw (centres_from xs ys k v e h i, add-one)
+states_front nodes k h = rw (drop-cons nodes k (vec nan nan) h, add-one)
 
-pub states_none : (xs ys : List Float) (k : ℕ) → length ys ≡ length xs → length xs ≤ k → states_from k (drop k (centres xs ys)) ≡ []
+pub states_none : (nodes : List «V») (k : ℕ) → length nodes ≤ k → states_from k (drop k nodes) ≡ []
 unfolding states_from
-states_none xs ys k h i = rw (zip_past vec xs ys k h i)
+states_none nodes k h = rw (drop_of_length-le nodes h)
 
 -- ---- the arrows drawn, from number i on
 

@@ -7,7 +7,6 @@ ghost use mathlib.Core.List.{[], ◌∷◌, map, flat_map};
 ghost use Rattle.std.specs.List.{list_all};
 ghost use Rattle.laws.specs.Writers.{Wrote};
 ghost use Rattle.svg.specs.Paths.{curve_path, path_writable};
-ghost use Rattle.shape.specs.Centres.{centres};
 ghost use Rattle.sheet.specs.Meaning.{is_start};
 ghost use Rattle.totals.specs.declared.Totals as T;
 ghost use Rattle.drawing_text.specs.Lines as S;
@@ -226,14 +225,13 @@ fn put_total_line(out: &mut [u8], at: usize, t: Totals) -> usize
 
 // ---- the listing
 
-fn put_states(out: &mut [u8], at: usize, xs: &[f64], ys: &[f64]) -> usize
-    requires { length ys.now ≡ length xs.now }
-    ensures { let states = S.states_from 0 (centres xs.now ys.now) in
+fn put_states(out: &mut [u8], at: usize, nodes: &[V]) -> usize
+    ensures { let states = S.states_from 0 nodes.now in
         Wrote out.old at out.new result (S.lines_text (map S.state_line states)) }
 {
     let mut next = at;
-    for k in 0..xs.len() {
-        next = put_state_line(out, next, k, shape::centre(xs, ys, k));
+    for (k, c) in nodes.iter().enumerate() {
+        next = put_state_line(out, next, k, *c);
     }
     next
 }
@@ -248,15 +246,15 @@ fn put_records(out: &mut [u8], at: usize, drawn: &[Geometry]) -> usize
     next
 }
 
-fn put_starts(out: &mut [u8], at: usize, xs: &[f64], ys: &[f64], flags: &[u8]) -> usize
-    requires { (length ys.now ≡ length xs.now) × (length flags.now ≡ length xs.now) }
-    ensures { let states = S.states_from 0 (centres xs.now ys.now) in
+fn put_starts(out: &mut [u8], at: usize, nodes: &[V], flags: &[u8]) -> usize
+    requires { length flags.now ≡ length nodes.now }
+    ensures { let states = S.states_from 0 nodes.now in
         let starts = S.starts flags.now states in
         Wrote out.old at out.new result (S.lines_text (map S.start_line starts)) }
 {
     let mut next = at;
-    for k in 0..xs.len() {
-        next = put_start(out, next, flags[k], k, shape::centre(xs, ys, k));
+    for (k, c) in nodes.iter().enumerate() {
+        next = put_start(out, next, flags[k], k, *c);
     }
     next
 }
@@ -267,22 +265,19 @@ pub fn put_listing(
     at: usize,
     width: f64,
     height: f64,
-    xs: &[f64],
-    ys: &[f64],
+    nodes: &[V],
     flags: &[u8],
     drawn: &[Geometry],
     totals: Totals,
 ) -> usize
-    requires { (length ys.now ≡ length xs.now)
-        × (length flags.now ≡ length xs.now) }
-    ensures { let nodes = centres xs.now ys.now in
-        let text = S.list_text width height nodes flags.now drawn.now totals in
+    requires { length flags.now ≡ length nodes.now }
+    ensures { let text = S.list_text width height nodes.now flags.now drawn.now totals in
         Wrote out.old at out.new result text }
 {
     let states = put_size_line(out, at, width, height);
-    let edges = put_states(out, states, xs, ys);
+    let edges = put_states(out, states, nodes);
     let starts = put_records(out, edges, drawn);
-    let total = put_starts(out, starts, xs, ys, flags);
+    let total = put_starts(out, starts, nodes, flags);
     put_total_line(out, total, totals)
 }
 
@@ -341,13 +336,11 @@ fn start_ok(flag: u8, k: usize, c: V) -> bool
     true
 }
 
-fn states_ok(xs: &[f64], ys: &[f64]) -> bool
-    requires { length ys.now ≡ length xs.now }
-    ensures { let nodes = centres xs.now ys.now in
-        result ≡ S.lines_writable (map S.state_line (S.states_from 0 nodes)) }
+fn states_ok(nodes: &[V]) -> bool
+    ensures { result ≡ S.lines_writable (map S.state_line (S.states_from 0 nodes.now)) }
 {
-    for k in 0..xs.len() {
-        if !point_ok(shape::centre(xs, ys, k)) {
+    for p in nodes {
+        if !point_ok(*p) {
             return false;
         }
     }
@@ -360,13 +353,13 @@ fn records_ok(drawn: &[Geometry]) -> bool
     drawn.iter().all(|g| record_ok(g))
 }
 
-fn starts_ok(xs: &[f64], ys: &[f64], flags: &[u8]) -> bool
-    requires { (length ys.now ≡ length xs.now) × (length flags.now ≡ length xs.now) }
-    ensures { let states = S.states_from 0 (centres xs.now ys.now) in
+fn starts_ok(nodes: &[V], flags: &[u8]) -> bool
+    requires { length flags.now ≡ length nodes.now }
+    ensures { let states = S.states_from 0 nodes.now in
         result ≡ S.lines_writable (map S.start_line (S.starts flags.now states)) }
 {
-    for k in 0..xs.len() {
-        if !start_ok(flags[k], k, shape::centre(xs, ys, k)) {
+    for (k, c) in nodes.iter().enumerate() {
+        if !start_ok(flags[k], k, *c) {
             return false;
         }
     }
@@ -377,24 +370,21 @@ fn starts_ok(xs: &[f64], ys: &[f64], flags: &[u8]) -> bool
 pub fn listing_writable(
     width: f64,
     height: f64,
-    xs: &[f64],
-    ys: &[f64],
+    nodes: &[V],
     flags: &[u8],
     drawn: &[Geometry],
 ) -> bool
-    requires { (length ys.now ≡ length xs.now)
-        × (length flags.now ≡ length xs.now) }
-    ensures { let nodes = centres xs.now ys.now in
-        ((totals : T.Totals) → result ≡ S.list_writable width height nodes flags.now drawn.now totals) }
+    requires { length flags.now ≡ length nodes.now }
+    ensures { ((totals : T.Totals) → result ≡ S.list_writable width height nodes.now flags.now drawn.now totals) }
 {
     if !size_ok(width, height) {
         return false;
     }
-    if !states_ok(xs, ys) {
+    if !states_ok(nodes) {
         return false;
     }
     if !records_ok(drawn) {
         return false;
     }
-    starts_ok(xs, ys, flags)
+    starts_ok(nodes, flags)
 }

@@ -8,29 +8,20 @@ use Rattle.laws.specs.Joined.{flat_chosen}
 use Rattle.sheet.specs.Meaning.{is_start}
 use Rattle.drawing_text.specs.Lines.{ListedState, flag_of, start_line, listed_state, starts, line_text, lines_text}
 use Rattle.drawing_text.proofs.Laws.{states_front, states_none}
+use Rattle.std.proofs.Common.{get_or}
+use lib.Ieee.{nan}
+use Rattle.shape.specs.Plane.{vec}
 use Rattle.drawing_text.proofs.put_starts.Goals as goal
 
 pub loop-k-init : goal.loop-k-init
 unfolding lines_text starts
-loop-k-init c = (refl, omega arith, refl, continues_whole _ _ (omega arith) (sym (flat_chosen line_text start_line _ _)))
-
-pub bounds-flags-k : goal.bounds-flags-k
-bounds-flags-k c = omega arith
-
-pub put_start-next-requires : goal.put_start-next-requires
-put_start-next-requires c = tt
-
-pub overflow_step-k : goal.overflow_step-k
-overflow_step-k c = omega arith
-
-pub loop-k-smaller : goal.loop-k-smaller
-loop-k-smaller c = omega arith
+loop-k-init c = (refl, continues_whole _ _ (omega arith) (sym (flat_chosen line_text start_line _ _)))
 
 pub loop-k-preserved : goal.loop-k-preserved
-loop-k-preserved c = (c.loop-k.invariant.0, omega arith, c.put_start-next.auto.out ∙ c.loop-k.invariant.2, texts_step (λ (s : ListedState). cond (is_start (flag_of c.args.flags.now s)) (line_text (start_line s)) []) (listed_state c.loop-k.k c.centre.result) (states_front c.args.xs.now c.args.ys.now c.loop-k.k c.centre.result c.centre.ensures c.requires.0 (omega arith)) c.loop-k.invariant.3 c.put_start-next.ensures)
+loop-k-preserved c = (c.put_start-next.auto.out ∙ c.loop-k.invariant.0, texts_step (λ (s : ListedState). cond (is_start (flag_of c.args.flags.now s)) (line_text (start_line s)) []) (listed_state c.loop-k.k (get_or c.args.nodes.now c.loop-k.k (vec nan nan))) (states_front c.args.nodes.now c.loop-k.k c.loop-k-test.true) c.loop-k.invariant.1 c.put_start-next.ensures)
 
 pub shape_of-out : goal.shape_of-out
-shape_of-out c = c.loop-k.invariant.2
+shape_of-out c = c.loop-k.invariant.0
 
 pub returns : goal.returns
-returns c = texts_end (λ (s : ListedState). cond (is_start (flag_of c.args.flags.now s)) (line_text (start_line s)) []) (states_none c.args.xs.now c.args.ys.now c.loop-k.k c.requires.0 (omega arith)) (omega arith) c.loop-k.invariant.3
+returns c = texts_end (λ (s : ListedState). cond (is_start (flag_of c.args.flags.now s)) (line_text (start_line s)) []) (states_none c.args.nodes.now c.loop-k.k c.loop-k-test.false) (omega arith) c.loop-k.invariant.1

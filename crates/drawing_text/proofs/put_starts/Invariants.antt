@@ -2,16 +2,11 @@
 use mathlib.Core.Path.{◌≡◌}
 use mathlib.Core.Bool.{cond}
 use mathlib.Core.List.{[], map, flat_map}
-use Prim.Native.Nat.{◌-◌, ◌≤◌}
 use lib.ListN.{length, drop}
 use Rattle.laws.specs.Continues.{Continues}
-use Rattle.shape.specs.Centres.{centres}
 use Rattle.sheet.specs.Meaning.{is_start}
 use Rattle.drawing_text.specs.Lines.{ListedState, flag_of, start_line, states_from, starts, line_text, lines_text}
 use Rattle.drawing_text.proofs.put_starts.Given as goal
 
 abbrev pub invariant-loop-k : goal.invariant-loop-k
-invariant-loop-k l = (l.k-end ≡ length l.xs) × (l.k ≤ length l.xs) × (length l.out ≡ length l.initial.out) × Continues l.initial.out l.at l.out l.next (flat_map (λ (s : ListedState). cond (is_start (flag_of l.flags s)) (line_text (start_line s)) []) (states_from l.k (drop l.k (centres l.xs l.ys)))) (lines_text (map start_line (starts l.flags (states_from 0 (centres l.xs l.ys)))))
-
-abbrev pub decreases-loop-k : goal.decreases-loop-k
-decreases-loop-k l = l.k-end - l.k
+invariant-loop-k l = (length l.out ≡ length l.initial.out) × Continues l.initial.out l.at l.out l.next (flat_map (λ (s : ListedState). cond (is_start (flag_of l.flags s)) (line_text (start_line s)) []) (states_from l.k (drop l.k l.nodes))) (lines_text (map start_line (starts l.flags (states_from 0 l.nodes))))

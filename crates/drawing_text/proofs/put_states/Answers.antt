@@ -9,22 +9,13 @@ use Rattle.drawing_text.proofs.put_states.Goals as goal
 
 pub loop-k-init : goal.loop-k-init
 unfolding lines_text
-loop-k-init c = (refl, omega arith, refl, continues_whole _ _ (omega arith) (sym (flat_map_lem line_text state_line _)))
-
-pub put_state_line-next-requires : goal.put_state_line-next-requires
-put_state_line-next-requires c = tt
-
-pub overflow_step-k : goal.overflow_step-k
-overflow_step-k c = omega arith
-
-pub loop-k-smaller : goal.loop-k-smaller
-loop-k-smaller c = omega arith
+loop-k-init c = (refl, continues_whole _ _ (omega arith) (sym (flat_map_lem line_text state_line _)))
 
 pub loop-k-preserved : goal.loop-k-preserved
-loop-k-preserved c = (c.loop-k.invariant.0, omega arith, c.put_state_line-next.auto.out ∙ c.loop-k.invariant.2, texts_step (λ (s : ListedState). line_text (state_line s)) _ (states_front c.args.xs.now c.args.ys.now c.loop-k.k c.centre.result c.centre.ensures c.requires (omega arith)) c.loop-k.invariant.3 c.put_state_line-next.ensures)
+loop-k-preserved c = (c.put_state_line-next.auto.out ∙ c.loop-k.invariant.0, texts_step (λ (s : ListedState). line_text (state_line s)) _ (states_front c.args.nodes.now c.loop-k.k c.loop-k-test.true) c.loop-k.invariant.1 c.put_state_line-next.ensures)
 
 pub shape_of-out : goal.shape_of-out
-shape_of-out c = c.loop-k.invariant.2
+shape_of-out c = c.loop-k.invariant.0
 
 pub returns : goal.returns
-returns c = texts_end (λ (s : ListedState). line_text (state_line s)) (states_none c.args.xs.now c.args.ys.now c.loop-k.k c.requires (omega arith)) (omega arith) c.loop-k.invariant.3
+returns c = texts_end (λ (s : ListedState). line_text (state_line s)) (states_none c.args.nodes.now c.loop-k.k c.loop-k-test.false) (omega arith) c.loop-k.invariant.1
