@@ -1,6 +1,6 @@
 -- The choice by a loop that keeps the best bow so far is `verified`, for clearances that are no NaN (`choose_is`); no clearance is a NaN
 -- (`clearance_num`); and what all the bows have, the one chosen has (`verified_has`). Assumes nothing.
-use Rattle.std.specs.Prelude.{◌≡◌, Bool, false, cond, ◌||◌, ◌⊎◌, ℕ, zero, suc, ◌-◌, get_or, Float}
+use Rattle.std.specs.Prelude.{◌≡◌, Bool, false, cond, ◌||◌, ℕ, zero, suc, ◌-◌, get_or, Float}
 use Rattle.std.proofs.Math.Path.{refl, sym, ap, subst}
 use Rattle.std.proofs.Common.{◌∙◌}
 use Rattle.std.proofs.Math.Bool.{true, not}

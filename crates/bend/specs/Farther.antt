@@ -11,7 +11,7 @@ use Rattle.std.specs.Float.Ieee.Fits.{down_pos}
 use Rattle.std.specs.Float.Ieee.Order.{round_mono}
 use Rattle.laws.specs.Cases.{by_bool, holds as yes_of}
 use Rattle.root.specs.Plain.{plain, Plain, bits-plain, root-plain}
-use Rattle.float.specs.Ops.{◌⊖◌, lt, le, eq, ne, neg}
+use Rattle.float.specs.Ops.{◌⊖◌, lt, le, ne, neg}
 use Rattle.float.specs.Constants.{node_radius, infinity}
 use Rattle.float.specs.Standins.{min, root, root_of}
 use Rattle.float.specs.Sizes.{Form, endless, finite, round_form, sizes-ordered, signs_apart, equals_itself}

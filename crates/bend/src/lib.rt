@@ -3,9 +3,7 @@
 
 ghost use Rattle.std.specs.Prelude.{◌≡◌, ◌-◌, ◌<◌, ◌≤◌, length};
 ghost use Rattle.laws.specs.Sort.{place_from};
-ghost use Rattle.shape.specs.Centres.{centres};
 ghost use Rattle.free.specs.Chords as C;
-ghost use Rattle.free.specs.Free as F;
 ghost use Rattle.bend.specs.Clear as L;
 ghost use Rattle.bend.specs.Choice as K;
 ghost use Rattle.bend.specs.Farther as Q;
@@ -14,7 +12,7 @@ ghost use Rattle.bend.specs.Between as W;
 ghost use Rattle.bend.specs.Leads as D;
 ghost use Rattle.bend.specs.Steps as S;
 
-use free::{CLEARANCE, Chord};
+use free::{CLEARANCE, Chord, Span};
 use shape::{Curve, EPS, NODE_RADIUS, V};
 
 // Which way the label of an arrow may go: beside a line, outside an arc (1 bent to the left, -1 to the right),
@@ -69,22 +67,20 @@ fn beside(c: Chord, k: usize, o: V, p: V, r: Near) -> Near
 }
 
 // The least room between p and the other states' rims, where that is less.
-fn nearest(xs: &[f64], ys: &[f64], c: Chord, p: V, start: Near) -> Near
-    requires ys_len { length ys.now ≡ length xs.now }
+fn nearest(nodes: &[V], c: Chord, p: V, start: Near) -> Near
     requires good_near { Q.GoodNear start }
-    ensures { Q.NearestRoom (C.other_states c (centres xs.now ys.now)) p start result }
+    ensures { Q.NearestRoom (C.other_states c nodes.now) p start result }
 {
     let mut r = start;
-    for k in 0..xs.len() {
-        r = beside(c, k, shape::centre(xs, ys, k), p, r);
+    for (k, o) in nodes.iter().enumerate() {
+        r = beside(c, k, *o, p, r);
     }
     r
 }
 
 // The clearance that the arc with bow h keeps from the other states.
-fn clearance(xs: &[f64], ys: &[f64], c: Chord, h: f64) -> f64
-    requires { length ys.now ≡ length xs.now }
-    ensures { result ≡ L.clearance c (centres xs.now ys.now) h }
+fn clearance(nodes: &[V], c: Chord, h: f64) -> f64
+    ensures { result ≡ L.clearance c nodes.now h }
 {
     let a = c.a;
     let b = c.b;
@@ -94,10 +90,8 @@ fn clearance(xs: &[f64], ys: &[f64], c: Chord, h: f64) -> f64
         room: most,
         square: most,
     };
-    let mut k: u32 = 1;
-    while k < 16 {
-        r = nearest(xs, ys, c, arc.at(k as f64 / 16.0), r);
-        k += 1;
+    for k in 1..16u32 {
+        r = nearest(nodes, c, arc.at(k as f64 / 16.0), r);
     }
     r.room
 }
@@ -119,47 +113,39 @@ fn better(b: Best, clearance: f64, bow: f64) -> Best
 }
 
 // The first of the bows whose arc keeps half the clearance from all other states, or the one that keeps most.
-fn verified(xs: &[f64], ys: &[f64], c: Chord, bows: &[f64]) -> f64
-    requires ys_len { length ys.now ≡ length xs.now }
+fn verified(nodes: &[V], c: Chord, bows: &[f64]) -> f64
     requires bows_nonzero { 0 < length bows.now }
-    ensures { let nodes = centres xs.now ys.now in
-        result ≡ L.verified (L.clearance c nodes) bows.now }
+    ensures { result ≡ L.verified (L.clearance c nodes.now) bows.now }
 {
     let mut b = Best {
         clearance: -float::infinity(),
         bow: bows[0],
     };
-    for i in 0..bows.len() {
-        let h = bows[i];
-        let m = clearance(xs, ys, c, h);
+    for h in bows {
+        let m = clearance(nodes, c, *h);
         if m >= CLEARANCE * 0.5 {
-            return h;
+            return *h;
         }
-        b = better(b, m, h);
+        b = better(b, m, *h);
     }
     b.bow
 }
 
 // The first free bow of a two-way pair: upwards from 0.3 of the distance, from 28 to 64.
-pub fn pair_up(c: Chord, lo: &[f64], hi: &[f64]) -> f64
-    requires { length hi.now ≡ length lo.now }
-    ensures { result ≡ B.pair_up c (F.spans lo.now hi.now) }
+pub fn pair_up(c: Chord, spans: &[Span]) -> f64
+    ensures { result ≡ B.pair_up c spans.now }
 {
     let base = float::clamp(0.3 * c.len, 28.0, 64.0);
-    free::first_free(lo, hi, base, 1.0)
+    free::first_free(spans, base, 1.0)
 }
 
 // A two-way pair: upwards, and not capped.
-fn pair_bow(xs: &[f64], ys: &[f64], c: Chord, lo: &[f64], hi: &[f64]) -> f64
-    requires ys_len { length ys.now ≡ length xs.now }
-    requires hi_len { length hi.now ≡ length lo.now }
-    ensures { let blocked = F.spans lo.now hi.now in
-        let nodes = centres xs.now ys.now in
-        result ≡ B.pair_bow c nodes blocked }
+fn pair_bow(nodes: &[V], c: Chord, spans: &[Span]) -> f64
+    ensures { result ≡ B.pair_bow c nodes.now spans.now }
 {
-    let up = pair_up(c, lo, hi);
+    let up = pair_up(c, spans);
     let bows = [up, up + 24.0, up + 48.0];
-    verified(xs, ys, c, &bows)
+    verified(nodes, c, &bows)
 }
 
 fn capped(cap: f64, h: f64) -> f64
@@ -172,53 +158,43 @@ fn capped(cap: f64, h: f64) -> f64
 }
 
 // A single arrow: the nearer of up and down first, each capped.
-fn single_bow(xs: &[f64], ys: &[f64], c: Chord, lo: &[f64], hi: &[f64]) -> f64
-    requires ys_len { length ys.now ≡ length xs.now }
-    requires hi_len { length hi.now ≡ length lo.now }
-    ensures { let blocked = F.spans lo.now hi.now in
-        let nodes = centres xs.now ys.now in
-        result ≡ B.single_bow c nodes blocked }
+fn single_bow(nodes: &[V], c: Chord, spans: &[Span]) -> f64
+    ensures { result ≡ B.single_bow c nodes.now spans.now }
 {
     let cap = float::max(1.5 * c.len, 160.0);
-    let up = free::first_free(lo, hi, 24.0, 1.0);
-    let down = free::first_free(lo, hi, -24.0, -1.0);
+    let up = free::first_free(spans, 24.0, 1.0);
+    let down = free::first_free(spans, -24.0, -1.0);
     let high = capped(cap, up);
     let low = capped(cap, down);
     if float::abs(down) + EPS < float::abs(up) {
         let bows = [low, high];
-        return verified(xs, ys, c, &bows);
+        return verified(nodes, c, &bows);
     }
     let bows = [high, low];
-    verified(xs, ys, c, &bows)
+    verified(nodes, c, &bows)
 }
 
 // The bow past these intervals.
-fn bend_past(xs: &[f64], ys: &[f64], c: Chord, lo: &[f64], hi: &[f64], both_ways: bool) -> f64
-    requires ys_len { length ys.now ≡ length xs.now }
-    requires hi_len { length hi.now ≡ length lo.now }
-    ensures { let blocked = F.spans lo.now hi.now in
-        let nodes = centres xs.now ys.now in
-        result ≡ B.bend_past c nodes blocked both_ways }
+fn bend_past(nodes: &[V], c: Chord, spans: &[Span], both_ways: bool) -> f64
+    ensures { result ≡ B.bend_past c nodes.now spans.now both_ways }
 {
     if both_ways {
-        return pair_bow(xs, ys, c, lo, hi);
+        return pair_bow(nodes, c, spans);
     }
-    if free::inside_some(lo, hi, 0.0) {
-        return single_bow(xs, ys, c, lo, hi);
+    if free::inside_some(spans, 0.0) {
+        return single_bow(nodes, c, spans);
     }
     0.0
 }
 
 // The signed offset of the control point, to the left of the direction of travel, or 0 for a straight arrow.
-fn bend(xs: &[f64], ys: &[f64], c: Chord, both_ways: bool) -> f64
-    requires ys_len { length ys.now ≡ length xs.now }
-    requires xs_len_bound { length xs.now ≤ 64 }
-    ensures { result ≡ B.bend c (centres xs.now ys.now) both_ways }
+fn bend(nodes: &[V], c: Chord, both_ways: bool) -> f64
+    requires few { length nodes.now ≤ 64 }
+    ensures { result ≡ B.bend c nodes.now both_ways }
 {
-    let mut lo = [0.0f64; 64];
-    let mut hi = [0.0f64; 64];
-    let n = free::blocked(xs, ys, c, &mut lo, &mut hi);
-    bend_past(xs, ys, c, &lo[..n], &hi[..n], both_ways)
+    let mut room = [Span { lo: 0.0, hi: 0.0 }; 64];
+    let spans = free::blocked(nodes, c, &mut room);
+    bend_past(nodes, c, spans, both_ways)
 }
 
 fn straight(c: Chord) -> Routed
@@ -256,15 +232,14 @@ fn with_bow(c: Chord, h: f64) -> Routed
 }
 
 // The arrow between two different states.
-pub fn between(xs: &[f64], ys: &[f64], from: usize, to: usize, both_ways: bool) -> Routed
-    requires ys_len { length ys.now ≡ length xs.now }
-    requires xs_len_bound { length xs.now ≤ 64 }
-    requires from_in_bounds { from < length xs.now }
-    requires to_in_bounds { to < length xs.now }
-    ensures { result ≡ W.between (centres xs.now ys.now) from to both_ways }
+pub fn between(nodes: &[V], from: usize, to: usize, both_ways: bool) -> Routed
+    requires few { length nodes.now ≤ 64 }
+    requires from_in_bounds { from < length nodes.now }
+    requires to_in_bounds { to < length nodes.now }
+    ensures { result ≡ W.between nodes.now from to both_ways }
 {
-    let c = free::chord_of(xs, ys, from, to);
-    let h = bend(xs, ys, c, both_ways);
+    let c = free::chord_of(nodes, from, to);
+    let h = bend(nodes, c, both_ways);
     with_bow(c, h)
 }
 

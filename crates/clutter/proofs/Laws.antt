@@ -1,51 +1,89 @@
--- What the code's tests of one thing come to. Assumes nothing.
-use mathlib.Core.Path.{◌≡◌, ap, ap₂, sym, subst, ◌∙◌}
-use mathlib.Core.Bool.{Bool, true, false, cond}
-use mathlib.Core.List.{List, [], ◌∷◌, ◌++◌, map}
-use Prim.Native.Nat.{ℕ, ◌+◌, ◌<◌}
-use native.Mathlib.Omega.{arith}
-use Rattle.laws.specs.Counting.{worth}
-use Rattle.laws.specs.Flat.{table, table_more}
-use Rattle.laws.specs.Any.{any_of, any_join}
+-- A step of each loop, and what the calls come to. Assumes nothing.
+use Rattle.std.proofs.Common.{◌≡◌, refl, sym, ap, ap₂, ◌∙◌, ℕ, ◌+◌, ◌<◌, ◌≤◌, Bool, cond, ◌||◌, List, [], ◌∷◌, ◌++◌, map, length, take, drop, get_or, None, add-one, drop_of_length-le, true, false, arith}
+use Rattle.std.proofs.Math.Seq.{drop-cons}
+use Rattle.std.proofs.lemmas.List.{take_more}
+use Rattle.std.proofs.lemmas.List.Folds.{list_any-append}
+use Rattle.std.specs.List.{count_by, list_any}
+use Rattle.laws.specs.Chains.{how_many_list}
+use Rattle.laws.specs.Counting.{how_many}
 use Rattle.shape.specs.declared.«V».{«V»}
-use Rattle.trace.specs.Traces.{Owner, Trace, owner_of, trace_of, struck}
-use Rattle.trace.specs.Forms.{owner_arrow}
+use Rattle.shape.specs.declared.Rect.{Rect}
+use Rattle.shape.specs.declared.Curve.TheVariants.{Line}
+use Rattle.shape.specs.Plane.{vec, rect}
+use Rattle.std.specs.Float.{nan}
+use Rattle.trace.specs.declared.Points.TheVariants.{Ends}
+use Rattle.label_spots.specs.declared.Anchor.TheVariants.{Start}
+use Rattle.trace.specs.declared.Trace.{Trace as Stored}
+use Rattle.trace.specs.Traces.{Trace, crosses, struck}
+use Rattle.trace.specs.Form.{trace_in}
 use Rattle.label_spots.specs.declared.Geometry.{Geometry}
-use Rattle.records.specs.Back.{Small}
-use Rattle.clutter.specs.Clutter.{record_trace, crossings, near24, label_over, collides, collisions, clutter_of}
-use Rattle.clutter.specs.Steps.{small_at}
+use Rattle.clutter.specs.Clutter.{record_trace, near24, label_over, crossings, collides, collisions, clutter_of}
 
--- ---- the traces of records; g is record k as the code read it
+-- what an index beyond a slice would read
+abbrev pub no_trace : Stored
+no_trace = record { owner = None; bounds = rect nan nan nan nan; points = Ends [] }
 
-pub small_of : (f : ℕ → Geometry) (n k : ℕ) → Small (table f 0 n) → k < n → (g : Geometry) → g ≡ f k → g.edge < 65536
-small_of f n k s h g e = subst (λ (x : Geometry). x.edge < 65536) (sym e) (small_at f 0 n k s (omega arith) (omega arith))
+abbrev pub no_geometry : Geometry
+no_geometry = record { edge = 0; curve = Line (vec nan nan) (vec nan nan); tip = vec nan nan; tip_angle = nan; label = vec nan nan; anchor = Start; label_box = rect nan nan nan nan }
 
-pub drawn-more : (f : ℕ → Geometry) (k r : ℕ) (ts us : List Trace) (g : Geometry) → g ≡ f k → r ≡ k + 1 → us ≡ ts ++ (trace_of (owner_of (g.edge + 1)) g.curve ∷ [])
-    → ts ≡ table (λ i. record_trace (f i)) 0 k → us ≡ table (λ i. record_trace (f i)) 0 r
-drawn-more f k r ts us g e er eu et =
-    eu ∙ ap₂ (λ (l : List Trace) (t : Trace). l ++ (t ∷ [])) et (ap (λ (o : Owner). trace_of o g.curve) (owner_arrow g.edge) ∙ ap record_trace e)
-    ∙ table_more (λ i. record_trace (f i)) k ∙ ap (table (λ i. record_trace (f i)) 0) (sym er)
+pub any_struck : (own : ℕ) (b : Rect) (l : List Stored) → list_any (λ t. struck own b (trace_in t)) l ≡ list_any (struck own b) (map trace_in l)
+any_struck own b [] = refl
+any_struck own b (x ∷ l) = ap (λ (r : Bool). struck own b (trace_in x) || r) (any_struck own b l)
 
--- ---- a label: x is the record, g what the code read of it; p are the records before it, q those behind it
+how_many_map : {A B : Type 0} (p : B → Bool) (f : A → B) (l : List A) → how_many p (map f l) ≡ how_many (λ x. p (f x)) l
+unfolding how_many
+how_many_map p f [] = refl
+how_many_map p f (x ∷ l) = ap (λ (n : ℕ). cond (p (f x)) 1 0 + n) (how_many_map p f l)
 
-module _ (cs : List «V») (ts : List Trace) (p q : List Geometry) (x g : Geometry) (e : g ≡ x) (s : Bool) (es : s ≡ any_of (near24 g.label_box) cs) where
-  pub by_state : s ≡ true → 1 ≡ worth (collides cs ts (p ++ q)) 1 x
+how_many_of : {A B : Type 0} (p : B → Bool) (f : A → B) (l : List A) → count_by (λ x. p (f x)) l ≡ how_many p (map f l)
+how_many_of p f l = sym (how_many_map p f l ∙ how_many_list (λ x. p (f x)) l)
+
+drop_next : {A : Type 0} (l : List A) (i : ℕ) (d : A) → i < length l → drop i l ≡ get_or l i d ∷ drop (i + 1) l
+drop_next l i d h = rw add-one (drop-cons l i d h)
+
+-- ---- pairs; trace i with those behind it, of which n cross it
+
+module _ (ts : List Stored) (i : ℕ) where
+  pub crossings-step : (x d : Stored) (n a : ℕ) → i < length ts → n ≡ count_by (λ o. crosses (trace_in x) (trace_in o)) (drop (i + 1) ts) → get_or ts i d ≡ x
+      → (a + n) + crossings (map trace_in (drop (i + 1) ts)) ≡ a + crossings (map trace_in (drop i ts))
+  unfolding crossings
+  crossings-step x d n a h f e =
+      let g : n ≡ how_many (crosses (trace_in x)) (map trace_in (drop (i + 1) ts)) = f ∙ how_many_of (crosses (trace_in x)) trace_in (drop (i + 1) ts) in
+      let all : crossings (map trace_in (drop i ts)) ≡ n + crossings (map trace_in (drop (i + 1) ts)) = rw (drop_next ts i d h, e, ← g) in
+      omega arith
+
+  pub crossings-end : (a : ℕ) → length ts ≤ i → a ≡ a + crossings (map trace_in (drop i ts))
+  unfolding crossings
+  crossings-end a h = rw (drop_of_length-le ts h) (omega arith)
+
+-- ---- labels
+
+module _ (cs : List «V») (ts : List Trace) (p q : List Geometry) (g : Geometry) where
+  pub by_state : list_any (near24 g.label_box) cs ≡ true → collides cs ts (p ++ q) g ≡ true
   unfolding collides
-  by_state h = rw (← e, ← es, h)
+  by_state h = rw h
 
-  module _ (hs : s ≡ false) (l : Bool) (el : l ≡ any_of (label_over g.label_box) p) where
-    pub by_before : l ≡ true → 1 ≡ worth (collides cs ts (p ++ q)) 1 x
-    unfolding collides
-    by_before h = rw (← e, ← es, hs, any_join, ← el, h)
+  pub by_others : list_any (near24 g.label_box) cs ≡ false → collides cs ts (p ++ q) g ≡ (list_any (label_over g.label_box) p || (list_any (label_over g.label_box) q || list_any (struck g.edge g.label_box) ts))
+  unfolding collides
+  by_others h = rw (h, list_any-append) (or_assoc (list_any (label_over g.label_box) p) (list_any (label_over g.label_box) q) (list_any (struck g.edge g.label_box) ts))
+    where
+      or_assoc : (a b c : Bool) → ((a || b) || c) ≡ (a || (b || c))
+      or_assoc true b c = refl
+      or_assoc false b c = refl
 
-    module _ (hl : l ≡ false) (m : Bool) (em : m ≡ any_of (label_over g.label_box) q) where
-      pub by_behind : m ≡ true → 1 ≡ worth (collides cs ts (p ++ q)) 1 x
-      unfolding collides
-      by_behind h = rw (← e, ← es, hs, any_join, ← el, hl, ← em, h)
+-- record i, of those behind the first i, and whether it collides
+module _ (cs : List «V») (ts : List Trace) (gs : List Geometry) (i : ℕ) where
+  pub collisions-step : (x d : Geometry) (t : Bool) (a b : ℕ) → i < length gs → t ≡ collides cs ts (take i gs ++ drop (i + 1) gs) x → get_or gs i d ≡ x → b ≡ a + cond t 1 0
+      → b + collisions cs ts (take (i + 1) gs) (drop (i + 1) gs) ≡ a + collisions cs ts (take i gs) (drop i gs)
+  unfolding collisions
+  collisions-step x d t a b h f e k =
+      let all : collisions cs ts (take i gs) (drop i gs) ≡ cond t 1 0 + collisions cs ts (take (i + 1) gs) (drop (i + 1) gs) =
+            rw (drop_next gs i d h, e, ← f) (ap (λ (l : List Geometry). cond t 1 0 + collisions cs ts l (drop (i + 1) gs)) (sym (take_more gs i d h ∙ ap (λ (y : Geometry). take i gs ++ (y ∷ [])) e))) in
+      omega arith
 
-      pub by_trace : (t b : Bool) → m ≡ false → t ≡ any_of (struck g.edge g.label_box) ts → t ≡ b → cond b 1 0 ≡ worth (collides cs ts (p ++ q)) 1 x
-      unfolding collides
-      by_trace t b h k f = rw (← e, ← es, hs, any_join, ← el, hl, ← em, h, ← k, f)
+  pub collisions-end : (a : ℕ) → length gs ≤ i → a ≡ a + collisions cs ts (take i gs) (drop i gs)
+  unfolding collisions
+  collisions-end a h = rw (drop_of_length-le gs h) (omega arith)
 
 -- ---- the sum
 

@@ -1,5 +1,5 @@
 -- How large clutter can be: at 256 records at most 65,792. Assumes nothing.
-use Rattle.std.specs.Prelude.{List, [], ◌∷◌, ◌++◌, map, ◌+◌, ◌*◌, ◌≤◌, length}
+use Rattle.std.specs.Prelude.{List, [], ◌∷◌, ◌++◌, map, ◌*◌, ◌≤◌, length}
 use Rattle.std.proofs.Common.{arith}
 use Rattle.std.proofs.lemmas.List.{length-map}
 use Rattle.laws.specs.Counting.{how_many-le, worth-le}

@@ -1,17 +1,14 @@
 -- How cluttered a drawing is: the number of pairs of edges that cross and of labels that collide with something.
-use Rattle.std.specs.Prelude.{Bool, cond, ◌||◌, List, [], ◌∷◌, ◌++◌, map, ℕ, ◌+◌, Float}
+use Rattle.std.specs.Prelude.{Bool, cond, ◌||◌, List, [], ◌∷◌, ◌++◌, map, ℕ, ◌+◌}
 use Rattle.laws.specs.Counting.{how_many}
-use Rattle.laws.specs.Flat.{table, part}
-use Rattle.laws.specs.Any.{any_of}
+use Rattle.std.specs.List.{list_any}
 use Rattle.float.specs.Ops.{◌⊕◌, lt}
 use Rattle.float.specs.Constants.{f2, node_radius}
 use Rattle.shape.specs.declared.«V».{«V»}
 use Rattle.shape.specs.declared.Rect.{Rect}
 use Rattle.shape.specs.Plane.{box_dist}
 use Rattle.trace.specs.Traces.{Trace, arrow, trace_of, crosses, struck}
-use Rattle.trace.specs.Form.{decode_trace}
 use Rattle.label_spots.specs.declared.Geometry.{Geometry}
-use Rattle.records.specs.Records.{decode_geometry}
 use Rattle.scene.specs.Scene.{overlapping}
 
 -- ---- pairs of arrows
@@ -38,9 +35,9 @@ label_over b o = overlapping b o.label_box
 -- The label of g collides with a state, with the label of another record, or with a foreign trace.
 unfoldable pub collides : List «V» → List Trace → List Geometry → Geometry → Bool
 collides cs ts others g =
-    any_of (near24 g.label_box) cs
-    || any_of (label_over g.label_box) others
-    || any_of (struck g.edge g.label_box) ts
+    list_any (near24 g.label_box) cs
+    || list_any (label_over g.label_box) others
+    || list_any (struck g.edge g.label_box) ts
 
 -- the labels that do, of the records behind those `before`; the others of a record are all before it and behind it
 unfoldable pub collisions : List «V» → List Trace → List Geometry → List Geometry → ℕ
@@ -51,11 +48,3 @@ collisions cs ts before (g ∷ gs) = cond (collides cs ts (before ++ gs) g) 1 0 
 
 unfoldable pub clutter_of : List «V» → List Geometry → ℕ
 clutter_of cs gs = crossings (map record_trace gs) + collisions cs (map record_trace gs) [] gs
-
--- ---- how the code keeps traces and records: n of them from the k-th on
-
-abbrev pub traces_from : List Float → ℕ → ℕ → List Trace
-traces_from l k n = table (λ i. decode_trace (part 40 i l)) k n
-
-abbrev pub records_from : List Float → ℕ → ℕ → List Geometry
-records_from l k n = table (λ i. decode_geometry (part 20 i l)) k n

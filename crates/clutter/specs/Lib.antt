@@ -1,5 +1,4 @@
 pub mod Clutter
 pub mod Near
-pub mod Steps
 pub mod Bounds
 pub mod Worked

@@ -4,8 +4,6 @@ use Rattle.std.specs.Int.Count.{count_trailing_zeros}
 use Rattle.std.specs.Float.Ieee.{of_bits, of_fields, to_bits, is_nan, round, size, span, climb, units, odd, sum}
 use Rattle.std.specs.Float.Ieee as Ieee
 use Rattle.laws.specs.Counting.{how_many}
-use Rattle.laws.specs.Loops.{over}
-use Rattle.laws.specs.Any.{any_of}
 use Rattle.root.specs.Root.{root_bits, nearest_root, whole_root, try_digits, scale}
 use Rattle.float.specs.Constants.{f0, whole}
 use Rattle.float.specs.Standins as F
@@ -14,7 +12,7 @@ use Rattle.shape.specs.declared.Rect.{Rect}
 use Rattle.shape.specs.declared.Curve.TheVariants.{Line}
 use Rattle.shape.specs.Plane.{vec, rect, overlaps, touches, spanning, outside, extended}
 use Rattle.shape.specs.Clipping.{test, side, meets, segment_hits_rect, segments_cross}
-use Rattle.trace.specs.Traces.{trace_of, samples, bounds_of, foreign, any_segment, hits_rect, pair_cross, segment_crosses, crosses, struck}
+use Rattle.trace.specs.Traces.{trace_of, samples, bounds_of, foreign, hits_rect, pair_cross, segment_crosses, crosses, struck}
 use Rattle.label_spots.specs.declared.Anchor.TheVariants.{Start}
 use Rattle.label_spots.specs.declared.Geometry.{Geometry}
 use Rattle.clutter.specs.Clutter.{crossings, near24, collides, collisions, clutter_of}
@@ -71,5 +69,5 @@ counted_drawings =
     ∷ []
 
 worked : map (λ d. clutter_of d.states d.arrows) counted_drawings ≡ map (λ d. d.clutter) counted_drawings
-unfolding clutter_of crossings collisions collides near24 outside struck any_of how_many over trace_of samples bounds_of extended foreign any_segment hits_rect pair_cross segment_crosses crosses overlaps touches spanning test side meets segment_hits_rect segments_cross F.root F.root_of root_bits nearest_root whole_root try_digits scale Ieee.add Ieee.sub Ieee.mul Ieee.div Ieee.neg Ieee.lt Ieee.le Ieee.eq Ieee.ne sum round size span climb units odd of_bits of_fields to_bits count_trailing_zeros is_nan
+unfolding clutter_of crossings collisions collides near24 outside struck how_many trace_of samples bounds_of extended foreign hits_rect pair_cross segment_crosses crosses overlaps touches spanning test side meets segment_hits_rect segments_cross F.root F.root_of root_bits nearest_root whole_root try_digits scale Ieee.add Ieee.sub Ieee.mul Ieee.div Ieee.neg Ieee.lt Ieee.le Ieee.eq Ieee.ne sum round size span climb units odd of_bits of_fields to_bits count_trailing_zeros is_nan
 worked = refl

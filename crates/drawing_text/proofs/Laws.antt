@@ -5,31 +5,52 @@ use mathlib.Core.List.{List, [], ◌∷◌, ◌++◌, append_assoc, append-nil, 
 use Prim.Native.Nat.{ℕ, ◌+◌, ◌≤◌, ◌<◌}
 use native.Mathlib.Numerals.{add-one}
 use borrow.Author.Tests.{not-true, not-false}
-use lib.Ieee.{Float}
-use lib.ListN.{length, drop}
+use lib.Ieee.{Float, nan}
+use lib.ListN.{length, drop, get_or}
 use Rattle.text.specs.declared.Writer.{Writer}
 use Rattle.text.specs.Writing.{Adds, adds_as, adds-more}
-use Rattle.laws.specs.Zip.{zip_past}
-use Rattle.laws.specs.Every.{every, every_join}
+use Rattle.laws.specs.Every.{every, every_join, every_map, every-all}
 use Rattle.laws.specs.Joined.{flat_join}
 use Rattle.laws.specs.Bools.{and_no, and_true, and_yes}
 use Rattle.shape.specs.declared.«V».{«V»}
-use Rattle.shape.specs.Plane.{vec}
-use Rattle.shape.specs.Centres.{centres, centre}
-use Rattle.shape.specs.CentresFrom.{centres_from}
+use Rattle.shape.specs.Plane.{vec, rect}
+use Rattle.shape.specs.declared.Curve.TheVariants.{Line}
+use Rattle.label_spots.specs.declared.Anchor.TheVariants.{Start}
+use Rattle.svg.specs.Paths.{curve_path, path_writable}
+use Rattle.std.specs.List.{list_all}
+use Rattle.std.proofs.Common.{drop-cons, drop_of_length-le}
+use Rattle.laws.specs.Chains.{every_list}
 use Rattle.label_spots.specs.declared.Geometry.{Geometry}
 use Rattle.totals.specs.declared.Totals.{Totals}
-use Rattle.drawing_text.specs.Lines.{Field, TextLine, named, listed_state, states_from, starts, field_text, fields_text, body_text, line_text, lines_text, field_writable, fields_writable, line_writable, lines_writable, size_line, state_line, start_line, total_line, record_lines, list_lines, list_writable}
+use Rattle.drawing_text.specs.Lines.{paths_of, paths_writable, Field, TextLine, named, listed_state, states_from, starts, field_text, fields_text, body_text, line_text, lines_text, field_writable, fields_writable, line_writable, lines_writable, size_line, state_line, start_line, total_line, record_lines, list_lines, list_writable}
 
 -- ---- the states from state k on
-pub states_front : (xs ys : List Float) (k : ℕ) (v : «V») → v ≡ centre (centres xs ys) k → length ys ≡ length xs → k < length xs
-    → states_from k (drop k (centres xs ys)) ≡ listed_state k v ∷ states_from (k + 1) (drop (k + 1) (centres xs ys))
+pub states_front : (nodes : List «V») (k : ℕ) → k < length nodes
+    → states_from k (drop k nodes) ≡ listed_state k (get_or nodes k (vec nan nan)) ∷ states_from (k + 1) (drop (k + 1) nodes)
 unfolding states_from
-states_front xs ys k v e h i = rw (centres_from xs ys k v e h i, add-one)
+states_front nodes k h = rw (drop-cons nodes k (vec nan nan) h, add-one)
 
-pub states_none : (xs ys : List Float) (k : ℕ) → length ys ≡ length xs → length xs ≤ k → states_from k (drop k (centres xs ys)) ≡ []
+pub states_none : (nodes : List «V») (k : ℕ) → length nodes ≤ k → states_from k (drop k nodes) ≡ []
 unfolding states_from
-states_none xs ys k h i = rw (zip_past vec xs ys k h i)
+states_none nodes k h = rw (drop_of_length-le nodes h)
+
+-- ---- the arrows drawn, from number i on
+
+-- what an index beyond a slice would read
+abbrev pub no_geometry : Geometry
+no_geometry = record { edge = 0; curve = Line (vec nan nan) (vec nan nan); tip = vec nan nan; tip_angle = nan; label = vec nan nan; anchor = Start; label_box = rect nan nan nan nan }
+
+pub drawn_front : (l : List Geometry) (i : ℕ) → i < length l → drop i l ≡ get_or l i no_geometry ∷ drop (i + 1) l
+drawn_front l i h = rw add-one (drop-cons l i no_geometry h)
+
+-- tests of all, in the library's words
+pub paths_list : (l : List Geometry) → list_all (λ g. path_writable (curve_path g.curve)) l ≡ paths_writable l
+unfolding paths_writable paths_of
+paths_list l = sym (every_map path_writable (λ (g : Geometry). curve_path g.curve) l ∙ every_list _ l)
+
+pub records_list : (l : List Geometry) → list_all (λ g. lines_writable (record_lines g)) l ≡ lines_writable (flat_map record_lines l)
+unfolding lines_writable
+records_list l = sym (every-all line_writable record_lines l ∙ every_list _ l)
 
 -- ---- a field is written after a blank
 pub adds_field : {u v w : Writer} (f : Field) → Adds u v (32 ∷ []) → Adds v w (field_text f) → Adds u w (fields_text (f ∷ []))

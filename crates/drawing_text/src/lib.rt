@@ -3,12 +3,11 @@
 
 ghost use Rattle.std.specs.Prelude.{◌≡◌, cond, true, ◌*◌, ◌≤◌, length};
 ghost use mathlib.Core.List.{[], ◌∷◌, map, flat_map};
+ghost use Rattle.std.specs.List.{list_all};
 ghost use Rattle.laws.specs.Writers.{as_usize};
 ghost use Rattle.text.specs.Writing.{Adds};
 ghost use Rattle.svg.specs.Paths.{curve_path, path_writable};
-ghost use Rattle.shape.specs.Centres.{centres};
 ghost use Rattle.sheet.specs.Meaning.{is_start};
-ghost use Rattle.records.specs.Records.{decode_records};
 ghost use Rattle.totals.specs.declared.Totals as T;
 ghost use Rattle.drawing_text.specs.Lines as S;
 
@@ -20,60 +19,55 @@ use totals::Totals;
 // ---- path text
 
 // A record's path, ended by a newline.
-fn put_path_line(w: &mut Writer, g: Geometry)
-    ensures { Adds w.old w.new (S.path_line (curve_path g.curve)) }
+fn put_path_line(w: &mut Writer, g: &Geometry)
+    ensures { Adds w.old w.new (S.path_line (curve_path g.now.curve)) }
 {
     let curve = g.curve;
     svg::put_path(w, curve);
     w.byte(b'\n');
 }
 
-// The paths of the first `count` records, each ended by a newline.
-pub fn put_paths(w: &mut Writer, records: &[f64], count: usize)
-    requires { 20 * count ≤ length records.now }
-    ensures { let drawn = decode_records count records.now in
-        Adds w.old w.new (S.paths_text drawn) }
+// The paths of a drawing, each ended by a newline.
+pub fn put_paths(w: &mut Writer, drawn: &[Geometry])
+    ensures { Adds w.old w.new (S.paths_text drawn.now) }
 {
     prove!(w.at <= usize::MAX);
-    for k in 0..count {
-        let g = records::geometry_at(records, k);
+    for g in drawn {
         put_path_line(w, g);
     }
 }
 
 // How many bytes they have.
-pub fn paths_length(records: &[f64], count: usize) -> usize
-    requires { 20 * count ≤ length records.now }
-    ensures { let drawn = decode_records count records.now in
-        result ≡ as_usize (length (S.paths_text drawn)) }
+pub fn paths_length(drawn: &[Geometry]) -> usize
+    ensures { result ≡ as_usize (length (S.paths_text drawn.now)) }
 {
     let mut w = Writer {
         out: &mut [],
         at: 0,
     };
-    put_paths(&mut w, records, count);
+    put_paths(&mut w, drawn);
     w.at
 }
 
-fn path_ok(g: Geometry) -> bool
-    ensures { result ≡ path_writable (curve_path g.curve) }
+fn path_ok(g: &Geometry) -> bool
+    ensures { result ≡ path_writable (curve_path g.now.curve) }
 {
     let curve = g.curve;
     svg::curve_writable(curve)
 }
 
 // Whether every coordinate of their paths may be written.
-pub fn paths_writable(records: &[f64], count: usize) -> bool
-    requires { 20 * count ≤ length records.now }
-    ensures { result ≡ S.paths_writable (decode_records count records.now) }
+#[tactic(auto, using(crate::proofs::Laws::paths_list))]
+pub fn paths_writable(drawn: &[Geometry]) -> bool
+    ensures { result ≡ S.paths_writable drawn.now }
 {
-    for k in 0..count {
-        let g = records::geometry_at(records, k);
-        if !path_ok(g) {
-            return false;
-        }
-    }
-    true
+    paths_ok(drawn)
+}
+
+fn paths_ok(drawn: &[Geometry]) -> bool
+    ensures { result ≡ list_all (λ g. path_writable (curve_path g.curve)) drawn.now }
+{
+    drawn.iter().all(|g| path_ok(g))
 }
 
 // ---- the listing's fields
@@ -155,8 +149,8 @@ fn put_state_line(w: &mut Writer, k: usize, c: V)
     w.byte(b'\n');
 }
 
-fn put_edge_line(w: &mut Writer, g: Geometry)
-    ensures { Adds w.old w.new (S.line_text (S.edge_line g)) }
+fn put_edge_line(w: &mut Writer, g: &Geometry)
+    ensures { Adds w.old w.new (S.line_text (S.edge_line g.now)) }
 {
     let curve = g.curve;
     put_titled(w, b"edge", g.edge);
@@ -164,8 +158,8 @@ fn put_edge_line(w: &mut Writer, g: Geometry)
     w.byte(b'\n');
 }
 
-fn put_tip_line(w: &mut Writer, g: Geometry)
-    ensures { Adds w.old w.new (S.line_text (S.tip_line g)) }
+fn put_tip_line(w: &mut Writer, g: &Geometry)
+    ensures { Adds w.old w.new (S.line_text (S.tip_line g.now)) }
 {
     put_titled(w, b"tip", g.edge);
     put_point(w, g.tip);
@@ -173,16 +167,16 @@ fn put_tip_line(w: &mut Writer, g: Geometry)
     w.byte(b'\n');
 }
 
-fn put_head_line(w: &mut Writer, g: Geometry)
-    ensures { Adds w.old w.new (S.line_text (S.head_line g)) }
+fn put_head_line(w: &mut Writer, g: &Geometry)
+    ensures { Adds w.old w.new (S.line_text (S.head_line g.now)) }
 {
     put_titled(w, b"head", g.edge);
     put_head(w, g.tip, g.tip_angle);
     w.byte(b'\n');
 }
 
-fn put_label_line(w: &mut Writer, g: Geometry)
-    ensures { Adds w.old w.new (S.line_text (S.label_line g)) }
+fn put_label_line(w: &mut Writer, g: &Geometry)
+    ensures { Adds w.old w.new (S.line_text (S.label_line g.now)) }
 {
     let anchor = g.anchor;
     put_titled(w, b"label", g.edge);
@@ -192,8 +186,8 @@ fn put_label_line(w: &mut Writer, g: Geometry)
 }
 
 // The four lines of a record.
-fn put_record_lines(w: &mut Writer, g: Geometry)
-    ensures { Adds w.old w.new (S.lines_text (S.record_lines g)) }
+fn put_record_lines(w: &mut Writer, g: &Geometry)
+    ensures { Adds w.old w.new (S.lines_text (S.record_lines g.now)) }
 {
     put_edge_line(w, g);
     put_tip_line(w, g);
@@ -243,38 +237,34 @@ fn put_total_line(w: &mut Writer, t: Totals)
 
 // ---- the listing
 
-fn put_states(w: &mut Writer, xs: &[f64], ys: &[f64])
-    requires { length ys.now ≡ length xs.now }
-    ensures { let states = S.states_from 0 (centres xs.now ys.now) in
+fn put_states(w: &mut Writer, nodes: &[V])
+    ensures { let states = S.states_from 0 nodes.now in
         Adds w.old w.new (S.lines_text (map S.state_line states)) }
 {
     prove!(w.at <= usize::MAX);
-    for k in 0..xs.len() {
-        put_state_line(w, k, shape::centre(xs, ys, k));
+    for (k, c) in nodes.iter().enumerate() {
+        put_state_line(w, k, *c);
     }
 }
 
-fn put_records(w: &mut Writer, records: &[f64], count: usize)
-    requires { 20 * count ≤ length records.now }
-    ensures { let gs = decode_records count records.now in
-        Adds w.old w.new (S.lines_text (flat_map S.record_lines gs)) }
+fn put_records(w: &mut Writer, drawn: &[Geometry])
+    ensures { Adds w.old w.new (S.lines_text (flat_map S.record_lines drawn.now)) }
 {
     prove!(w.at <= usize::MAX);
-    for k in 0..count {
-        let g = records::geometry_at(records, k);
+    for g in drawn {
         put_record_lines(w, g);
     }
 }
 
-fn put_starts(w: &mut Writer, xs: &[f64], ys: &[f64], flags: &[u8])
-    requires { (length ys.now ≡ length xs.now) × (length flags.now ≡ length xs.now) }
-    ensures { let states = S.states_from 0 (centres xs.now ys.now) in
+fn put_starts(w: &mut Writer, nodes: &[V], flags: &[u8])
+    requires { length flags.now ≡ length nodes.now }
+    ensures { let states = S.states_from 0 nodes.now in
         let starts = S.starts flags.now states in
         Adds w.old w.new (S.lines_text (map S.start_line starts)) }
 {
     prove!(w.at <= usize::MAX);
-    for k in 0..xs.len() {
-        put_start(w, flags[k], k, shape::centre(xs, ys, k));
+    for (k, c) in nodes.iter().enumerate() {
+        put_start(w, flags[k], k, *c);
     }
 }
 
@@ -283,25 +273,19 @@ pub fn put_listing(
     w: &mut Writer,
     width: f64,
     height: f64,
-    xs: &[f64],
-    ys: &[f64],
+    nodes: &[V],
     flags: &[u8],
-    records: &[f64],
-    count: usize,
+    drawn: &[Geometry],
     totals: Totals,
 )
-    requires { (length ys.now ≡ length xs.now)
-        × (length flags.now ≡ length xs.now)
-        × (20 * count ≤ length records.now) }
-    ensures { let drawn = decode_records count records.now in
-        let nodes = centres xs.now ys.now in
-        let text = S.list_text width height nodes flags.now drawn totals in
+    requires { length flags.now ≡ length nodes.now }
+    ensures { let text = S.list_text width height nodes.now flags.now drawn.now totals in
         Adds w.old w.new text }
 {
     put_size_line(w, width, height);
-    put_states(w, xs, ys);
-    put_records(w, records, count);
-    put_starts(w, xs, ys, flags);
+    put_states(w, nodes);
+    put_records(w, drawn);
+    put_starts(w, nodes, flags);
     put_total_line(w, totals);
 }
 
@@ -309,26 +293,20 @@ pub fn put_listing(
 pub fn listing_length(
     width: f64,
     height: f64,
-    xs: &[f64],
-    ys: &[f64],
+    nodes: &[V],
     flags: &[u8],
-    records: &[f64],
-    count: usize,
+    drawn: &[Geometry],
     totals: Totals,
 ) -> usize
-    requires { (length ys.now ≡ length xs.now)
-        × (length flags.now ≡ length xs.now)
-        × (20 * count ≤ length records.now) }
-    ensures { let drawn = decode_records count records.now in
-        let nodes = centres xs.now ys.now in
-        let text = S.list_text width height nodes flags.now drawn totals in
+    requires { length flags.now ≡ length nodes.now }
+    ensures { let text = S.list_text width height nodes.now flags.now drawn.now totals in
         result ≡ as_usize (length text) }
 {
     let mut w = Writer {
         out: &mut [],
         at: 0,
     };
-    put_listing(&mut w, width, height, xs, ys, flags, records, count, totals);
+    put_listing(&mut w, width, height, nodes, flags, drawn, totals);
     w.at
 }
 
@@ -352,8 +330,8 @@ fn point_ok(p: V) -> bool
     false
 }
 
-fn tip_ok(g: Geometry) -> bool
-    ensures { result ≡ S.line_writable (S.tip_line g) }
+fn tip_ok(g: &Geometry) -> bool
+    ensures { result ≡ S.line_writable (S.tip_line g.now) }
 {
     if point_ok(g.tip) {
         return number::writable(g.tip_angle);
@@ -362,8 +340,8 @@ fn tip_ok(g: Geometry) -> bool
 }
 
 // The four lines of a record.
-fn record_ok(g: Geometry) -> bool
-    ensures { result ≡ S.lines_writable (S.record_lines g) }
+fn record_ok(g: &Geometry) -> bool
+    ensures { result ≡ S.lines_writable (S.record_lines g.now) }
 {
     if !path_ok(g) {
         return false;
@@ -387,39 +365,30 @@ fn start_ok(flag: u8, k: usize, c: V) -> bool
     true
 }
 
-fn states_ok(xs: &[f64], ys: &[f64]) -> bool
-    requires { length ys.now ≡ length xs.now }
-    ensures { let nodes = centres xs.now ys.now in
-        result ≡ S.lines_writable (map S.state_line (S.states_from 0 nodes)) }
+fn states_ok(nodes: &[V]) -> bool
+    ensures { result ≡ S.lines_writable (map S.state_line (S.states_from 0 nodes.now)) }
 {
-    for k in 0..xs.len() {
-        if !point_ok(shape::centre(xs, ys, k)) {
+    for p in nodes {
+        if !point_ok(*p) {
             return false;
         }
     }
     true
 }
 
-fn records_ok(records: &[f64], count: usize) -> bool
-    requires { 20 * count ≤ length records.now }
-    ensures { result ≡ S.lines_writable (flat_map S.record_lines (decode_records count records.now)) }
+fn records_ok(drawn: &[Geometry]) -> bool
+    ensures { result ≡ list_all (λ g. S.lines_writable (S.record_lines g)) drawn.now }
 {
-    for k in 0..count {
-        let g = records::geometry_at(records, k);
-        if !record_ok(g) {
-            return false;
-        }
-    }
-    true
+    drawn.iter().all(|g| record_ok(g))
 }
 
-fn starts_ok(xs: &[f64], ys: &[f64], flags: &[u8]) -> bool
-    requires { (length ys.now ≡ length xs.now) × (length flags.now ≡ length xs.now) }
-    ensures { let states = S.states_from 0 (centres xs.now ys.now) in
+fn starts_ok(nodes: &[V], flags: &[u8]) -> bool
+    requires { length flags.now ≡ length nodes.now }
+    ensures { let states = S.states_from 0 nodes.now in
         result ≡ S.lines_writable (map S.start_line (S.starts flags.now states)) }
 {
-    for k in 0..xs.len() {
-        if !start_ok(flags[k], k, shape::centre(xs, ys, k)) {
+    for (k, c) in nodes.iter().enumerate() {
+        if !start_ok(flags[k], k, *c) {
             return false;
         }
     }
@@ -430,27 +399,21 @@ fn starts_ok(xs: &[f64], ys: &[f64], flags: &[u8]) -> bool
 pub fn listing_writable(
     width: f64,
     height: f64,
-    xs: &[f64],
-    ys: &[f64],
+    nodes: &[V],
     flags: &[u8],
-    records: &[f64],
-    count: usize,
+    drawn: &[Geometry],
 ) -> bool
-    requires { (length ys.now ≡ length xs.now)
-        × (length flags.now ≡ length xs.now)
-        × (20 * count ≤ length records.now) }
-    ensures { let drawn = decode_records count records.now in
-        let nodes = centres xs.now ys.now in
-        ((totals : T.Totals) → result ≡ S.list_writable width height nodes flags.now drawn totals) }
+    requires { length flags.now ≡ length nodes.now }
+    ensures { ((totals : T.Totals) → result ≡ S.list_writable width height nodes.now flags.now drawn.now totals) }
 {
     if !size_ok(width, height) {
         return false;
     }
-    if !states_ok(xs, ys) {
+    if !states_ok(nodes) {
         return false;
     }
-    if !records_ok(records, count) {
+    if !records_ok(drawn) {
         return false;
     }
-    starts_ok(xs, ys, flags)
+    starts_ok(nodes, flags)
 }

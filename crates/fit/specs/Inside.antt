@@ -6,7 +6,7 @@ use Rattle.std.proofs.Math.ListN.{get_or-map}
 use Rattle.std.specs.Float.{nan, inf, fin}
 use Rattle.std.specs.Float.Ieee as Ieee
 use Rattle.laws.specs.Cases.{by_bool, holds, fails, not-both}
-use Rattle.laws.specs.Loops.{over}
+use Rattle.std.specs.List.{fold}
 use Rattle.laws.specs.Order.{float_lt_trans, lt-itself}
 use Rattle.laws.specs.Between.{lt-between}
 use Rattle.float.specs.Ops.{lt, ne, neg}
@@ -35,65 +35,61 @@ below_nan (fin s m e) = refl
 
 -- ---- the least and the most of numbers: none is below the one, or above the other
 
-least_first : (a : Float) (l : List Float) → lt a (over min a l) ≡ false
-unfolding over
+least_first : (a : Float) (l : List Float) → lt a (fold min a l) ≡ false
 least_first a [] = fails (lt a a) (lt-itself a)
 least_first a (x ∷ l) =
-    by_bool (ne a a) (λ e. ap (λ (v : Float). lt v (over min (min a x) l)) (is_nan_lem a e) ∙ nan_below (over min (min a x) l))
+    by_bool (ne a a) (λ e. ap (λ (v : Float). lt v (fold min (min a x) l)) (is_nan_lem a e) ∙ nan_below (fold min (min a x) l))
     (λ e. by_bool (lt x a)
-    (λ t. ap (λ (v : Float). lt a (over min v l)) (min-second a x t) ∙ fails (lt a (over min x l)) (λ u. not-both (float_lt_trans x a (over min x l) (holds t) u) (least_first x l)))
-    (λ t. ap (λ (v : Float). lt a (over min v l)) (min-first a x e t) ∙ least_first a l))
+    (λ t. ap (λ (v : Float). lt a (fold min v l)) (min-second a x t) ∙ fails (lt a (fold min x l)) (λ u. not-both (float_lt_trans x a (fold min x l) (holds t) u) (least_first x l)))
+    (λ t. ap (λ (v : Float). lt a (fold min v l)) (min-first a x e t) ∙ least_first a l))
 
-least : (a : Float) (l : List Float) (k : ℕ) (d : Float) → k < length l → lt (get_or l k d) (over min a l) ≡ false
-unfolding over
+least : (a : Float) (l : List Float) (k : ℕ) (d : Float) → k < length l → lt (get_or l k d) (fold min a l) ≡ false
 least a [] k d h = absurd (omega arith)
 least a (x ∷ l) (suc k) d h = least (min a x) l k d (omega arith)
 least a (x ∷ l) zero d h =
     by_bool (ne a a) (λ e. rw e (least_first x l))
     (λ e. by_bool (lt x a)
-    (λ t. ap (λ (v : Float). lt x (over min v l)) (min-second a x t) ∙ least_first x l)
-    (λ t. ap (λ (v : Float). lt x (over min v l)) (min-first a x e t)
-    ∙ fails (lt x (over min a l)) (λ u. ⊎_elim (λ (y : T (lt x a)). not-both y t) (λ (y : T (lt a (over min a l))). not-both y (least_first a l)) (lt-between x a (over min a l) e u))))
+    (λ t. ap (λ (v : Float). lt x (fold min v l)) (min-second a x t) ∙ least_first x l)
+    (λ t. ap (λ (v : Float). lt x (fold min v l)) (min-first a x e t)
+    ∙ fails (lt x (fold min a l)) (λ u. ⊎_elim (λ (y : T (lt x a)). not-both y t) (λ (y : T (lt a (fold min a l))). not-both y (least_first a l)) (lt-between x a (fold min a l) e u))))
 
-most_first : (a : Float) (l : List Float) → lt (over max a l) a ≡ false
-unfolding over
+most_first : (a : Float) (l : List Float) → lt (fold max a l) a ≡ false
 most_first a [] = fails (lt a a) (lt-itself a)
 most_first a (x ∷ l) =
-    by_bool (ne a a) (λ e. ap (λ (v : Float). lt (over max (max a x) l) v) (is_nan_lem a e) ∙ below_nan (over max (max a x) l))
+    by_bool (ne a a) (λ e. ap (λ (v : Float). lt (fold max (max a x) l) v) (is_nan_lem a e) ∙ below_nan (fold max (max a x) l))
     (λ e. by_bool (lt a x)
-    (λ t. ap (λ (v : Float). lt (over max v l) a) (max-second a x t) ∙ fails (lt (over max x l) a) (λ u. not-both (float_lt_trans (over max x l) a x u (holds t)) (most_first x l)))
-    (λ t. ap (λ (v : Float). lt (over max v l) a) (max-first a x e t) ∙ most_first a l))
+    (λ t. ap (λ (v : Float). lt (fold max v l) a) (max-second a x t) ∙ fails (lt (fold max x l) a) (λ u. not-both (float_lt_trans (fold max x l) a x u (holds t)) (most_first x l)))
+    (λ t. ap (λ (v : Float). lt (fold max v l) a) (max-first a x e t) ∙ most_first a l))
 
-most : (a : Float) (l : List Float) (k : ℕ) (d : Float) → k < length l → lt (over max a l) (get_or l k d) ≡ false
-unfolding over
+most : (a : Float) (l : List Float) (k : ℕ) (d : Float) → k < length l → lt (fold max a l) (get_or l k d) ≡ false
 most a [] k d h = absurd (omega arith)
 most a (x ∷ l) (suc k) d h = most (max a x) l k d (omega arith)
 most a (x ∷ l) zero d h =
     by_bool (ne a a) (λ e. rw e (most_first x l))
     (λ e. by_bool (lt a x)
-    (λ t. ap (λ (v : Float). lt (over max v l) x) (max-second a x t) ∙ most_first x l)
-    (λ t. ap (λ (v : Float). lt (over max v l) x) (max-first a x e t)
-    ∙ fails (lt (over max a l) x) (λ u. ⊎_elim (λ (y : T (lt (over max a l) a)). not-both y (most_first a l)) (λ (y : T (lt a x)). not-both y t) (lt-between (over max a l) a x e u))))
+    (λ t. ap (λ (v : Float). lt (fold max v l) x) (max-second a x t) ∙ most_first x l)
+    (λ t. ap (λ (v : Float). lt (fold max v l) x) (max-first a x e t)
+    ∙ fails (lt (fold max a l) x) (λ u. ⊎_elim (λ (y : T (lt (fold max a l) a)). not-both y (most_first a l)) (λ (y : T (lt a x)). not-both y t) (lt-between (fold max a l) a x e u))))
 
 -- ---- the sides of a box, each by itself
 
-left_is : (r : Rect) (l : List «V») → (over extended r l).x0 ≡ over min r.x0 (map (λ (p : «V»). p.x) l)
-unfolding over extended
+left_is : (r : Rect) (l : List «V») → (fold extended r l).x0 ≡ fold min r.x0 (map (λ (p : «V»). p.x) l)
+unfolding extended
 left_is r [] = refl
 left_is r (p ∷ l) = left_is (extended r p) l
 
-top_is : (r : Rect) (l : List «V») → (over extended r l).y0 ≡ over min r.y0 (map (λ (p : «V»). p.y) l)
-unfolding over extended
+top_is : (r : Rect) (l : List «V») → (fold extended r l).y0 ≡ fold min r.y0 (map (λ (p : «V»). p.y) l)
+unfolding extended
 top_is r [] = refl
 top_is r (p ∷ l) = top_is (extended r p) l
 
-right_is : (r : Rect) (l : List «V») → (over extended r l).x1 ≡ over max r.x1 (map (λ (p : «V»). p.x) l)
-unfolding over extended
+right_is : (r : Rect) (l : List «V») → (fold extended r l).x1 ≡ fold max r.x1 (map (λ (p : «V»). p.x) l)
+unfolding extended
 right_is r [] = refl
 right_is r (p ∷ l) = right_is (extended r p) l
 
-bottom_is : (r : Rect) (l : List «V») → (over extended r l).y1 ≡ over max r.y1 (map (λ (p : «V»). p.y) l)
-unfolding over extended
+bottom_is : (r : Rect) (l : List «V») → (fold extended r l).y1 ≡ fold max r.y1 (map (λ (p : «V»). p.y) l)
+unfolding extended
 bottom_is r [] = refl
 bottom_is r (p ∷ l) = bottom_is (extended r p) l
 

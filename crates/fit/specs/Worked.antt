@@ -3,7 +3,6 @@ use Rattle.std.specs.Prelude.{◌≡◌, refl, ℕ, Float}
 use mathlib.Core.List.{[], ◌∷◌, flat_map}
 use Rattle.std.specs.Float.Ieee.{of_bits, round, sum}
 use Rattle.std.specs.Float.Ieee as Ieee
-use Rattle.laws.specs.Loops.{over}
 use Rattle.laws.specs.Zip.{zip_by}
 use Rattle.float.specs.Constants.{whole}
 use Rattle.shape.specs.Plane.{extended}
@@ -26,10 +25,10 @@ Alone flag x y s =
 
 -- "One state, no start: 38, 38, size 76, 76."
 pub one_state : Alone 0 38 38 (worked_size 76 76)
-unfolding ringed zip_by shifted drawing_bounds covered states_points state_points flat_map bounds_of over extended Ieee.add Ieee.sub Ieee.mul Ieee.neg Ieee.lt Ieee.ne Ieee.eq sum round of_bits
+unfolding ringed zip_by shifted drawing_bounds covered states_points state_points flat_map bounds_of extended Ieee.add Ieee.sub Ieee.mul Ieee.neg Ieee.lt Ieee.ne Ieee.eq sum round of_bits
 one_state label = (refl, refl, refl)
 
 -- "One start: 66, 38, size 104, 76."
 pub one_start : Alone 1 66 38 (worked_size 104 76)
-unfolding ringed zip_by shifted drawing_bounds covered states_points state_points flat_map bounds_of over extended Ieee.add Ieee.sub Ieee.mul Ieee.neg Ieee.lt Ieee.ne Ieee.eq sum round of_bits
+unfolding ringed zip_by shifted drawing_bounds covered states_points state_points flat_map bounds_of extended Ieee.add Ieee.sub Ieee.mul Ieee.neg Ieee.lt Ieee.ne Ieee.eq sum round of_bits
 one_start label = (refl, refl, refl)

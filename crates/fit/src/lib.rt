@@ -3,12 +3,11 @@
 
 ghost use Rattle.std.specs.Prelude.{◌≡◌, ◌*◌, ◌≤◌, length};
 ghost use mathlib.Core.List.{flat_map};
-ghost use Rattle.laws.specs.Loops.{over};
+ghost use Rattle.std.specs.List.{fold};
 ghost use Rattle.laws.specs.Flat.{table};
 ghost use Rattle.shape.specs.Plane.{extended};
 ghost use Rattle.trace.specs.Traces.{sample};
 ghost use Rattle.shape.specs.Centres.{centres};
-ghost use Rattle.records.specs.Records.{decode_records};
 ghost use Rattle.fit.specs.Fit as S;
 
 use label_spots::Geometry;
@@ -28,7 +27,7 @@ pub struct Size {
 // ---- covering
 
 fn cover_state(b: Rect, flag: u8, c: V) -> Rect
-    ensures { result ≡ over extended b (S.state_points flag c) }
+    ensures { result ≡ fold extended b (S.state_points flag c) }
 {
     let low = b.extended(V::new(c.x - NODE_RADIUS, c.y - NODE_RADIUS));
     let round = low.extended(V::new(c.x + NODE_RADIUS, c.y + NODE_RADIUS));
@@ -41,7 +40,7 @@ fn cover_state(b: Rect, flag: u8, c: V) -> Rect
 fn cover_states(from: Rect, flags: &[u8], xs: &[f64], ys: &[f64]) -> Rect
     requires { (length xs.now ≡ length flags.now) × (length ys.now ≡ length flags.now) }
     ensures { let nodes = centres xs.now ys.now in
-        result ≡ over extended from (S.states_points flags.now nodes) }
+        result ≡ fold extended from (S.states_points flags.now nodes) }
 {
     let mut b = from;
     for i in 0..flags.len() {
@@ -51,22 +50,18 @@ fn cover_states(from: Rect, flags: &[u8], xs: &[f64], ys: &[f64]) -> Rect
 }
 
 fn cover_curve(from: Rect, curve: Curve) -> Rect
-    ensures { result ≡ over extended from (table (sample curve) 0 17) }
+    ensures { result ≡ fold extended from (table (sample curve) 0 17) }
 {
     let mut b = from;
-    let mut k: usize = 0;
-    let mut left: usize = POINTS;
-    while 0 < left {
+    for k in 0..POINTS {
         b = b.extended(trace::sample(curve, k));
-        k += 1;
-        left -= 1;
     }
     b
 }
 
 // The arrow's curve and its label box.
-fn cover_drawn(b: Rect, g: Geometry) -> Rect
-    ensures { result ≡ over extended b (S.drawn_points g) }
+fn cover_drawn(b: Rect, g: &Geometry) -> Rect
+    ensures { result ≡ fold extended b (S.drawn_points g.now) }
 {
     let curve = g.curve;
     let along = cover_curve(b, curve);
@@ -75,18 +70,12 @@ fn cover_drawn(b: Rect, g: Geometry) -> Rect
     first.extended(V::new(label.x1, label.y1))
 }
 
-// The first `count` records.
-fn cover_records(from: Rect, records: &[f64], count: usize) -> Rect
-    requires { 20 * count ≤ length records.now }
-    ensures { result ≡ over extended from (flat_map S.drawn_points (decode_records count records.now)) }
+fn cover_all(from: Rect, drawn: &[Geometry]) -> Rect
+    ensures { result ≡ fold extended from (flat_map S.drawn_points drawn.now) }
 {
     let mut b = from;
-    let mut k: usize = 0;
-    let mut left = count;
-    while 0 < left {
-        b = cover_drawn(b, records::geometry_at(records, k));
-        k += 1;
-        left -= 1;
+    for g in drawn {
+        b = cover_drawn(b, g);
     }
     b
 }
@@ -104,18 +93,16 @@ fn to_margin(l: &mut [f64], low: f64)
 }
 
 // Shifts the centres so that the drawing begins at the margin, and measures it.
-pub fn fit(flags: &[u8], records: &[f64], count: usize, xs: &mut [f64], ys: &mut [f64]) -> Size
+pub fn fit(flags: &[u8], drawn: &[Geometry], xs: &mut [f64], ys: &mut [f64]) -> Size
     requires { (length xs.old ≡ length flags.now)
-        × (length ys.old ≡ length flags.now)
-        × (20 * count ≤ length records.now) }
-    ensures { let drawn = decode_records count records.now in
-        let nodes = centres xs.old ys.old in
-        (result ≡ S.fit_size flags.now nodes drawn)
-        × (xs.new ≡ S.fit_xs flags.now nodes drawn xs.old)
-        × (ys.new ≡ S.fit_ys flags.now nodes drawn ys.old) }
+        × (length ys.old ≡ length flags.now) }
+    ensures { let nodes = centres xs.old ys.old in
+        (result ≡ S.fit_size flags.now nodes drawn.now)
+        × (xs.new ≡ S.fit_xs flags.now nodes drawn.now xs.old)
+        × (ys.new ≡ S.fit_ys flags.now nodes drawn.now ys.old) }
 {
     let states = cover_states(Rect::empty(), flags, xs, ys);
-    let b = cover_records(states, records, count);
+    let b = cover_all(states, drawn);
     to_margin(xs, b.x0);
     to_margin(ys, b.y0);
     Size {

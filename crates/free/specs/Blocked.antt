@@ -1,6 +1,6 @@
 -- The bows that the other states block. On an arc with bow h the point at distance s along the chord lies 2t(1 − t)·h to the left of it, t = s / len.
 -- A state at distance s, q to the left, blocks the bows with which the arc passes nearer than its radius 22 and the clearance 10.
-use Rattle.std.specs.Prelude.{◌≡◌, Bool, cond, ◌||◌, List, [], ◌∷◌, ◌++◌, ℕ, suc, ◌≤◌, length, take, Float}
+use Rattle.std.specs.Prelude.{Bool, cond, ◌||◌, List, [], ◌∷◌, ℕ, Float}
 use Rattle.float.specs.Ops.{◌⊕◌, ◌⊖◌, ◌⊗◌, ◌⊘◌, le}
 use Rattle.float.specs.Constants.{f0, f1, f2, full_clearance, node_radius}
 use Rattle.shape.specs.declared.«V».{«V»}
@@ -8,7 +8,7 @@ use Rattle.shape.specs.Plane.{sub, dot, left}
 use Rattle.free.specs.declared.Chord.{Chord}
 use Rattle.free.specs.declared.Span.{Span}
 use Rattle.free.specs.Chords.{is_end, other_states}
-use Rattle.free.specs.Free.{span_from, spans}
+use Rattle.free.specs.Free.{span_from}
 
 -- how far along the chord a point lies, from its start
 abbrev pub distance : Chord → «V» → Float
@@ -40,20 +40,6 @@ intervals c (p ∷ ps) = let rest = intervals c ps in cond (off_chord c p) rest 
 abbrev pub blocked : Chord → List «V» → List Span
 blocked c ps = intervals c (other_states c ps)
 
--- ---- as the code keeps them: the first n of two slices
-
-pub record Spans (n : ℕ) (lo hi : List Float) (l : List Span) : Type 0 where
-  pub same : length hi ≡ length lo
-  pub room : n ≤ length lo
-  pub are : spans (take n lo) (take n hi) ≡ l
-
 -- the interval of state k at p, where it has one
 abbrev pub blocked_by : Chord → ℕ → «V» → List Span
 blocked_by c k p = cond (is_end c k) [] (cond (off_chord c p) [] (span_of c p ∷ []))
-
--- that interval behind the first n
-pub record Grown (c : Chord) (k : ℕ) (p : «V») (n : ℕ) (lo hi : List Float) (m : ℕ) (lo' hi' : List Float) : Type 0 where
-  pub more : m ≤ suc n
-  pub low : length lo' ≡ length lo
-  pub high : length hi' ≡ length hi
-  pub are : spans (take m lo') (take m hi') ≡ spans (take n lo) (take n hi) ++ blocked_by c k p

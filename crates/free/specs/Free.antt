@@ -1,7 +1,6 @@
 -- The search for a free bow. "Leaving the search for a free bow happens in the first full pass that moves nothing."
-use Rattle.std.specs.Prelude.{Bool, true, false, cond, ◌&&◌, ◌||◌, List, [], ◌∷◌, ℕ, zero, suc, length, Float}
-use Rattle.laws.specs.Loops.{over}
-use Rattle.laws.specs.Zip.{zip_by}
+use Rattle.std.specs.Prelude.{Bool, true, false, cond, ◌&&◌, List, ℕ, zero, suc, length, Float}
+use Rattle.std.specs.List.{list_any, fold}
 use Rattle.float.specs.Ops.{lt}
 use Rattle.float.specs.Constants.{f0}
 use Rattle.free.specs.declared.Span.{Span}
@@ -10,18 +9,13 @@ use Rattle.free.specs.declared.Pass.{Pass}
 abbrev pub span_from : Float → Float → Span
 span_from lo hi = record { lo = lo; hi = hi }
 
--- the intervals, from their lower and their upper ends
-abbrev pub spans : List Float → List Float → List Span
-spans lo hi = zip_by span_from lo hi
-
 -- strictly inside
 abbrev pub inside : Span → Float → Bool
 inside s h = lt s.lo h && lt h s.hi
 
 -- strictly inside one of them
-unfoldable pub inside_some : List Span → Float → Bool
-inside_some [] h = false
-inside_some (s ∷ l) h = inside s h || inside_some l h
+abbrev pub inside_some : List Span → Float → Bool
+inside_some l h = list_any (λ s. inside s h) l
 
 -- where an interval sends a bow that is inside it: upwards (dir above 0) to its upper end, else to its lower
 abbrev pub sent_to : Float → Span → Float
@@ -35,7 +29,7 @@ pass_start h = record { h = h; moved = false }
 
 -- one full pass over the intervals, in order
 unfoldable pub pass : Float → List Span → Float → Pass
-pass dir l h = over (visit dir) (pass_start h) l
+pass dir l h = fold (visit dir) (pass_start h) l
 
 -- at most m passes, up to the first that moves nothing
 unfoldable pub passes : Float → List Span → ℕ → Float → Float

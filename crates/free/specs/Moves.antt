@@ -5,12 +5,12 @@ use Rattle.std.proofs.Math.Path.{refl, ap}
 use Rattle.std.proofs.Common.{sym, subst, ◌∙◌}
 use Rattle.std.proofs.Math.Bool.{true, cond}
 use mathlib.Core.List.{List, [], ◌∷◌}
-use Prim.Native.Nat.{ℕ, zero, suc, ◌+◌, ◌-◌, ◌≤◌, ◌<◌}
+use Prim.Native.Nat.{ℕ, zero, suc, ◌+◌, ◌≤◌, ◌<◌}
 use native.Mathlib.Omega.{arith}
 use Rattle.std.proofs.Math.Dec.{T}
 use Rattle.std.specs.Float.Ieee.Fits.{and_l, and_r}
 use Rattle.laws.specs.Cases.{by_bool, holds as yes_of}
-use Rattle.laws.specs.Loops.{over}
+use Rattle.std.specs.List.{fold}
 use Rattle.laws.specs.Order.{float_lt_trans, lt-itself}
 use Rattle.laws.specs.Bools.{clash}
 use Rattle.float.specs.Ops.{lt}
@@ -117,25 +117,25 @@ module _ (dir : Float) where
   visit-out p s e = rw e
 
   end : Pass → List Span → Pass
-  end p l = over (visit dir) p l
+  end p l = fold (visit dir) p l
 
   stays : (p : Pass) (l : List Span) → p.moved ≡ true → (end p l).moved ≡ true
-  unfolding end over
+  unfolding end
   stays p [] e = e
   stays p (s ∷ l) e = stays (visit dir p s) l (by_bool (inside s p.h) (λ i. rw (visit_in p s i)) (λ i. rw (visit-out p s i) e))
 
   -- a run that moved nothing is where it began, which is inside none of its intervals
   still : (p : Pass) (l : List Span) → (end p l).moved ≡ false → (end p l ≡ p) × (inside_some l p.h ≡ false)
-  unfolding end over inside_some
+  unfolding end
   still p [] e = (refl, refl)
   still p (s ∷ l) e =
       by_bool (inside s p.h)
       (λ i. clash (stays (visit dir p s) l (rw (visit_in p s i))) e)
-      (λ i. let r = still (visit dir p s) l e in let v = visit-out p s i in (r.0 ∙ v, rw (i, ← v) (rw v (rw v at r.1))))
+      (λ i. let r = still (visit dir p s) l e in let v = visit-out p s i in (r.0 ∙ v, rw i (ap (λ (q : Pass). inside_some l q.h) (sym v) ∙ r.1)))
 
   -- a run that moved something has moves
   moved : (p : Pass) (l : List Span) → p.moved ≡ false → (end p l).moved ≡ true → 0 < moves_in dir p l
-  unfolding end over moves_in
+  unfolding end moves_in
   moved p [] f e = absurd (subst T (sym e ∙ f) tt)
   moved p (s ∷ l) f e =
       by_bool (inside s p.h)
@@ -144,7 +144,7 @@ module _ (dir : Float) where
 
   -- the moves of a run, and the ends that are left ahead
   count : (w : List Span) (p : Pass) (l : List Span) → ((s : Span) → Has s l → Has s w) → moves_in dir p l + spans_ahead w (end p l).h ≤ spans_ahead w p.h
-  unfolding end over moves_in
+  unfolding end moves_in
   count w p [] f = omega arith
   count w p (s ∷ l) f =
       let r = count w (visit dir p s) l (λ x m. f x (there m)) in
@@ -223,8 +223,7 @@ module _ (dir : Float) (l : List Span) where
 
 -- What every move keeps, the search keeps.
 module _ (dir : Float) (l : List Span) (P : Float → Type 0) (step : (h t : Float) → P h → T (ahead (lt f0 dir) h t) → P t) where
-  run_keeps : (p : Pass) (q : List Span) → P p.h → P (over (visit dir) p q).h
-  unfolding over
+  run_keeps : (p : Pass) (q : List Span) → P p.h → P (fold (visit dir) p q).h
   run_keeps p [] k = k
   run_keeps p (s ∷ q) k =
       run_keeps (visit dir p s) q

@@ -1,5 +1,5 @@
 -- The steps of the loops over the other states and over the intervals. Assumes nothing.
-use Rattle.std.specs.Prelude.{◌≡◌, true, false, List, [], ◌∷◌, ◌++◌, ℕ, ◌+◌, ◌≤◌, ◌<◌, length, drop, Float}
+use Rattle.std.specs.Prelude.{◌≡◌, true, false, List, [], ◌∷◌, ◌++◌, ℕ, ◌+◌, ◌≤◌, ◌<◌, length, drop}
 use Rattle.std.proofs.Common.{add-one, drop_of_length-le}
 use Rattle.std.proofs.Math.Seq.{drop-cons}
 use Rattle.laws.specs.Cases.{by_bool}
@@ -7,11 +7,9 @@ use Rattle.float.specs.Constants.{f0}
 use Rattle.shape.specs.declared.«V».{«V»}
 use Rattle.shape.specs.Plane.{vec}
 use Rattle.free.specs.declared.Chord.{Chord}
-use Rattle.free.specs.declared.Span.{Span}
 use Rattle.shape.specs.Centres.{centre}
 use Rattle.free.specs.Chords.{is_end, others_from}
 use Rattle.free.specs.Blocked.{off_chord, intervals, blocked_by}
-use Rattle.free.specs.Free.{inside, inside_some}
 
 -- the other states from state k on
 module _ (c : Chord) (ps : List «V») (k : ℕ) where
@@ -37,17 +35,3 @@ module _ (c : Chord) (ps : List «V») (k : ℕ) where
   pub intervals-end : length ps ≤ k → intervals c (others_from c k (drop k ps)) ≡ []
   unfolding intervals
   intervals-end h = rw (others_end h)
-
--- the intervals, the next one first
-module _ (l q : List Span) (s : Span) (h : Float) (e : l ≡ s ∷ q) where
-  pub holds_hit : inside s h ≡ true → true ≡ inside_some l h
-  unfolding inside_some
-  holds_hit t = rw (e, t)
-
-  pub holds_miss : inside s h ≡ false → inside_some q h ≡ inside_some l h
-  unfolding inside_some
-  holds_miss t = rw (e, t)
-
-pub holds_none : (l : List Span) (h : Float) → l ≡ [] → false ≡ inside_some l h
-unfolding inside_some
-holds_none l h e = rw e

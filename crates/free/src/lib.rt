@@ -1,8 +1,7 @@
 // The bows that states beside an arrow block, and the first free one.
 #![tactic(auto)]
 
-ghost use Rattle.std.specs.Prelude.{◌≡◌, ◌+◌, ◌<◌, ◌≤◌, length};
-ghost use Rattle.shape.specs.Centres.{centres};
+ghost use Rattle.std.specs.Prelude.{◌≡◌, ◌<◌, ◌≤◌, length};
 ghost use Rattle.free.specs.Chords as C;
 ghost use Rattle.free.specs.Blocked as B;
 ghost use Rattle.free.specs.Free as F;
@@ -30,14 +29,13 @@ pub struct Span {
     pub hi: f64,
 }
 
-pub fn chord_of(xs: &[f64], ys: &[f64], from: usize, to: usize) -> Chord
-    requires ys_len { length ys.now ≡ length xs.now }
-    requires from_in_bounds { from < length xs.now }
-    requires to_in_bounds { to < length xs.now }
-    ensures { result ≡ C.chord (centres xs.now ys.now) from to }
+pub fn chord_of(nodes: &[V], from: usize, to: usize) -> Chord
+    requires from_in_bounds { from < length nodes.now }
+    requires to_in_bounds { to < length nodes.now }
+    ensures { result ≡ C.chord nodes.now from to }
 {
-    let a = shape::centre(xs, ys, from);
-    let b = shape::centre(xs, ys, to);
+    let a = nodes[from];
+    let b = nodes[to];
     let along = (b - a).unit_or(V::new(1.0, 0.0));
     let len = a.dist(b);
     Chord {
@@ -54,10 +52,7 @@ pub fn chord_of(xs: &[f64], ys: &[f64], from: usize, to: usize) -> Chord
 pub fn is_end(c: Chord, k: usize) -> bool
     ensures { result ≡ C.is_end c k }
 {
-    if k == c.from {
-        return true;
-    }
-    k == c.to
+    k == c.from || k == c.to
 }
 
 // Whether a state at p does not lie beside the chord.
@@ -65,10 +60,7 @@ fn off_chord(c: Chord, p: V) -> bool
     ensures { result ≡ B.off_chord c p }
 {
     let distance = (p - c.a).dot(c.along);
-    if distance <= 0.0 {
-        return true;
-    }
-    c.len <= distance
+    distance <= 0.0 || c.len <= distance
 }
 
 // The bows at which the arc comes nearer than CLEARANCE to the rim of a state at p.
@@ -86,56 +78,35 @@ fn span_of(c: Chord, p: V) -> Span
     }
 }
 
-// State k, at p: its interval, if it has one, behind the first n.
-fn block(c: Chord, k: usize, p: V, n: usize, lo: &mut [f64], hi: &mut [f64]) -> usize
-    requires hi_len { length hi.old ≡ length lo.old }
-    requires n_in_bounds { n < length lo.old }
-    ensures { B.Grown c k p n lo.old hi.old result lo.new hi.new }
-{
-    if is_end(c, k) {
-        return n;
-    }
-    if off_chord(c, p) {
-        return n;
-    }
-    let s = span_of(c, p);
-    lo[n] = s.lo;
-    hi[n] = s.hi;
-    n + 1
-}
-
-// The intervals that the states block, into `lo` and `hi`; how many they are.
-pub fn blocked(xs: &[f64], ys: &[f64], c: Chord, lo: &mut [f64], hi: &mut [f64]) -> usize
-    requires ys_len { length ys.now ≡ length xs.now }
-    requires hi_len { length hi.old ≡ length lo.old }
-    requires xs_in_bounds { length xs.now ≤ length lo.old }
-    ensures { B.Spans result lo.new hi.new (B.blocked c (centres xs.now ys.now)) }
+// The intervals that the states block, one behind another in the room lent.
+pub fn blocked<'a>(nodes: &[V], c: Chord, room: &'a mut [Span]) -> &'a [Span]
+    requires { length nodes.now ≤ length room.old }
+    ensures { result.now ≡ B.blocked c nodes.now }
 {
     let mut n = 0;
-    for k in 0..xs.len() {
-        n = block(c, k, shape::centre(xs, ys, k), n, lo, hi);
+    for (k, p) in nodes.iter().enumerate() {
+        if !is_end(c, k) && !off_chord(c, *p) {
+            room[n] = span_of(c, *p);
+            n += 1;
+        }
     }
-    n
+    &room[..n]
 }
 
-// Whether h lies inside the open interval.
-fn inside(lo: f64, hi: f64, h: f64) -> bool
-    ensures { result ≡ F.inside (F.span_from lo hi) h }
-{
-    lo < h && h < hi
+impl Span {
+    // Whether h lies inside the open interval.
+    fn contains(self, h: f64) -> bool
+        ensures { result ≡ F.inside self h }
+    {
+        self.lo < h && h < self.hi
+    }
 }
 
 // Whether some interval has h inside.
-pub fn inside_some(lo: &[f64], hi: &[f64], h: f64) -> bool
-    requires { length hi.now ≡ length lo.now }
-    ensures { result ≡ F.inside_some (F.spans lo.now hi.now) h }
+pub fn inside_some(spans: &[Span], h: f64) -> bool
+    ensures { result ≡ F.inside_some spans.now h }
 {
-    for i in 0..lo.len() {
-        if inside(lo[i], hi[i], h) {
-            return true;
-        }
-    }
-    false
+    spans.iter().any(|s| s.contains(h))
 }
 
 // What a pass has come to: where h is, and whether anything moved it.
@@ -146,34 +117,38 @@ pub struct Pass {
 }
 
 // One interval's step: an h inside it goes to its upper end where dir is above 0, else to its lower.
-fn visit(dir: f64, s: Pass, lo: f64, hi: f64) -> Pass
-    ensures { result ≡ F.visit dir s (F.span_from lo hi) }
+#[tactic(auto, unfolding(crate::specs::Free::visit))]
+fn visit(dir: f64, p: Pass, s: Span) -> Pass
+    ensures { result ≡ F.visit dir p s }
 {
-    if inside(lo, hi, s.h) {
-        if dir > 0.0 {
-            return Pass { h: hi, moved: true };
-        }
-        return Pass { h: lo, moved: true };
+    if s.contains(p.h) {
+        let h = if dir > 0.0 { s.hi } else { s.lo };
+        return Pass { h, moved: true };
     }
-    s
+    p
+}
+
+// One pass over all intervals.
+#[tactic(auto, unfolding(crate::specs::Free::pass))]
+fn full_pass(dir: f64, spans: &[Span], h: f64) -> Pass
+    ensures { result ≡ F.pass dir spans.now h }
+{
+    spans
+        .iter()
+        .fold(Pass { h, moved: false }, |p, s| visit(dir, p, *s))
 }
 
 // The first h from `start` upwards (dir > 0) or downwards that is inside no interval: passes over all intervals,
 // until one moves nothing.
-pub fn first_free(lo: &[f64], hi: &[f64], start: f64, dir: f64) -> f64
-    requires { length hi.now ≡ length lo.now }
-    ensures { result ≡ F.first_free dir (F.spans lo.now hi.now) start }
+pub fn first_free(spans: &[Span], start: f64, dir: f64) -> f64
+    ensures { result ≡ F.first_free dir spans.now start }
 {
     let mut h = start;
-    let free = loop {
-        let mut s = Pass { h, moved: false };
-        for i in 0..lo.len() {
-            s = visit(dir, s, lo[i], hi[i]);
+    loop {
+        let p = full_pass(dir, spans, h);
+        h = p.h;
+        if !p.moved {
+            return h;
         }
-        h = s.h;
-        if !s.moved {
-            break h;
-        }
-    };
-    free
+    }
 }

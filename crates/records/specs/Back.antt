@@ -1,22 +1,18 @@
--- What is written is read back: a record, records one after another, a slot. Assumes nothing.
+-- What is written is read back: a record, records one after another. Assumes nothing.
 use Rattle.std.specs.Prelude.{◌≡◌, ℕ, ◌+◌, ◌*◌, ◌<◌, ◌≤◌, List, [], ◌∷◌, ◌++◌, length, refl, Float}
 use Rattle.std.proofs.Common.{ap, ◌∙◌, arith}
 use mathlib.Core.List.{flat_map}
 use Rattle.std.specs.Float.Ieee.{of_bits}
 use Rattle.std.specs.Float.Ieee as Ieee
-use Rattle.laws.specs.Flat.{part, part-new}
+use Rattle.laws.specs.Flat.{part}
 use Rattle.laws.specs.Put.{put}
 use Rattle.shape.specs.declared.Curve.{Curve}
 use Rattle.shape.specs.declared.Curve.TheVariants.{Line, Quad, Cubic}
-use Rattle.trace.specs.Forms.{whole_back}
-use Rattle.bend.specs.declared.Shape.{Shape}
-use Rattle.bend.specs.declared.Shape.TheVariants as Shape
-use Rattle.bend.specs.declared.Routed.{Routed}
+use Rattle.records.specs.Whole.{whole_of, whole_back}
 use Rattle.label_spots.specs.declared.Anchor.{Anchor}
 use Rattle.label_spots.specs.declared.Anchor.TheVariants.{Start, Middle, End}
 use Rattle.label_spots.specs.declared.Geometry.{Geometry}
 use Rattle.records.specs.Records.{corners_of, curve_of, anchor_number, anchor_of, fields, decode_geometry, decode_records}
-use Rattle.records.specs.Slots.{shaped_of, shape_of, routed_fields, decode_routed}
 use Rattle.laws.specs.Flats as Flats
 
 -- ---- records
@@ -61,28 +57,3 @@ put_record l gs g = Flats.put-more fields 20 (λ g. refl) l gs g
 
 pub decode_records_lem : (l : List Float) (gs : List Geometry) → 20 * length gs ≤ length l → Small gs → decode_records (length gs) (put l 0 (flat_map fields gs)) ≡ gs
 decode_records_lem l gs room h = Flats.records_back fields 20 (λ g. refl) decode_geometry l gs room (back_small gs h)
-
--- ---- slots
-
-shape_back : (s : Shape) → shape_of (shaped_of s) ≡ s
-unfolding shape_of of_bits Ieee.eq
-shape_back Shape.Line = refl
-shape_back (Shape.Arc outer) = refl
-shape_back (Shape.Loop out) = refl
-
-abbrev routed : Curve → Float → Shape → Routed
-routed curve angle shape = record { curve = curve; tip_angle = angle; shape = shape }
-
-pub decode_routed_lem : (r : Routed) → decode_routed (routed_fields r) ≡ r
-unfolding decode_routed routed_fields
-decode_routed_lem r =
-    ap (λ (c : Curve). routed c r.tip_angle (shape_of (shaped_of r.shape))) (curve_back r.curve)
-    ∙ ap (λ (s : Shape). routed r.curve r.tip_angle s) (shape_back r.shape)
-
-pub length-routed : (r : Routed) → length (routed_fields r) ≡ 20
-unfolding routed_fields
-length-routed r = refl
-
--- slot k is read back
-pub slot_back : (l : List Float) (k : ℕ) (r : Routed) → 20 * k + 20 ≤ length l → decode_routed (part 20 k (put l (20 * k) (routed_fields r))) ≡ r
-slot_back l k r room = ap decode_routed (part-new 20 (20 * k) l (routed_fields r) (length-routed r) room) ∙ decode_routed_lem r

@@ -9,7 +9,7 @@ use Rattle.shape.specs.declared.«V».{«V»}
 use Rattle.shape.specs.declared.Curve.{Curve}
 use Rattle.shape.specs.declared.Curve.TheVariants.{Line, Quad, Cubic}
 use Rattle.shape.specs.Plane.{vec, rect}
-use Rattle.trace.specs.Form.{whole_of}
+use Rattle.records.specs.Whole.{whole_of}
 use Rattle.label_spots.specs.declared.Anchor.{Anchor}
 use Rattle.label_spots.specs.declared.Anchor.TheVariants.{Start, Middle, End}
 use Rattle.label_spots.specs.declared.Geometry.{Geometry}

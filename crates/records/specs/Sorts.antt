@@ -1,4 +1,4 @@
--- The sorts of arrows, by one numbering: in a slot, in what is known before any label, and in the passes.
+-- The sorts of arrows, by one numbering.
 use Rattle.std.specs.Prelude.{ℕ}
 
 -- an end is no state

@@ -137,7 +137,7 @@ stays_so f a =
 -- ---- the bow
 
 inside_any : (l : List Span) → inside_some l f0 ≡ any_of around_zero l
-unfolding inside_some any_of
+unfolding any_of
 inside_any [] = refl
 inside_any (s ∷ l) = ap (λ (b : Bool). inside s f0 || b) (inside_any l)
 

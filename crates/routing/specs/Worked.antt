@@ -29,5 +29,5 @@ worked_frame =
     (ends_by 0 1 ∷ ends_by 1 1 ∷ ends_by 0 3 ∷ ends_by 0 0 ∷ ends_by 0 2 ∷ ends_by 2 0 ∷ [])
 
 pub worked_order : map R.edge_of (R.order worked_frame) ≡ 1 ∷ 3 ∷ 4 ∷ 5 ∷ 0 ∷ []
-unfolding R.numbered_from R.kept R.joined R.routes R.order filter_by table F.root F.root_of root_bits nearest_root whole_root try_digits scale down over unit_or Curves.at chord others_from intervals Free.inside_some Free.visit Free.pass Free.passes Free.first_free bend pair_bow single_bow leads Clear.verified Clear.first_that Clear.outdone Clear.nearest Clear.clearance Between.between Between.with_bow Between.straight Between.bowed up steps_from Ieee.add Ieee.sub Ieee.mul Ieee.div Ieee.neg Ieee.lt Ieee.le Ieee.eq Ieee.ne of_int round size span climb units odd sum of_bits of_fields to_bits count_trailing_zeros is_nan any_of
+unfolding R.numbered_from R.kept R.joined R.routes R.order filter_by table F.root F.root_of root_bits nearest_root whole_root try_digits scale down over unit_or Curves.at chord others_from intervals Free.visit Free.pass Free.passes Free.first_free bend pair_bow single_bow leads Clear.verified Clear.first_that Clear.outdone Clear.nearest Clear.clearance Between.between Between.with_bow Between.straight Between.bowed up steps_from Ieee.add Ieee.sub Ieee.mul Ieee.div Ieee.neg Ieee.lt Ieee.le Ieee.eq Ieee.ne of_int round size span climb units odd sum of_bits of_fields to_bits count_trailing_zeros is_nan any_of
 worked_order = refl

@@ -1,15 +1,14 @@
 -- What is drawn already while labels are placed, and the full cost of a label box in it.
-use Rattle.std.specs.Prelude.{Bool, List, [], ◌∷◌, ◌++◌, ℕ, ◌+◌, ◌*◌, Float}
-use Rattle.laws.specs.Flat.{decode_flat}
+use Rattle.std.specs.Prelude.{Bool, List, [], ◌∷◌, ◌++◌, ℕ, ◌+◌, ◌*◌, length, map}
 use Rattle.laws.specs.Counting.{how_many}
 use Rattle.float.specs.Ops.{◌⊕◌, ◌⊖◌, lt}
 use Rattle.float.specs.Constants.{keep, label_char_width, node_radius}
 use Rattle.shape.specs.declared.«V».{«V»}
 use Rattle.shape.specs.declared.Rect.{Rect}
 use Rattle.shape.specs.Plane.{rect, grown, overlaps, box_dist}
-use Rattle.shape.specs.Centres.{centres as centres_of}
 use Rattle.trace.specs.Traces.{Trace}
-use Rattle.trace.specs.Form.{decode_rect, decode_traces}
+use Rattle.trace.specs.Form.{trace_in}
+use Rattle.scene.specs.declared.Scene.{Scene as Lent}
 -- a foreign trace that meets the box: "A foreign trace is one that the turn's arrow does not own."
 unfoldable pub use Rattle.trace.specs.Traces.{struck}
 
@@ -52,13 +51,11 @@ box_cost s own b =
     + 6 * how_many (overlapping (apart b)) s.boxes
     + 3 * how_many (struck own (wide b)) s.traces
 
--- ---- how the code keeps a scene: centres in two slices, boxes of four numbers and traces of forty, so many of each
+-- no cost is above this: every state, label and trace
+abbrev pub most : Scene → ℕ
+most s = 10 * length s.centres + 6 * length s.boxes + 3 * length s.traces
 
-abbrev pub decode_boxes : ℕ → List Float → List Rect
-decode_boxes n l = decode_flat decode_rect 4 n l
+-- ---- the code's scene
 
-abbrev pub scene_from : List Float → List Float → ℕ → List Float → ℕ → List Float → Scene
-scene_from xs ys nb boxes nt traces = scene_of (centres_of xs ys) (decode_traces nt traces) (decode_boxes nb boxes)
-
-abbrev pub rect_numbers : Rect → List Float
-rect_numbers b = b.x0 ∷ b.y0 ∷ b.x1 ∷ b.y1 ∷ []
+abbrev pub scene_in : Lent → Scene
+scene_in s = scene_of s.states.now (map trace_in s.traces.now) s.boxes.now

@@ -1,34 +1,30 @@
 -- What each thing adds to a loop's cost, by the code's tests; the states but one, as a loop meets them; bounds and reads. Assumes nothing.
 use mathlib.Core.Path.{◌≡◌, refl, sym, ap, ◌∙◌}
 use mathlib.Core.Bool.{Bool, true, false, cond}
-use mathlib.Core.List.{List, [], ◌∷◌}
-use Prim.Native.Nat.{ℕ, zero, suc, ◌+◌, ◌-◌, ◌*◌, ◌≤◌, ◌<◌}
-use native.Mathlib.Nat.{add-zero, zero-add, add-suc, suc-add}
+use mathlib.Core.List.{List, [], ◌∷◌, ◌++◌, map}
+use Prim.Native.Nat.{ℕ, zero, suc, ◌+◌, ◌*◌, ◌≤◌, ◌<◌}
 use native.Mathlib.Numerals.{add-one}
 use native.Mathlib.Omega.{arith}
-use borrow.Author.Tests.{ne_eqb, eq-eqb}
-use lib.Dec.{eqb}
-use lib.ListN.{length, get_or}
+use lib.ListN.{length, get_or, take, drop}
 use lib.Ieee.{Float, nan}
 use Rattle.laws.specs.Best.{search_from}
-use Rattle.laws.specs.Flat.{part}
-use Rattle.laws.specs.Counting.{how_many, worth, how_many-step, how_many-le, table-length}
-use Rattle.laws.specs.Zip.{zip_length}
+use Rattle.laws.specs.Counting.{how_many, how_many-le}
 use Rattle.laws.specs.Lists.{get_d_any}
+use Rattle.laws.specs.Chains.{how_many_list}
+use Rattle.std.specs.List.{count_by}
 use Rattle.float.specs.Constants.{f0_5, f1, cramped_room}
 use Rattle.float.specs.Ops.{lt}
 use Rattle.shape.specs.declared.«V».{«V»}
 use Rattle.shape.specs.declared.Curve.{Curve}
-use Rattle.shape.specs.Plane.{vec, polar, angle}
+use Rattle.shape.specs.Plane.{polar, angle}
 use Rattle.shape.specs.Curves.{at, tangent}
 use Rattle.trace.specs.Traces.{Trace, crossed, near25, arrow, trace_of}
-use Rattle.trace.specs.Form.{decode_rect, decode_trace}
 use Rattle.bend.specs.declared.Routed.{Routed}
 use Rattle.bend.specs.declared.Shape.TheVariants as Shape
 use Rattle.label_spots.specs.declared.Geometry.{Geometry}
 use Rattle.label_spots.specs.Spots.{label_spots, spot}
 use Rattle.label_spots.specs.Labels.{labelled}
-use Rattle.scene.specs.Scene.{Scene, box_cost, scene_from}
+use Rattle.scene.specs.Scene.{Scene, box_cost}
 use Rattle.scene.specs.Cut.{cost-le}
 use Rattle.directions.specs.Directions.{directions, room, upwards}
 use Rattle.directions.specs.Loop.{loop_curve}
@@ -54,27 +50,11 @@ drawn_edge l phi = refl
 
 -- ---- the states but one
 
--- state k and those after it, but not the node
-unfoldable pub rest_but : ℕ → ℕ → List «V» → List «V»
-rest_but node k [] = []
-rest_but node k (c ∷ l) = let more = rest_but node (suc k) l in cond (eqb k node) more (c ∷ more)
-
-rest-past : (node k : ℕ) (l : List «V») → node < k → rest_but node k l ≡ l
-unfolding rest_but
-rest-past node k [] h = refl
-rest-past node k (c ∷ l) h = rw (ne_eqb k node (λ e. omega arith)) (ap (λ (r : List «V»). c ∷ r) (rest-past node (suc k) l (omega arith)))
-
-rest_others : (d k : ℕ) (l : List «V») → rest_but (k + d) k l ≡ states_but d l
-unfolding rest_but states_but
-rest_others d k [] = refl
-rest_others zero k (c ∷ l) = rw (add-zero k, eq-eqb k k refl) (rest-past (k + 0) (suc k) l (omega arith))
-rest_others (suc d) k (c ∷ l) =
-    rw (ne_eqb k (k + suc d) (λ e. omega arith))
-    (ap (λ (r : List «V»). c ∷ r) (ap (λ (n : ℕ). rest_but n (suc k) l) (add-suc k d ∙ sym (suc-add k d)) ∙ rest_others d (suc k) l))
-
-pub rest_none : (node k : ℕ) (l : List «V») → l ≡ [] → rest_but node k l ≡ []
-unfolding rest_but
-rest_none node k l e = rw e
+pub others-split : (k : ℕ) (l : List «V») → k < length l → states_but k l ≡ take k l ++ drop (k + 1) l
+unfolding states_but
+others-split k [] h = absurd (omega (arith, h))
+others-split zero (c ∷ l) h = refl
+others-split (suc k) (c ∷ l) h = let rest = others-split k l (omega (arith, h)) in rw add-one (ap (λ (r : List «V»). c ∷ r) (rw add-one at rest))
 
 others_le : (k : ℕ) (l : List «V») → length (states_but k l) ≤ length l
 unfolding states_but
@@ -82,26 +62,16 @@ others_le k [] = omega arith
 others_le zero (c ∷ l) = omega arith
 others_le (suc k) (c ∷ l) = omega (arith, others_le k l)
 
-module _ (p : «V» → Bool) (m : ℕ) where
-  pub rest-start : (node : ℕ) (l : List «V») → 0 + m * how_many p (rest_but node 0 l) ≡ m * how_many p (states_but node l)
-  rest-start node l = zero-add _ ∙ ap (λ (r : List «V»). m * how_many p r) (ap (λ (n : ℕ). rest_but n 0 l) (sym (zero-add node)) ∙ rest_others node 0 l)
+how_many_map : {A B : Type 0} (p : B → Bool) (f : A → B) (l : List A) → how_many p (map f l) ≡ how_many (λ x. p (f x)) l
+unfolding how_many
+how_many_map p f [] = refl
+how_many_map p f (x ∷ l) = ap (λ (n : ℕ). cond (p (f x)) 1 0 + n) (how_many_map p f l)
 
-  pub rest_more : (a b node k : ℕ) (x : «V») (l r : List «V») → l ≡ x ∷ r → b ≡ cond (eqb k node) 0 (worth p m x)
-      → (a + b) + m * how_many p (rest_but node (k + 1) r) ≡ a + m * how_many p (rest_but node k l)
-  unfolding rest_but
-  rest_more a b node k x l r e f = rw (e, f, add-one) (go (eqb k node))
-    where
-      go : (t : Bool) → (a + cond t 0 (worth p m x)) + m * how_many p (rest_but node (suc k) r) ≡ a + m * how_many p (cond t (rest_but node (suc k) r) (x ∷ rest_but node (suc k) r))
-      go true = ap (λ (n : ℕ). n + m * how_many p (rest_but node (suc k) r)) (add-zero a)
-      go false = how_many-step p m a (worth p m x) x (x ∷ rest_but node (suc k) r) (rest_but node (suc k) r) refl refl
+pub how_many_of : {A B : Type 0} (p : B → Bool) (f : A → B) (l : List A) → count_by (λ x. p (f x)) l ≡ how_many p (map f l)
+how_many_of p f l = sym (how_many_map p f l ∙ how_many_list (λ x. p (f x)) l)
 
--- state k, by the code's tests
-module _ (p : «V» → Bool) (node k : ℕ) (x : «V») where
-  pub own_worth_none : k ≡ node → 0 ≡ cond (eqb k node) 0 (worth p 10 x)
-  own_worth_none e = rw (eq-eqb k node e)
-
-  pub other_is : (h b : Bool) → (k ≡ node → ⊥) → h ≡ p x → h ≡ b → cond b 10 0 ≡ cond (eqb k node) 0 (worth p 10 x)
-  other_is h b n e f = rw (ne_eqb k node n, ← e, f)
+pub how_many_others : (p : «V» → Bool) (k : ℕ) (l : List «V») → k < length l → count_by p (take k l ++ drop (k + 1) l) ≡ how_many p (states_but k l)
+how_many_others p k l h = sym (ap (how_many p) (others-split k l h) ∙ how_many_list p (take k l ++ drop (k + 1) l))
 
 -- ---- costs
 
@@ -135,16 +105,10 @@ loop_le s l phi =
     omega
     (arith, cost-le s l.edge g.label_box, how_many-le (near25 t) (states_but l.node s.centres), others_le l.node s.centres, how_many-le (crossed l.edge t) s.traces, cramped-le phi l.rim)
 
--- the search in the scene of the slices, from a first limit above every cost
-module _ (xs ys : List Float) (nb : ℕ) (bs : List Float) (nt : ℕ) (ts : List Float) (h : length ys ≡ length xs) (big : ℕ) (k : 20 * length xs + 6 * nb + 6 * nt + 20 < big) where
-  abbrev here : Scene
-  here = scene_from xs ys nb bs nt ts
-
-  below : 20 * length here.centres + 6 * length here.boxes + 6 * length here.traces + 20 < big
-  below = rw (zip_length vec xs ys h, table-length (λ i. decode_rect (part 4 i bs)) 0 nb, table-length (λ i. decode_trace (part 40 i ts)) 0 nt) k
-
-  pub loop_early_is : (l : Loop) (d : List Float) → d ≡ directions l.rim → search_from (λ m j. direction_cost here l j) (length d) 0 big 0 ≡ loop_taken here l
-  loop_early_is l d e = loop_early here l (length d) big (ap length e) (omega (arith, loop_le here l (get_or (directions l.rim) 0 upwards), below))
+-- the search from a first limit above every cost
+pub loop_early_is : (s : Scene) (l : Loop) (d : List Float) (big : ℕ) → 20 * length s.centres + 6 * length s.boxes + 6 * length s.traces + 20 < big
+    → d ≡ directions l.rim → search_from (λ m j. direction_cost s l j) (length d) 0 big 0 ≡ loop_taken s l
+loop_early_is s l d big h e = loop_early s l (length d) big (ap length e) (omega (arith, loop_le s l (get_or (directions l.rim) 0 upwards), h))
 
 -- ---- directions as they are read
 

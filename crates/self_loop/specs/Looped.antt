@@ -7,6 +7,7 @@ use Rattle.laws.specs.Counting.{how_many}
 use Rattle.float.specs.Constants.{cramped_room, f1}
 use Rattle.float.specs.Ops.{lt}
 use Rattle.shape.specs.declared.«V».{«V»}
+use Rattle.shape.specs.Centres.{centre}
 use Rattle.shape.specs.Plane.{polar, angle}
 use Rattle.shape.specs.Curves.{tangent}
 use Rattle.trace.specs.Traces.{Trace, arrow, trace_of, near25}
@@ -19,6 +20,7 @@ use Rattle.scene.specs.Turn.{labelled_at}
 use Rattle.directions.specs.Directions.{directions, room, upwards}
 use Rattle.directions.specs.Lengths.{directions_some}
 use Rattle.directions.specs.Loop.{loop_curve}
+use Rattle.self_loop.specs.declared.Loop.{Loop as Given}
 -- a foreign trace that the loop crosses
 unfoldable pub use Rattle.trace.specs.Traces.{crossed}
 
@@ -33,6 +35,10 @@ pub record Loop : Type 0 where
 
 abbrev pub loop_of : ℕ → ℕ → «V» → List Float → Float → Float → Loop
 loop_of edge node c rim width height = record { edge = edge; node = node; centre = c; rim = rim; width = width; height = height }
+
+-- the loop of a turn in a scene
+abbrev pub loop_in : Scene → Given → Loop
+loop_in s l = loop_of l.edge l.node (centre s.centres l.node) l.taken.now l.width l.height
 
 -- ---- the drawing in a direction
 

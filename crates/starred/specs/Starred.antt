@@ -140,7 +140,7 @@ infixr 4 ◌also◌
 a also b = (a, b)
 
 pub starred : all_hold drawings
-unfolding Refusals.check_of Routing.numbered_from Routing.kept Routing.joined Routing.routes Routing.first_scene Routing.rim Routing.order Routing.drawing Routing.records Clutter.crossings Clutter.near24 Clutter.collides Clutter.collisions Clutter.clutter_of Meaning.start_from Ring.largest Ring.around_ring Ring.ringed Columns.successors Columns.elem Columns.discover Columns.explore Columns.columns_after Columns.reached Columns.unreached Columns.concat Columns.columns Sweeps.centre_column Sweeps.other_end Sweeps.neighbours Sweeps.slot_total Sweeps.barycentre Sweeps.ordered_column Sweeps.arrange Sweeps.sweep_down Sweeps.sweep_up Sweeps.four_sweeps Sweeps.swept Layered.column_gap Layered.row Layered.column_of Layered.layered_xs Layered.layered_ys Fit.state_points Fit.states_points Fit.drawn_points Fit.covered Fit.drawing_bounds Fit.shifted Layout.layers Layout.ring Layout.clutter_at Layout.is_dense Layout.is_tangled Layout.chosen Layout.fitted Layout.layout_of filter_by table Counting.how_many sorted zip_by extended bounds_of flat_map atan2 F.quarter F.arctangent_of F.arc_series F.root F.root_of F.round root_bits nearest_root whole_root try_digits scale down over num_text decimal rounded_size minus_text fraction D.digits D.digits_by overlaps touches spanning unit_or test side meets segment_hits_rect chord others_from intervals Free.inside_some Free.visit Free.pass Free.passes Free.first_free bend pair_bow Clear.verified Clear.first_that Clear.outdone Clear.nearest Clear.clearance up steps_from Ieee.add Ieee.sub Ieee.mul Ieee.div Ieee.neg Ieee.lt Ieee.le Ieee.eq Ieee.ne of_int round size span climb units odd sum of_bits of_fields to_bits to_unsigned count_trailing_zeros is_nan any_for any_up decide LawsAny.any_of Refusals.repeats Refusals.is_set Refusals.wrong_record Refusals.wrong_bytes Refusals.indices Refusals.wrong_chains Refusals.large_arrow Refusals.over_limits Refusals.ill_arrow Refusals.ill_formed Sheet.chain_by Sheet.met_line Sheet.met_arrow Sheet.met Sheet.line_of Sheet.lines_from Sheet.arrow_of Sheet.states_of Sheet.arrows_of Layout.takes_ring Beyond.is_beyond Beyond.beyond Measured.any_beyond Measured.measured Measured.layout_beyond
+unfolding Refusals.check_of Routing.numbered_from Routing.kept Routing.joined Routing.routes Routing.first_scene Routing.rim Routing.order Routing.drawing Routing.records Clutter.crossings Clutter.near24 Clutter.collides Clutter.collisions Clutter.clutter_of Meaning.start_from Ring.largest Ring.around_ring Ring.ringed Columns.successors Columns.elem Columns.discover Columns.explore Columns.columns_after Columns.reached Columns.unreached Columns.concat Columns.columns Sweeps.centre_column Sweeps.other_end Sweeps.neighbours Sweeps.slot_total Sweeps.barycentre Sweeps.ordered_column Sweeps.arrange Sweeps.sweep_down Sweeps.sweep_up Sweeps.four_sweeps Sweeps.swept Layered.column_gap Layered.row Layered.column_of Layered.layered_xs Layered.layered_ys Fit.state_points Fit.states_points Fit.drawn_points Fit.covered Fit.drawing_bounds Fit.shifted Layout.layers Layout.ring Layout.clutter_at Layout.is_dense Layout.is_tangled Layout.chosen Layout.fitted Layout.layout_of filter_by table Counting.how_many sorted zip_by extended bounds_of flat_map atan2 F.quarter F.arctangent_of F.arc_series F.root F.root_of F.round root_bits nearest_root whole_root try_digits scale down over num_text decimal rounded_size minus_text fraction D.digits D.digits_by overlaps touches spanning unit_or test side meets segment_hits_rect chord others_from intervals Free.visit Free.pass Free.passes Free.first_free bend pair_bow Clear.verified Clear.first_that Clear.outdone Clear.nearest Clear.clearance up steps_from Ieee.add Ieee.sub Ieee.mul Ieee.div Ieee.neg Ieee.lt Ieee.le Ieee.eq Ieee.ne of_int round size span climb units odd sum of_bits of_fields to_bits to_unsigned count_trailing_zeros is_nan any_for any_up decide LawsAny.any_of Refusals.repeats Refusals.is_set Refusals.wrong_record Refusals.wrong_bytes Refusals.indices Refusals.wrong_chains Refusals.large_arrow Refusals.over_limits Refusals.ill_arrow Refusals.ill_formed Sheet.chain_by Sheet.met_line Sheet.met_arrow Sheet.met Sheet.line_of Sheet.lines_from Sheet.arrow_of Sheet.states_of Sheet.arrows_of Layout.takes_ring Beyond.is_beyond Beyond.beyond Measured.any_beyond Measured.measured Measured.layout_beyond
 starred =
     lays empty_sheet 0 _ refl refl refl refl refl refl
     also lays empty_sheet 1 _ refl refl refl refl refl refl

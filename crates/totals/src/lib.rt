@@ -1,16 +1,15 @@
-// The numbers of the listing's last line, counted over the records of a drawing and the arrows of its sheet.
+// The numbers of the listing's last line, counted over a drawing and the arrows of its sheet.
 #![tactic(auto)]
 
 ghost use Rattle.std.specs.Prelude.{◌≡◌, ◌+◌, ◌*◌, ◌≤◌, ◌<◌, length};
-ghost use Rattle.laws.specs.Counting.{how_many, worth};
-ghost use Rattle.laws.specs.Flat.{part};
+ghost use Rattle.std.specs.List.{count_by};
 ghost use Rattle.laws.specs.Loops.{over};
 ghost use Rattle.sheet.specs.Sheet as G;
 ghost use Rattle.sheet.specs.Meaning.{ends_below};
-ghost use Rattle.records.specs.Records.{decode_geometry, decode_records};
 ghost use Rattle.totals.specs.Totals as S;
 ghost use Rattle.totals.specs.Arrows as W;
 
+use label_spots::Geometry;
 use reader::{Chain, record_at};
 use shape::Curve;
 use sheet::word_at;
@@ -37,34 +36,11 @@ fn point_count(curve: Curve) -> usize
     }
 }
 
-// 1 where the curve of record k has n points.
-fn points_add(records: &[f64], k: usize, n: usize) -> usize
-    requires { 20 * k + 20 ≤ length records.now }
-    ensures { let drawn = decode_geometry (part 20 k records.now) in
-        (result ≡ worth (S.has_points n) 1 drawn) × (result ≤ 1) }
+// How many of the arrows drawn have a curve of n points.
+fn with_points(drawn: &[Geometry], n: usize) -> usize
+    ensures { result ≡ count_by (S.has_points n) drawn.now }
 {
-    let g = records::geometry_at(records, k);
-    let curve = g.curve;
-    if point_count(curve) == n {
-        return 1;
-    }
-    0
-}
-
-// How many of the first `count` records have a curve of n points.
-fn with_points(records: &[f64], count: usize, n: usize) -> usize
-    requires { 20 * count ≤ length records.now }
-    ensures { result ≡ how_many (S.has_points n) (decode_records count records.now) }
-{
-    let mut sum: usize = 0;
-    let mut k: usize = 0;
-    let mut left = count;
-    while 0 < left {
-        sum += points_add(records, k, n);
-        k += 1;
-        left -= 1;
-    }
-    sum
+    drawn.iter().filter(|g| point_count(g.curve) == n).count()
 }
 
 // ---- the arrows of the sheet
@@ -136,18 +112,16 @@ fn count_arrows(s: &[u8], n: usize) -> ArrowCounts
 
 // ---- the totals
 
-// The totals of a sheet and of the first `count` records of its drawing.
-pub fn totals_of(s: &[u8], records: &[f64], count: usize) -> Totals
-    requires { 20 * count ≤ length records.now }
-    ensures { let drawn = decode_records count records.now in
-        result ≡ S.totals_of (G.meaning s.now) drawn }
+// The totals of a sheet and of its drawing.
+pub fn totals_of(s: &[u8], drawn: &[Geometry]) -> Totals
+    ensures { result ≡ S.totals_of (G.meaning s.now) drawn.now }
 {
     let n = meaning::state_count(s);
     let arrows = count_arrows(s, n);
     Totals {
-        straight: with_points(records, count, 2),
-        arcs: with_points(records, count, 3),
-        loops: with_points(records, count, 4),
+        straight: with_points(drawn, 2),
+        arcs: with_points(drawn, 3),
+        loops: with_points(drawn, 4),
         left_out: arrows.left_out,
         lines: arrows.lines,
     }

@@ -1,6 +1,6 @@
 -- A trace: a curve sampled as lines from point to point, with its bounds and its owner, and what it collides with.
-use Rattle.std.specs.Prelude.{ℕ, zero, suc, Bool, false, not, ◌&&◌, ◌||◌, List, [], ◌∷◌, ◌==◌}
-use Rattle.laws.specs.Loops.{over}
+use Rattle.std.specs.Prelude.{ℕ, Bool, false, not, ◌&&◌, List, [], ◌∷◌, drop, ◌==◌, Option, None, Some}
+use Rattle.std.specs.List.{list_any, zip, fold}
 use Rattle.laws.specs.Flat.{table}
 use Rattle.float.specs.Ops.{◌⊕◌, ◌⊘◌, lt, of_nat}
 use Rattle.float.specs.Constants.{f3, node_radius, samples_per_curve}
@@ -13,9 +13,14 @@ use Rattle.shape.specs.Curves.{at}
 use Rattle.shape.specs.Clipping.{segment_hits_rect, segments_cross}
 
 -- "A start arrow is a trace owned by no arrow."
-pub data Owner : Type 0 where
-  nobody : Owner
-  arrow : ℕ → Owner
+abbrev pub Owner : Type 0
+Owner = Option ℕ
+
+abbrev pub nobody : Owner
+nobody = None
+
+abbrev pub arrow : ℕ → Owner
+arrow n = Some n
 
 pub record Trace : Type 0 where
   pub owner : Owner
@@ -36,21 +41,16 @@ samples (Cubic p c d q) = table (sample (Cubic p c d q)) 0 17
 
 -- the smallest box that contains the points
 unfoldable pub bounds_of : List «V» → Rect
-bounds_of l = over extended no_bounds l
+bounds_of l = fold extended no_bounds l
 
 unfoldable pub trace_of : Owner → Curve → Trace
 trace_of o c = record { owner = o; points = samples c; bounds = bounds_of (samples c) }
 
 -- ---- owners
 
--- owners by number: 0 is nobody, n + 1 is arrow n
-abbrev pub owner_of : ℕ → Owner
-owner_of zero = nobody
-owner_of (suc n) = arrow n
-
 abbrev pub is_arrow : ℕ → Owner → Bool
-is_arrow n nobody = false
-is_arrow n (arrow m) = m == n
+is_arrow n None = false
+is_arrow n (Some m) = m == n
 
 -- "A foreign trace is one that the turn's arrow does not own."
 unfoldable pub foreign : ℕ → Trace → Bool
@@ -59,10 +59,8 @@ foreign n t = not (is_arrow n t.owner)
 -- ---- collisions; each is tested on the bounds first
 
 -- whether p holds of some point and the next
-unfoldable pub any_segment : («V» → «V» → Bool) → List «V» → Bool
-any_segment p [] = false
-any_segment p (a ∷ []) = false
-any_segment p (a ∷ b ∷ l) = p a b || any_segment p (b ∷ l)
+abbrev pub any_segment : («V» → «V» → Bool) → List «V» → Bool
+any_segment p l = list_any (λ (s : «V» × «V»). p s.0 s.1) (zip l (drop 1 l))
 
 abbrev pub segment_hits : Rect → «V» → «V» → Bool
 segment_hits r a b = segment_hits_rect a b r
@@ -91,15 +89,10 @@ struck own b t = foreign own t && hits_rect t b
 unfoldable pub crossed : ℕ → Trace → Trace → Bool
 crossed own looped t = foreign own t && crosses t looped
 
--- whether p holds of some point
-unfoldable pub any_point : («V» → Bool) → List «V» → Bool
-any_point p [] = false
-any_point p (a ∷ l) = p a || any_point p l
-
 -- a point is nearer to the centre o than a state's radius and 3
 unfoldable pub point_near : «V» → «V» → Bool
 point_near o p = lt (dist p o) (node_radius ⊕ f3)
 
 -- some point is
 unfoldable pub near25 : Trace → «V» → Bool
-near25 t o = any_point (point_near o) t.points
+near25 t o = list_any (point_near o) t.points

@@ -1,10 +1,8 @@
-// Curves sampled as lines from point to point, for collision tests. A trace is forty numbers of a lent slice:
-// the owner (0 for nobody, n + 1 for arrow n), the number of points, the bounds, and up to 17 points.
+// Curves sampled as lines from point to point, for collision tests.
 #![tactic(auto)]
 
-ghost use Rattle.std.specs.Prelude.{◌≡◌, ◌+◌, ◌*◌, ◌<◌, ◌≤◌, [], ◌∷◌, ◌++◌, length};
-ghost use Rattle.laws.specs.Flat.{part, table};
-ghost use Rattle.laws.specs.Put.{put};
+ghost use Rattle.std.specs.Prelude.{◌≡◌, ◌<◌, map};
+ghost use Rattle.std.specs.List.{list_any, range_with_len};
 ghost use Rattle.shape.specs.Plane.{touches};
 ghost use Rattle.trace.specs.Traces as S;
 ghost use Rattle.trace.specs.Form as F;
@@ -18,107 +16,13 @@ const SEGMENTS: f64 = SAMPLES as f64;
 
 pub const POINTS: usize = SAMPLES + 1;
 
-// The numbers of a trace.
-pub const TRACE_NUMBERS: usize = 40;
-
 // The square of the distance below which a loop comes too near to a state's centre.
 const NEAR25_SQUARED: f64 = (NODE_RADIUS + 3.0) * (NODE_RADIUS + 3.0);
 
-// ---- reading
-
-// The box in four numbers.
-pub fn rect_of(p: &[f64]) -> Rect
-    requires { 4 ≤ length p.now }
-    ensures { result ≡ F.decode_rect p.now }
-{
-    Rect {
-        x0: p[0],
-        y0: p[1],
-        x1: p[2],
-        y1: p[3],
-    }
-}
-
-// A float cut to a whole number; 0 outside -1 .. 2^64.
-pub fn whole_of(v: f64) -> usize
-    ensures { result ≡ F.whole_of v }
-{
-    if v > -1.0 {
-        if v < 18446744073709551616.0 {
-            return std::num::truncating_f64_to_u64(v) as usize;
-        }
-    }
-    0
-}
-
-// Whether the arrow does not own the trace.
-fn foreign(t: &[f64], own: usize) -> bool
-    requires { 40 ≤ length t.now }
-    ensures { result ≡ S.foreign own (F.decode_trace t.now) }
-{
-    let owner = whole_of(t[0]);
-    if owner == 0 {
-        return true;
-    }
-    owner - 1 != own
-}
-
-fn points_in(n: f64) -> usize
-    ensures { (result ≡ F.points_in n) × (0 < result) × (result ≤ 17) }
-{
-    if n == 2.0 {
-        return 2;
-    }
-    POINTS
-}
-
-fn bounds_of(t: &[f64]) -> Rect
-    requires { 40 ≤ length t.now }
-    ensures { result ≡ F.bounds_in t.now }
-{
-    Rect {
-        x0: t[2],
-        y0: t[3],
-        x1: t[4],
-        y1: t[5],
-    }
-}
-
-fn point_at(t: &[f64], k: usize) -> V
-    requires { 8 + 2 * k ≤ length t.now }
-    ensures { result ≡ F.trace_point t.now k }
-{
-    let at = 6 + 2 * k;
-    V {
-        x: t[at],
-        y: t[at + 1],
-    }
-}
-
-// ---- writing
-
-fn push_point(points: &mut [f64], n: usize, v: V) -> usize
-    requires { 2 * n + 2 ≤ length points.old }
-    ensures { (result ≡ n + 1)
-        × (F.decode_points result points.new ≡ F.decode_points n points.old ++ (v ∷ [])) }
-{
-    let at = 2 * n;
-    points[at] = v.x;
-    points[at + 1] = v.y;
-    n + 1
-}
-
-fn samples_in(c: Curve) -> usize
-    ensures { (result ≡ F.samples_in c) × (result ≤ 17) }
-{
-    match c {
-        Curve::Line(_, _) => 2,
-        Curve::Quad(_, _, _) => POINTS,
-        Curve::Cubic(_, _, _, _) => POINTS,
-    }
-}
+// ---- a curve's points
 
 // The point of the curve after k of its segments.
+#[tactic(auto, unfolding(crate::specs::Traces::sample))]
 pub fn sample(c: Curve, k: usize) -> V
     requires { k < 17 }
     ensures { result ≡ S.sample c k }
@@ -126,277 +30,189 @@ pub fn sample(c: Curve, k: usize) -> V
     c.at((k as f64) / SEGMENTS)
 }
 
-// Point k of the trace of a curve.
-fn sample_at(c: Curve, k: usize) -> V
-    requires { k < 17 }
-    ensures { result ≡ F.sample_at c k }
+fn samples(c: Curve) -> [V; POINTS]
+    ensures { result ≡ map (S.sample c) (range_with_len 0 17) }
 {
-    match c {
-        Curve::Line(p, q) => {
-            if k == 0 {
-                return p;
-            }
-            q
+    std::array::from_fn(|k| sample(c, k))
+}
+
+// The ends of a line, or the points of any other curve.
+#[derive(Clone, Copy)]
+pub enum Points {
+    Ends([V; 2]),
+    Samples([V; POINTS]),
+}
+
+impl Points {
+    #[tactic(auto, using(crate::proofs::Laws::curve_samples), unfolding(crate::specs::Traces::samples))]
+    pub fn of(c: Curve) -> Points
+        ensures { F.points_in result ≡ S.samples c }
+    {
+        match c {
+            Curve::Line(p, q) => Points::Ends([p, q]),
+            Curve::Quad(..) | Curve::Cubic(..) => Points::Samples(samples(c)),
         }
-        Curve::Quad(_, _, _) => sample(c, k),
-        Curve::Cubic(_, _, _, _) => sample(c, k),
     }
-}
 
-// The first n points of the trace, and their bounds.
-fn fill_points(points: &mut [f64], c: Curve, n: usize) -> Rect
-    requires { (n ≤ 17) × (34 ≤ length points.old) }
-    ensures { let samples = table (F.sample_at c) 0 n in
-        (F.decode_points n points.new ≡ samples) × (result ≡ S.bounds_of samples) }
-{
-    let mut b = Rect::empty();
-    let mut k: usize = 0;
-    while k < n {
-        let v = sample_at(c, k);
-        b = b.extended(v);
-        k = push_point(points, k, v);
-    }
-    b
-}
-
-fn put_header(p: &mut [f64], owner: usize, n: usize, b: Rect)
-    requires { (owner ≤ 65536) × (n ≤ 17) × (6 ≤ length p.old) }
-    ensures { p.new ≡ put p.old 0 (F.trace_head owner n b) }
-{
-    p[0] = owner as f64;
-    p[1] = n as f64;
-    p[2] = b.x0;
-    p[3] = b.y0;
-    p[4] = b.x1;
-    p[5] = b.y1;
-}
-
-// The trace of a curve.
-pub fn write_trace(part: &mut [f64], owner: usize, curve: Curve)
-    requires { (owner ≤ 65536) × (40 ≤ length part.old) }
-    ensures { F.decode_trace part.new ≡ S.trace_of (S.owner_of owner) curve }
-{
-    let n = samples_in(curve);
-    let b = fill_points(&mut part[6..], curve, n);
-    put_header(part, owner, n, b);
-}
-
-// One trace more, after n.
-pub fn push_trace(traces: &mut [f64], n: usize, owner: usize, curve: Curve) -> usize
-    requires { (owner ≤ 65536) × (40 * n + 40 ≤ length traces.old) }
-    ensures { (result ≡ n + 1)
-        × (F.decode_traces result traces.new
-        ≡ F.decode_traces n traces.old ++ (S.trace_of (S.owner_of owner) curve ∷ [])) }
-{
-    let at = TRACE_NUMBERS * n;
-    let end = at + TRACE_NUMBERS;
-    write_trace(&mut traces[at..end], owner, curve);
-    n + 1
-}
-
-// ---- collisions
-
-fn any_hit(t: &[f64], n: usize, r: Rect) -> bool
-    requires { (6 + 2 * n ≤ length t.now) × (0 < n) }
-    ensures { result ≡ S.any_segment (S.segment_hits r) (F.points_of n t.now) }
-{
-    let mut k: usize = 0;
-    let mut left = n;
-    while 1 < left {
-        let a = point_at(t, k);
-        let b = point_at(t, k + 1);
-        if shape::segment_hits_rect(a, b, r) {
-            return true;
+    pub fn as_slice(&self) -> &[V]
+        ensures { result.now ≡ F.points_in self.now }
+    {
+        match self {
+            Points::Ends(p) => p,
+            Points::Samples(p) => p,
         }
-        k += 1;
-        left -= 1;
     }
-    false
 }
 
-// Whether the bounds of the trace touch the box.
-fn reaches(t: &[f64], r: Rect) -> bool
-    requires { 40 ≤ length t.now }
-    ensures { result ≡ touches (F.bounds_in t.now) r }
+// The smallest box that contains the points.
+#[tactic(auto, unfolding(crate::specs::Traces::bounds_of))]
+fn bounds_of(points: &[V]) -> Rect
+    ensures { result ≡ S.bounds_of points.now }
 {
-    bounds_of(t).reaches(r)
+    points.iter().fold(Rect::empty(), |b, p| b.extended(*p))
 }
 
-// Whether the bounds of trace k of the slice touch the box. Where they do not the trace does not meet it.
-pub fn reaches_at(traces: &[f64], k: usize, r: Rect) -> bool
-    requires { 40 * k + 40 ≤ length traces.now }
-    ensures { result ≡ touches (F.bounds_in (part 40 k traces.now)) r }
+// Whether some segment from point to point meets the box.
+fn any_hit(points: &[V], r: Rect) -> bool
+    ensures { result ≡ S.any_segment (S.segment_hits r) points.now }
 {
-    let at = TRACE_NUMBERS * k;
-    let end = at + TRACE_NUMBERS;
-    reaches(&traces[at..end], r)
+    points
+        .iter()
+        .zip(points.iter().skip(1))
+        .any(|(a, b)| shape::segment_hits_rect(*a, *b, r))
 }
 
-// Whether the trace meets the box.
-fn hits_rect(t: &[f64], r: Rect) -> bool
-    requires { 40 ≤ length t.now }
-    ensures { result ≡ S.hits_rect (F.decode_trace t.now) r }
+// Whether some segment crosses the one from a to b, in the box ab.
+fn any_pair(points: &[V], ab: Rect, a: V, b: V) -> bool
+    ensures { result ≡ S.any_segment (S.pair_cross ab a b) points.now }
 {
-    if reaches(t, r) {
-        return any_hit(t, points_in(t[1]), r);
+    points
+        .iter()
+        .zip(points.iter().skip(1))
+        .any(|(c, d)| pair_cross(ab, a, b, *c, *d))
+}
+
+// Whether some segment crosses the trace.
+fn any_crossing(points: &[V], t: &Trace) -> bool
+    ensures { result ≡ S.any_segment (S.segment_crosses (F.trace_in t.now)) points.now }
+{
+    points
+        .iter()
+        .zip(points.iter().skip(1))
+        .any(|(a, b)| t.segment_crosses(*a, *b))
+}
+
+// Whether some point is near to a state's centre o.
+fn any_near(points: &[V], o: V) -> bool
+    ensures { result ≡ list_any (S.point_near o) points.now }
+{
+    points.iter().any(|p| point_near(o, *p))
+}
+
+// ---- traces
+
+// The trace of a curve, of the arrow that owns it; that of a start arrow is nobody's.
+#[derive(Clone, Copy)]
+pub struct Trace {
+    pub owner: Option<usize>,
+    pub bounds: Rect,
+    pub points: Points,
+}
+
+// What fills an array of traces before there are any.
+pub const NO_TRACE: Trace = Trace {
+    owner: None,
+    bounds: Rect {
+        x0: 0.0,
+        y0: 0.0,
+        x1: 0.0,
+        y1: 0.0,
+    },
+    points: Points::Ends([V { x: 0.0, y: 0.0 }; 2]),
+};
+
+impl Trace {
+    #[tactic(auto, unfolding(crate::specs::Traces::trace_of))]
+    pub fn of(owner: Option<usize>, curve: Curve) -> Trace
+        ensures { F.trace_in result ≡ S.trace_of owner curve }
+    {
+        let points = Points::of(curve);
+        Trace {
+            owner,
+            bounds: bounds_of(points.as_slice()),
+            points,
+        }
     }
-    false
-}
 
-// Whether the trace is not the arrow's own and meets the box.
-fn strikes(t: &[f64], own: usize, r: Rect) -> bool
-    requires { 40 ≤ length t.now }
-    ensures { result ≡ S.struck own r (F.decode_trace t.now) }
-{
-    if foreign(t, own) {
-        return hits_rect(t, r);
+    // Whether the arrow does not own the trace.
+    #[tactic(auto, unfolding(crate::specs::Traces::foreign))]
+    fn foreign(&self, own: usize) -> bool
+        ensures { result ≡ S.foreign own (F.trace_in self.now) }
+    {
+        self.owner != Some(own)
     }
-    false
-}
 
-// The same of trace k of the slice.
-pub fn strikes_at(traces: &[f64], k: usize, own: usize, r: Rect) -> bool
-    requires { 40 * k + 40 ≤ length traces.now }
-    ensures { result ≡ S.struck own r (F.decode_trace (part 40 k traces.now)) }
-{
-    let at = TRACE_NUMBERS * k;
-    let end = at + TRACE_NUMBERS;
-    strikes(&traces[at..end], own, r)
+    // Whether the bounds touch the box. Where they do not the trace does not meet it.
+    fn reaches(&self, r: Rect) -> bool
+        ensures { result ≡ touches self.now.bounds r }
+    {
+        self.bounds.reaches(r)
+    }
+
+    // Whether the trace is not the arrow's own and meets the box; its bounds are tested first.
+    #[tactic(auto, using(crate::proofs::Laws::apart_struck), unfolding(crate::specs::Traces::struck, crate::specs::Traces::hits_rect))]
+    pub fn strikes(&self, own: usize, r: Rect) -> bool
+        ensures { result ≡ S.struck own r (F.trace_in self.now) }
+    {
+        self.reaches(r) && self.foreign(own) && any_hit(self.points.as_slice(), r)
+    }
+
+    // Whether the segment from a to b crosses one of the trace.
+    #[tactic(auto, unfolding(crate::specs::Traces::segment_crosses))]
+    fn segment_crosses(&self, a: V, b: V) -> bool
+        ensures { result ≡ S.segment_crosses (F.trace_in self.now) a b }
+    {
+        let ab = Rect::spanning(a, b);
+        ab.touches(self.bounds) && any_pair(self.points.as_slice(), ab, a, b)
+    }
+
+    // Whether two traces cross.
+    #[tactic(auto, unfolding(crate::specs::Traces::crosses))]
+    pub fn crosses(&self, t: &Trace) -> bool
+        ensures { result ≡ S.crosses (F.trace_in self.now) (F.trace_in t.now) }
+    {
+        self.bounds.touches(t.bounds) && any_crossing(self.points.as_slice(), t)
+    }
+
+    // Whether the trace is not the arrow's own and crosses the loop.
+    #[tactic(auto, using(crate::proofs::Laws::apart_crossed), unfolding(crate::specs::Traces::crossed))]
+    pub fn crossed(&self, own: usize, looped: &Trace) -> bool
+        ensures { result ≡ S.crossed own (F.trace_in looped.now) (F.trace_in self.now) }
+    {
+        self.reaches(looped.bounds) && self.foreign(own) && self.crosses(looped)
+    }
+
+    // Whether a point of the trace is near to a state's centre o.
+    #[tactic(auto, unfolding(crate::specs::Traces::near25))]
+    pub fn near(&self, o: V) -> bool
+        ensures { result ≡ S.near25 (F.trace_in self.now) o }
+    {
+        any_near(self.points.as_slice(), o)
+    }
 }
 
 // Whether the segment from a to b, in the box ab, crosses the one from c to d.
+#[tactic(auto, unfolding(crate::specs::Traces::pair_cross))]
 fn pair_cross(ab: Rect, a: V, b: V, c: V, d: V) -> bool
     ensures { result ≡ S.pair_cross ab a b c d }
 {
-    if ab.touches(Rect::spanning(c, d)) {
-        return shape::segments_cross(a, b, c, d);
-    }
-    false
-}
-
-fn any_pair(t: &[f64], n: usize, ab: Rect, a: V, b: V) -> bool
-    requires { (6 + 2 * n ≤ length t.now) × (0 < n) }
-    ensures { result ≡ S.any_segment (S.pair_cross ab a b) (F.points_of n t.now) }
-{
-    let mut k: usize = 0;
-    let mut left = n;
-    while 1 < left {
-        let c = point_at(t, k);
-        let d = point_at(t, k + 1);
-        if pair_cross(ab, a, b, c, d) {
-            return true;
-        }
-        k += 1;
-        left -= 1;
-    }
-    false
-}
-
-fn segment_crosses(t: &[f64], a: V, b: V) -> bool
-    requires { 40 ≤ length t.now }
-    ensures { result ≡ S.segment_crosses (F.decode_trace t.now) a b }
-{
-    let ab = Rect::spanning(a, b);
-    if ab.touches(bounds_of(t)) {
-        return any_pair(t, points_in(t[1]), ab, a, b);
-    }
-    false
-}
-
-fn any_crossing(s: &[f64], n: usize, t: &[f64]) -> bool
-    requires { (6 + 2 * n ≤ length s.now) × (0 < n) × (40 ≤ length t.now) }
-    ensures { result ≡ S.any_segment (S.segment_crosses (F.decode_trace t.now)) (F.points_of n s.now) }
-{
-    let mut k: usize = 0;
-    let mut left = n;
-    while 1 < left {
-        let a = point_at(s, k);
-        let b = point_at(s, k + 1);
-        if segment_crosses(t, a, b) {
-            return true;
-        }
-        k += 1;
-        left -= 1;
-    }
-    false
-}
-
-// Whether two traces cross.
-fn crosses(s: &[f64], t: &[f64]) -> bool
-    requires { (40 ≤ length s.now) × (40 ≤ length t.now) }
-    ensures { result ≡ S.crosses (F.decode_trace s.now) (F.decode_trace t.now) }
-{
-    if bounds_of(s).touches(bounds_of(t)) {
-        return any_crossing(s, points_in(s[1]), t);
-    }
-    false
-}
-
-// Whether traces i and j of the slice cross.
-pub fn crosses_at(traces: &[f64], i: usize, j: usize) -> bool
-    requires { (40 * i + 40 ≤ length traces.now) × (40 * j + 40 ≤ length traces.now) }
-    ensures { let one = F.decode_trace (part 40 i traces.now) in
-        let other = F.decode_trace (part 40 j traces.now) in
-        result ≡ S.crosses one other }
-{
-    let a = TRACE_NUMBERS * i;
-    let b = TRACE_NUMBERS * j;
-    let a_end = a + TRACE_NUMBERS;
-    let b_end = b + TRACE_NUMBERS;
-    crosses(&traces[a..a_end], &traces[b..b_end])
-}
-
-// Whether the trace is not the arrow's own and crosses the loop.
-fn crossed(t: &[f64], own: usize, looped: &[f64]) -> bool
-    requires { (40 ≤ length t.now) × (40 ≤ length looped.now) }
-    ensures { result ≡ S.crossed own (F.decode_trace looped.now) (F.decode_trace t.now) }
-{
-    if reaches(t, bounds_of(looped)) {
-        if foreign(t, own) {
-            return crosses(t, looped);
-        }
-    }
-    false
-}
-
-// The same of trace k of the slice.
-pub fn crossed_at(traces: &[f64], k: usize, own: usize, looped: &[f64]) -> bool
-    requires { (40 * k + 40 ≤ length traces.now) × (40 ≤ length looped.now) }
-    ensures { let met = F.decode_trace (part 40 k traces.now) in
-        result ≡ S.crossed own (F.decode_trace looped.now) met }
-{
-    let at = TRACE_NUMBERS * k;
-    let end = at + TRACE_NUMBERS;
-    crossed(&traces[at..end], own, looped)
+    ab.touches(Rect::spanning(c, d)) && shape::segments_cross(a, b, c, d)
 }
 
 // Whether p is nearer to a state's centre o than its radius and 3, by the squares.
+#[tactic(auto, using(crate::specs::Near::point_near_squared))]
 fn point_near(o: V, p: V) -> bool
     ensures { result ≡ S.point_near o p }
 {
     p.dist_squared(o) < NEAR25_SQUARED
-}
-
-fn any_near(t: &[f64], n: usize, o: V) -> bool
-    requires { 6 + 2 * n ≤ length t.now }
-    ensures { result ≡ S.any_point (S.point_near o) (F.points_of n t.now) }
-{
-    let mut k: usize = 0;
-    let mut left = n;
-    while 0 < left {
-        if point_near(o, point_at(t, k)) {
-            return true;
-        }
-        k += 1;
-        left -= 1;
-    }
-    false
-}
-
-// Whether a point of the trace is.
-pub fn near(t: &[f64], o: V) -> bool
-    requires { 40 ≤ length t.now }
-    ensures { result ≡ S.near25 (F.decode_trace t.now) o }
-{
-    any_near(t, points_in(t[1]), o)
 }

@@ -109,7 +109,7 @@ pub record Computed : Type 0 where
   pub paths_ok : paths_writable small_records ≡ true
 
 pub computed : Computed
-unfolding flat_map count_trailing_zeros LawsBest.best LawsBest.total_from LawsCounting.how_many LawsFilter.filter_by LawsFlat.table LawsLoops.steps_from LawsLoops.up LawsLoops.down LawsLoops.over LawsRun.run LawsSort.insert LawsSort.sorted LawsZip.zip_by RootRoot.try_digits RootRoot.whole_root RootRoot.nearest_root RootRoot.scale RootRoot.root_bits FloatStandins.root_of FloatStandins.root FloatStandins.round FloatStandins.reduced FloatStandins.series FloatStandins.sin FloatStandins.cos FloatStandins.arc_series FloatStandins.arctangent_of FloatStandins.quarter FloatStandins.atan2 TextUtf8.payload TextUtf8.codes_from TextDigits.digits_by TextDigits.digits LawsAny.any_of LabelLabel.char_width LabelLabel.line_width LabelLabel.wider_line ShapeClipping.test ShapeClipping.side ShapeClipping.meets ShapeClipping.segment_hits_rect ShapeCurves.at ShapeCurves.tangent ShapePlane.unit_or ShapePlane.overlaps ShapePlane.touches ShapePlane.spanning ShapePlane.outside TraceTraces.sample TraceTraces.samples TraceTraces.bounds_of TraceTraces.trace_of TraceTraces.foreign TraceTraces.any_segment TraceTraces.hits_rect FreeBlocked.intervals FreeChords.chord FreeChords.others_from FreeFree.inside_some BowBend.single_bow BowBend.bend BowLeads.leads BowBetween.straight BowBetween.with_bow BowBetween.between SpotLabels.place_label SpotLabels.labelled SpotSpots.normal SpotSpots.is_up SpotSpots.upper SpotSpots.line_spot SpotSpots.label_spots PlaceScene.near26 PlaceScene.struck PlaceScene.box_cost PlaceTurn.box_at RoutingRouting.numbered_from RoutingRouting.kept RoutingRouting.joined RoutingRouting.routes RoutingRouting.first_scene RoutingRouting.order RoutingRouting.drawing RoutingRouting.records RoutingSheets.frame_of ClutterClutter.crossings ClutterClutter.near24 ClutterClutter.collides ClutterClutter.collisions ClutterClutter.clutter_of SheetMeaning.start_from RingRing.largest RingRing.around_ring RingRing.ringed ColumnsColumns.successors ColumnsColumns.elem ColumnsColumns.discover ColumnsColumns.explore ColumnsColumns.columns_after ColumnsColumns.reached ColumnsColumns.unreached ColumnsColumns.concat ColumnsColumns.columns SweepSweeps.centre_column SweepSweeps.other_end SweepSweeps.neighbours SweepSweeps.slot_total SweepSweeps.barycentre SweepSweeps.ordered_column SweepSweeps.arrange SweepSweeps.sweep_down SweepSweeps.sweep_up SweepSweeps.four_sweeps SweepSweeps.swept LayeredLayered.column_gap LayeredLayered.row LayeredLayered.column_of LayeredLayered.layered_xs LayeredLayered.layered_ys FitFit.state_points FitFit.states_points FitFit.drawn_points FitFit.covered FitFit.drawing_bounds FitFit.shifted LayoutLayout.layers LayoutLayout.ring LayoutLayout.clutter_at LayoutLayout.is_dense LayoutLayout.is_tangled LayoutLayout.chosen LayoutLayout.fitted LayoutLayout.layout_of NumberNumber.rounded_size NumberNumber.minus_text NumberNumber.fraction NumberNumber.decimal NumberNumber.num_text SvgPaths.head_of SvgPaths.point_text SvgPaths.points_text SvgPaths.more_text SvgPaths.path_text SvgPaths.curve_text SvgPaths.head_text SvgPaths.points_writable SvgPaths.path_writable LawsEvery.every TotalsTotals.totals_of LinesLines.path_line LinesLines.paths_text LinesLines.paths_of LinesLines.field_text LinesLines.fields_text LinesLines.body_text LinesLines.line_text LinesLines.lines_text LinesLines.field_writable LinesLines.fields_writable LinesLines.line_writable LinesLines.lines_writable LinesLines.starts LinesLines.list_lines LinesLines.paths_writable LinesLines.states_from LinesLines.list_text LinesLines.list_writable DrawDrawn.far_centre Ieee.add Ieee.sub Ieee.mul Ieee.div Ieee.rem Ieee.neg Ieee.lt Ieee.le Ieee.eq Ieee.ne Ieee.of_int Ieee.round Ieee.size Ieee.span Ieee.climb Ieee.units Ieee.odd Ieee.sum Ieee.of_bits Ieee.of_fields Ieee.to_bits Ieee.to_unsigned Ieee.is_nan BeyondBeyond.is_beyond BeyondBeyond.beyond LayoutLayout.takes_ring PlanMeasured.any_beyond PlanMeasured.measured PlanMeasured.layout_beyond ShapePlane.extended
+unfolding flat_map count_trailing_zeros LawsBest.best LawsBest.total_from LawsCounting.how_many LawsFilter.filter_by LawsFlat.table LawsLoops.steps_from LawsLoops.up LawsLoops.down LawsLoops.over LawsRun.run LawsSort.insert LawsSort.sorted LawsZip.zip_by RootRoot.try_digits RootRoot.whole_root RootRoot.nearest_root RootRoot.scale RootRoot.root_bits FloatStandins.root_of FloatStandins.root FloatStandins.round FloatStandins.reduced FloatStandins.series FloatStandins.sin FloatStandins.cos FloatStandins.arc_series FloatStandins.arctangent_of FloatStandins.quarter FloatStandins.atan2 TextUtf8.payload TextUtf8.codes_from TextDigits.digits_by TextDigits.digits LawsAny.any_of LabelLabel.char_width LabelLabel.line_width LabelLabel.wider_line ShapeClipping.test ShapeClipping.side ShapeClipping.meets ShapeClipping.segment_hits_rect ShapeCurves.at ShapeCurves.tangent ShapePlane.unit_or ShapePlane.overlaps ShapePlane.touches ShapePlane.spanning ShapePlane.outside TraceTraces.sample TraceTraces.samples TraceTraces.bounds_of TraceTraces.trace_of TraceTraces.foreign TraceTraces.hits_rect FreeBlocked.intervals FreeChords.chord FreeChords.others_from BowBend.single_bow BowBend.bend BowLeads.leads BowBetween.straight BowBetween.with_bow BowBetween.between SpotLabels.place_label SpotLabels.labelled SpotSpots.normal SpotSpots.is_up SpotSpots.upper SpotSpots.line_spot SpotSpots.label_spots PlaceScene.near26 PlaceScene.struck PlaceScene.box_cost PlaceTurn.box_at RoutingRouting.numbered_from RoutingRouting.kept RoutingRouting.joined RoutingRouting.routes RoutingRouting.first_scene RoutingRouting.order RoutingRouting.drawing RoutingRouting.records RoutingSheets.frame_of ClutterClutter.crossings ClutterClutter.near24 ClutterClutter.collides ClutterClutter.collisions ClutterClutter.clutter_of SheetMeaning.start_from RingRing.largest RingRing.around_ring RingRing.ringed ColumnsColumns.successors ColumnsColumns.elem ColumnsColumns.discover ColumnsColumns.explore ColumnsColumns.columns_after ColumnsColumns.reached ColumnsColumns.unreached ColumnsColumns.concat ColumnsColumns.columns SweepSweeps.centre_column SweepSweeps.other_end SweepSweeps.neighbours SweepSweeps.slot_total SweepSweeps.barycentre SweepSweeps.ordered_column SweepSweeps.arrange SweepSweeps.sweep_down SweepSweeps.sweep_up SweepSweeps.four_sweeps SweepSweeps.swept LayeredLayered.column_gap LayeredLayered.row LayeredLayered.column_of LayeredLayered.layered_xs LayeredLayered.layered_ys FitFit.state_points FitFit.states_points FitFit.drawn_points FitFit.covered FitFit.drawing_bounds FitFit.shifted LayoutLayout.layers LayoutLayout.ring LayoutLayout.clutter_at LayoutLayout.is_dense LayoutLayout.is_tangled LayoutLayout.chosen LayoutLayout.fitted LayoutLayout.layout_of NumberNumber.rounded_size NumberNumber.minus_text NumberNumber.fraction NumberNumber.decimal NumberNumber.num_text SvgPaths.head_of SvgPaths.point_text SvgPaths.points_text SvgPaths.more_text SvgPaths.path_text SvgPaths.curve_text SvgPaths.head_text SvgPaths.points_writable SvgPaths.path_writable LawsEvery.every TotalsTotals.totals_of LinesLines.path_line LinesLines.paths_text LinesLines.paths_of LinesLines.field_text LinesLines.fields_text LinesLines.body_text LinesLines.line_text LinesLines.lines_text LinesLines.field_writable LinesLines.fields_writable LinesLines.line_writable LinesLines.lines_writable LinesLines.starts LinesLines.list_lines LinesLines.paths_writable LinesLines.states_from LinesLines.list_text LinesLines.list_writable DrawDrawn.far_centre Ieee.add Ieee.sub Ieee.mul Ieee.div Ieee.rem Ieee.neg Ieee.lt Ieee.le Ieee.eq Ieee.ne Ieee.of_int Ieee.round Ieee.size Ieee.span Ieee.climb Ieee.units Ieee.odd Ieee.sum Ieee.of_bits Ieee.of_fields Ieee.to_bits Ieee.to_unsigned Ieee.is_nan BeyondBeyond.is_beyond BeyondBeyond.beyond LayoutLayout.takes_ring PlanMeasured.any_beyond PlanMeasured.measured PlanMeasured.layout_beyond ShapePlane.extended
 computed = record {
   small = record { laid = refl; within = refl; near = refl; single = refl; text = refl; text_ok = refl };
   none = record { laid = refl; within = refl; near = refl; single = refl; text = refl; text_ok = refl };

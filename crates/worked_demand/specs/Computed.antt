@@ -109,7 +109,7 @@ pub record ComputedCall (c : Call) (l : List ℕ) (ps : List ℕ) (anchors : Lis
   pub anchor : map (number_at c ps 15) (0 ∷ 1 ∷ 2 ∷ 3 ∷ []) ≡ map of_nat anchors
 
 pub first-drawn : ComputedCall first one_letter (0 ∷ 0 ∷ 0 ∷ 0 ∷ []) (1 ∷ 1 ∷ 1 ∷ 0 ∷ [])
-unfolding capped_limits flat_map count_trailing_zeros LawsBest.best LawsBest.total_from LawsCounting.how_many LawsFilter.filter_by LawsFlat.table LawsLoops.steps_from LawsLoops.up LawsLoops.down LawsLoops.any_for LawsLoops.any_up LawsLoops.over LawsRefusals.decide LawsRun.run LawsRun.run_scene LawsSort.insert LawsSort.sorted LawsSort.place_from LawsSort.carry LawsSort.pairs LawsZip.zip_by RootRoot.try_digits RootRoot.whole_root RootRoot.nearest_root RootRoot.scale RootRoot.root_bits FloatStandins.root_of FloatStandins.root FloatStandins.round FloatStandins.reduced FloatStandins.series FloatStandins.sin FloatStandins.cos FloatStandins.arc_series FloatStandins.arctangent_of FloatStandins.quarter FloatStandins.atan2 FloatStandins.precedes TextUtf8.payload TextUtf8.codes_from TextDigits.digits_by TextDigits.digits TextDigits.value SheetSheet.chain_by SheetSheet.met_line SheetSheet.met_arrow SheetSheet.met SheetSheet.line_of SheetSheet.lines_from SheetSheet.arrow_of SheetSheet.states_of SheetSheet.arrows_of LawsAny.any_of SheetRefusals.repeats SheetRefusals.is_set SheetRefusals.wrong_record SheetRefusals.wrong_bytes SheetRefusals.indices SheetRefusals.wrong_chains SheetRefusals.large_arrow SheetRefusals.over_limits SheetRefusals.ill_arrow SheetRefusals.ill_formed SheetRefusals.check_of LabelLabel.char_width LabelLabel.line_width LabelLabel.wider_line ShapeClipping.test ShapeClipping.side ShapeClipping.meets ShapeClipping.segment_hits_rect ShapeClipping.segments_cross ShapeCurves.at ShapeCurves.tangent ShapePlane.unit_or ShapePlane.overlaps ShapePlane.touches ShapePlane.spanning ShapePlane.outside TraceTraces.sample TraceTraces.samples TraceTraces.bounds_of TraceTraces.trace_of TraceTraces.foreign TraceTraces.any_segment TraceTraces.hits_rect TraceTraces.pair_cross TraceTraces.segment_crosses TraceTraces.crosses TraceTraces.any_point TraceTraces.point_near TraceTraces.near25 FreeBlocked.intervals FreeChords.chord FreeChords.others_from FreeFree.inside_some FreeFree.visit FreeFree.pass FreeFree.passes FreeFree.first_free BowClear.nearest BowClear.clearance BowClear.outdone BowClear.first_that BowClear.verified BowBend.pair_bow BowBend.single_bow BowBend.bend BowLeads.leads BowBetween.straight BowBetween.bowed BowBetween.with_bow BowBetween.between SpotLabels.side_of SpotLabels.place_label SpotLabels.labelled SpotSpots.normal SpotSpots.is_up SpotSpots.upper SpotSpots.line_spot SpotSpots.arc_spot SpotSpots.label_spots PlaceScene.near26 PlaceScene.struck PlaceScene.box_cost PlaceTurn.box_at PlaceTurn.taken RimDirections.angle_between RimDirections.room RimDirections.first_directions RimDirections.rim_in_order RimDirections.nexts RimDirections.gaps RimDirections.by_width RimDirections.middles RimDirections.found RimDirections.directions RimLoop.on_circle RimLoop.loop_curve LoopedLooped.loop_at LoopedLooped.states_but LoopedLooped.crossed LoopedLooped.cramped LoopedLooped.loop_adds LoopedLooped.loop_cost LoopedLooped.loop_taken RoutingRouting.numbered_from RoutingRouting.kept RoutingRouting.joined BeyondBeyond.beyond BeyondBeyond.is_beyond RoutingRouting.routes RoutingRouting.first_scene RoutingRouting.rim RoutingRouting.order RoutingRouting.drawing RoutingRouting.records RoutingSheets.frame_of NumberNumber.rounded_size NumberNumber.minus_text NumberNumber.fraction NumberNumber.decimal NumberNumber.num_text NumberNumber.written NumberNumber.written_after SvgPaths.point_text SvgPaths.points_text SvgPaths.more_text SvgPaths.path_text SvgPaths.curve_text SvgPaths.points_writable SvgPaths.path_writable LawsEvery.every LinesLines.path_line LinesLines.paths_text LinesLines.paths_of LinesLines.paths_writable DrawDrawn.far_centre Ieee.add Ieee.sub Ieee.mul Ieee.div Ieee.rem Ieee.neg Ieee.lt Ieee.le Ieee.eq Ieee.ne Ieee.of_int Ieee.round Ieee.size Ieee.span Ieee.climb Ieee.units Ieee.odd Ieee.sum Ieee.of_bits Ieee.of_fields Ieee.to_bits Ieee.to_unsigned Ieee.is_nan ShapePlane.extended
+unfolding capped_limits flat_map count_trailing_zeros LawsBest.best LawsBest.total_from LawsCounting.how_many LawsFilter.filter_by LawsFlat.table LawsLoops.steps_from LawsLoops.up LawsLoops.down LawsLoops.any_for LawsLoops.any_up LawsLoops.over LawsRefusals.decide LawsRun.run LawsRun.run_scene LawsSort.insert LawsSort.sorted LawsSort.place_from LawsSort.carry LawsSort.pairs LawsZip.zip_by RootRoot.try_digits RootRoot.whole_root RootRoot.nearest_root RootRoot.scale RootRoot.root_bits FloatStandins.root_of FloatStandins.root FloatStandins.round FloatStandins.reduced FloatStandins.series FloatStandins.sin FloatStandins.cos FloatStandins.arc_series FloatStandins.arctangent_of FloatStandins.quarter FloatStandins.atan2 FloatStandins.precedes TextUtf8.payload TextUtf8.codes_from TextDigits.digits_by TextDigits.digits TextDigits.value SheetSheet.chain_by SheetSheet.met_line SheetSheet.met_arrow SheetSheet.met SheetSheet.line_of SheetSheet.lines_from SheetSheet.arrow_of SheetSheet.states_of SheetSheet.arrows_of LawsAny.any_of SheetRefusals.repeats SheetRefusals.is_set SheetRefusals.wrong_record SheetRefusals.wrong_bytes SheetRefusals.indices SheetRefusals.wrong_chains SheetRefusals.large_arrow SheetRefusals.over_limits SheetRefusals.ill_arrow SheetRefusals.ill_formed SheetRefusals.check_of LabelLabel.char_width LabelLabel.line_width LabelLabel.wider_line ShapeClipping.test ShapeClipping.side ShapeClipping.meets ShapeClipping.segment_hits_rect ShapeClipping.segments_cross ShapeCurves.at ShapeCurves.tangent ShapePlane.unit_or ShapePlane.overlaps ShapePlane.touches ShapePlane.spanning ShapePlane.outside TraceTraces.sample TraceTraces.samples TraceTraces.bounds_of TraceTraces.trace_of TraceTraces.foreign TraceTraces.hits_rect TraceTraces.pair_cross TraceTraces.segment_crosses TraceTraces.crosses TraceTraces.point_near TraceTraces.near25 FreeBlocked.intervals FreeChords.chord FreeChords.others_from FreeFree.visit FreeFree.pass FreeFree.passes FreeFree.first_free BowClear.nearest BowClear.clearance BowClear.outdone BowClear.first_that BowClear.verified BowBend.pair_bow BowBend.single_bow BowBend.bend BowLeads.leads BowBetween.straight BowBetween.bowed BowBetween.with_bow BowBetween.between SpotLabels.side_of SpotLabels.place_label SpotLabels.labelled SpotSpots.normal SpotSpots.is_up SpotSpots.upper SpotSpots.line_spot SpotSpots.arc_spot SpotSpots.label_spots PlaceScene.near26 PlaceScene.struck PlaceScene.box_cost PlaceTurn.box_at PlaceTurn.taken RimDirections.angle_between RimDirections.room RimDirections.first_directions RimDirections.rim_in_order RimDirections.nexts RimDirections.gaps RimDirections.by_width RimDirections.middles RimDirections.found RimDirections.directions RimLoop.on_circle RimLoop.loop_curve LoopedLooped.loop_at LoopedLooped.states_but LoopedLooped.crossed LoopedLooped.cramped LoopedLooped.loop_adds LoopedLooped.loop_cost LoopedLooped.loop_taken RoutingRouting.numbered_from RoutingRouting.kept RoutingRouting.joined BeyondBeyond.beyond BeyondBeyond.is_beyond RoutingRouting.routes RoutingRouting.first_scene RoutingRouting.rim RoutingRouting.order RoutingRouting.drawing RoutingRouting.records RoutingSheets.frame_of NumberNumber.rounded_size NumberNumber.minus_text NumberNumber.fraction NumberNumber.decimal NumberNumber.num_text NumberNumber.written NumberNumber.written_after SvgPaths.point_text SvgPaths.points_text SvgPaths.more_text SvgPaths.path_text SvgPaths.curve_text SvgPaths.points_writable SvgPaths.path_writable LawsEvery.every LinesLines.path_line LinesLines.paths_text LinesLines.paths_of LinesLines.paths_writable DrawDrawn.far_centre Ieee.add Ieee.sub Ieee.mul Ieee.div Ieee.rem Ieee.neg Ieee.lt Ieee.le Ieee.eq Ieee.ne Ieee.of_int Ieee.round Ieee.size Ieee.span Ieee.climb Ieee.units Ieee.odd Ieee.sum Ieee.of_bits Ieee.of_fields Ieee.to_bits Ieee.to_unsigned Ieee.is_nan ShapePlane.extended
 first-drawn = record {
   states = refl;
   sources = refl;
@@ -129,7 +129,7 @@ first-drawn = record {
 
 -- the straight arrow's label, at turn 3, has its first place taken
 pub second-drawn : ComputedCall second twelve_letters (0 ∷ 0 ∷ 0 ∷ 1 ∷ []) (1 ∷ 1 ∷ 1 ∷ 2 ∷ [])
-unfolding capped_limits flat_map count_trailing_zeros LawsBest.best LawsBest.total_from LawsCounting.how_many LawsFilter.filter_by LawsFlat.table LawsLoops.steps_from LawsLoops.up LawsLoops.down LawsLoops.any_for LawsLoops.any_up LawsLoops.over LawsRefusals.decide LawsRun.run LawsRun.run_scene LawsSort.insert LawsSort.sorted LawsSort.place_from LawsSort.carry LawsSort.pairs LawsZip.zip_by RootRoot.try_digits RootRoot.whole_root RootRoot.nearest_root RootRoot.scale RootRoot.root_bits FloatStandins.root_of FloatStandins.root FloatStandins.round FloatStandins.reduced FloatStandins.series FloatStandins.sin FloatStandins.cos FloatStandins.arc_series FloatStandins.arctangent_of FloatStandins.quarter FloatStandins.atan2 FloatStandins.precedes TextUtf8.payload TextUtf8.codes_from TextDigits.digits_by TextDigits.digits TextDigits.value SheetSheet.chain_by SheetSheet.met_line SheetSheet.met_arrow SheetSheet.met SheetSheet.line_of SheetSheet.lines_from SheetSheet.arrow_of SheetSheet.states_of SheetSheet.arrows_of LawsAny.any_of SheetRefusals.repeats SheetRefusals.is_set SheetRefusals.wrong_record SheetRefusals.wrong_bytes SheetRefusals.indices SheetRefusals.wrong_chains SheetRefusals.large_arrow SheetRefusals.over_limits SheetRefusals.ill_arrow SheetRefusals.ill_formed SheetRefusals.check_of LabelLabel.char_width LabelLabel.line_width LabelLabel.wider_line ShapeClipping.test ShapeClipping.side ShapeClipping.meets ShapeClipping.segment_hits_rect ShapeClipping.segments_cross ShapeCurves.at ShapeCurves.tangent ShapePlane.unit_or ShapePlane.overlaps ShapePlane.touches ShapePlane.spanning ShapePlane.outside TraceTraces.sample TraceTraces.samples TraceTraces.bounds_of TraceTraces.trace_of TraceTraces.foreign TraceTraces.any_segment TraceTraces.hits_rect TraceTraces.pair_cross TraceTraces.segment_crosses TraceTraces.crosses TraceTraces.any_point TraceTraces.point_near TraceTraces.near25 FreeBlocked.intervals FreeChords.chord FreeChords.others_from FreeFree.inside_some FreeFree.visit FreeFree.pass FreeFree.passes FreeFree.first_free BowClear.nearest BowClear.clearance BowClear.outdone BowClear.first_that BowClear.verified BowBend.pair_bow BowBend.single_bow BowBend.bend BowLeads.leads BowBetween.straight BowBetween.bowed BowBetween.with_bow BowBetween.between SpotLabels.side_of SpotLabels.place_label SpotLabels.labelled SpotSpots.normal SpotSpots.is_up SpotSpots.upper SpotSpots.line_spot SpotSpots.arc_spot SpotSpots.label_spots PlaceScene.near26 PlaceScene.struck PlaceScene.box_cost PlaceTurn.box_at PlaceTurn.taken RimDirections.angle_between RimDirections.room RimDirections.first_directions RimDirections.rim_in_order RimDirections.nexts RimDirections.gaps RimDirections.by_width RimDirections.middles RimDirections.found RimDirections.directions RimLoop.on_circle RimLoop.loop_curve LoopedLooped.loop_at LoopedLooped.states_but LoopedLooped.crossed LoopedLooped.cramped LoopedLooped.loop_adds LoopedLooped.loop_cost LoopedLooped.loop_taken RoutingRouting.numbered_from RoutingRouting.kept RoutingRouting.joined BeyondBeyond.beyond BeyondBeyond.is_beyond RoutingRouting.routes RoutingRouting.first_scene RoutingRouting.rim RoutingRouting.order RoutingRouting.drawing RoutingRouting.records RoutingSheets.frame_of NumberNumber.rounded_size NumberNumber.minus_text NumberNumber.fraction NumberNumber.decimal NumberNumber.num_text NumberNumber.written NumberNumber.written_after SvgPaths.point_text SvgPaths.points_text SvgPaths.more_text SvgPaths.path_text SvgPaths.curve_text SvgPaths.points_writable SvgPaths.path_writable LawsEvery.every LinesLines.path_line LinesLines.paths_text LinesLines.paths_of LinesLines.paths_writable DrawDrawn.far_centre Ieee.add Ieee.sub Ieee.mul Ieee.div Ieee.rem Ieee.neg Ieee.lt Ieee.le Ieee.eq Ieee.ne Ieee.of_int Ieee.round Ieee.size Ieee.span Ieee.climb Ieee.units Ieee.odd Ieee.sum Ieee.of_bits Ieee.of_fields Ieee.to_bits Ieee.to_unsigned Ieee.is_nan ShapePlane.extended
+unfolding capped_limits flat_map count_trailing_zeros LawsBest.best LawsBest.total_from LawsCounting.how_many LawsFilter.filter_by LawsFlat.table LawsLoops.steps_from LawsLoops.up LawsLoops.down LawsLoops.any_for LawsLoops.any_up LawsLoops.over LawsRefusals.decide LawsRun.run LawsRun.run_scene LawsSort.insert LawsSort.sorted LawsSort.place_from LawsSort.carry LawsSort.pairs LawsZip.zip_by RootRoot.try_digits RootRoot.whole_root RootRoot.nearest_root RootRoot.scale RootRoot.root_bits FloatStandins.root_of FloatStandins.root FloatStandins.round FloatStandins.reduced FloatStandins.series FloatStandins.sin FloatStandins.cos FloatStandins.arc_series FloatStandins.arctangent_of FloatStandins.quarter FloatStandins.atan2 FloatStandins.precedes TextUtf8.payload TextUtf8.codes_from TextDigits.digits_by TextDigits.digits TextDigits.value SheetSheet.chain_by SheetSheet.met_line SheetSheet.met_arrow SheetSheet.met SheetSheet.line_of SheetSheet.lines_from SheetSheet.arrow_of SheetSheet.states_of SheetSheet.arrows_of LawsAny.any_of SheetRefusals.repeats SheetRefusals.is_set SheetRefusals.wrong_record SheetRefusals.wrong_bytes SheetRefusals.indices SheetRefusals.wrong_chains SheetRefusals.large_arrow SheetRefusals.over_limits SheetRefusals.ill_arrow SheetRefusals.ill_formed SheetRefusals.check_of LabelLabel.char_width LabelLabel.line_width LabelLabel.wider_line ShapeClipping.test ShapeClipping.side ShapeClipping.meets ShapeClipping.segment_hits_rect ShapeClipping.segments_cross ShapeCurves.at ShapeCurves.tangent ShapePlane.unit_or ShapePlane.overlaps ShapePlane.touches ShapePlane.spanning ShapePlane.outside TraceTraces.sample TraceTraces.samples TraceTraces.bounds_of TraceTraces.trace_of TraceTraces.foreign TraceTraces.hits_rect TraceTraces.pair_cross TraceTraces.segment_crosses TraceTraces.crosses TraceTraces.point_near TraceTraces.near25 FreeBlocked.intervals FreeChords.chord FreeChords.others_from FreeFree.visit FreeFree.pass FreeFree.passes FreeFree.first_free BowClear.nearest BowClear.clearance BowClear.outdone BowClear.first_that BowClear.verified BowBend.pair_bow BowBend.single_bow BowBend.bend BowLeads.leads BowBetween.straight BowBetween.bowed BowBetween.with_bow BowBetween.between SpotLabels.side_of SpotLabels.place_label SpotLabels.labelled SpotSpots.normal SpotSpots.is_up SpotSpots.upper SpotSpots.line_spot SpotSpots.arc_spot SpotSpots.label_spots PlaceScene.near26 PlaceScene.struck PlaceScene.box_cost PlaceTurn.box_at PlaceTurn.taken RimDirections.angle_between RimDirections.room RimDirections.first_directions RimDirections.rim_in_order RimDirections.nexts RimDirections.gaps RimDirections.by_width RimDirections.middles RimDirections.found RimDirections.directions RimLoop.on_circle RimLoop.loop_curve LoopedLooped.loop_at LoopedLooped.states_but LoopedLooped.crossed LoopedLooped.cramped LoopedLooped.loop_adds LoopedLooped.loop_cost LoopedLooped.loop_taken RoutingRouting.numbered_from RoutingRouting.kept RoutingRouting.joined BeyondBeyond.beyond BeyondBeyond.is_beyond RoutingRouting.routes RoutingRouting.first_scene RoutingRouting.rim RoutingRouting.order RoutingRouting.drawing RoutingRouting.records RoutingSheets.frame_of NumberNumber.rounded_size NumberNumber.minus_text NumberNumber.fraction NumberNumber.decimal NumberNumber.num_text NumberNumber.written NumberNumber.written_after SvgPaths.point_text SvgPaths.points_text SvgPaths.more_text SvgPaths.path_text SvgPaths.curve_text SvgPaths.points_writable SvgPaths.path_writable LawsEvery.every LinesLines.path_line LinesLines.paths_text LinesLines.paths_of LinesLines.paths_writable DrawDrawn.far_centre Ieee.add Ieee.sub Ieee.mul Ieee.div Ieee.rem Ieee.neg Ieee.lt Ieee.le Ieee.eq Ieee.ne Ieee.of_int Ieee.round Ieee.size Ieee.span Ieee.climb Ieee.units Ieee.odd Ieee.sum Ieee.of_bits Ieee.of_fields Ieee.to_bits Ieee.to_unsigned Ieee.is_nan ShapePlane.extended
 second-drawn = record {
   states = refl;
   sources = refl;

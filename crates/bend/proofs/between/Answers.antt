@@ -1,7 +1,6 @@
 -- `bend::between` meets its contract.
 use mathlib.Core.Path.{ap, ◌∙◌}
 use Rattle.free.specs.declared.Chord.{Chord}
-use Rattle.shape.specs.Centres.{centres}
 use Rattle.bend.specs.Bend.{bend}
 use Rattle.bend.specs.Between.{with_bow, between}
 use Rattle.bend.proofs.between.Goals as goal
@@ -11,4 +10,4 @@ unfolding between
 returns c = let a = c.args in
     c.with_bow.ensures
     ∙ ap (with_bow c.chord_of-c.result) c.bend-h.ensures
-    ∙ ap (λ (d : Chord). with_bow d (bend d (centres a.xs.now a.ys.now) a.both_ways)) c.chord_of-c.ensures
+    ∙ ap (λ (d : Chord). with_bow d (bend d a.nodes.now a.both_ways)) c.chord_of-c.ensures

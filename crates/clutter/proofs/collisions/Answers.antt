@@ -1,39 +1,24 @@
 -- `clutter::collisions` meets its contract.
-use mathlib.Core.Path.{◌∙◌}
-use Prim.Native.Nat.{◌-◌}
-use native.Mathlib.Omega.{arith}
-use Rattle.laws.specs.Flat.{part}
-use Rattle.shape.specs.Centres.{centres}
-use Rattle.trace.specs.Form.{decode_traces}
-use Rattle.records.specs.Records.{decode_geometry}
-use Rattle.clutter.specs.Steps.{collisions-start, collisions-step, collisions-end}
+use Rattle.std.proofs.Common.{◌∙◌, ◌+◌, arith, add-zero, sym, refl, get_or, take, ◌++◌, List, ap, map, cond, Bool}
+use Rattle.trace.specs.Form.{trace_in}
+use Rattle.label_spots.specs.declared.Geometry.{Geometry}
+use Rattle.clutter.specs.Clutter.{collides}
+use Rattle.std.proofs.lemmas.List.{take_rest}
+use Rattle.clutter.proofs.Laws.{no_geometry, collisions-step, collisions-end}
+use Rattle.clutter.proofs.collisions.Goals.{then-collides, else-collides}
 use Rattle.clutter.proofs.collisions.Goals as goal
-
-pub loop-i-init : goal.loop-i-init
-loop-i-init c = let a = c.args in
-    (collisions-start (centres a.xs.now a.ys.now) (decode_traces a.n a.traces.now) (λ k. decode_geometry (part 20 k a.records.now)) a.n, omega arith, omega arith)
-
-pub label_add-sum-requires : goal.label_add-sum-requires
-label_add-sum-requires c = (c.requires.0, c.requires.1, c.requires.2, omega arith)
-
-pub overflow_add-sum : goal.overflow_add-sum
-overflow_add-sum c = omega arith
-
-pub overflow_add-i : goal.overflow_add-i
-overflow_add-i c = omega arith
-
-pub loop-i-smaller : goal.loop-i-smaller
-loop-i-smaller c = omega arith
 
 pub loop-i-preserved : goal.loop-i-preserved
 loop-i-preserved c = let a = c.args in
     let l = c.loop-i in (
-      collisions-step (centres a.xs.now a.ys.now) (decode_traces a.n a.traces.now) (λ k. decode_geometry (part 20 k a.records.now)) l.sum a.n c.label_add-sum.result l.i c.loop-i-test.true c.label_add-sum.ensures.0 ∙ l.invariant.0,
-      omega arith,
-      omega arith,
+      collisions-step a.nodes.now (map trace_in a.traces.now) a.drawn.now l.i (get_or a.drawn.now l.i no_geometry) no_geometry c.collides.result l.sum c.if-collides.sum c.loop-i-test.true (c.collides.ensures ∙ ap (λ (q : List Geometry). collides a.nodes.now (map trace_in a.traces.now) (take l.i a.drawn.now ++ q) (get_or a.drawn.now l.i no_geometry)) (take_rest a.drawn.now (l.i + 1))) refl
+          (elim c.if-collides.branch [
+            | then-collides w ↦ w.sum-is ∙ ap (λ (t : Bool). l.sum + cond t 1 0) (sym w.if-collides.true)
+            | else-collides w ↦ w.sum-is ∙ sym (add-zero l.sum) ∙ ap (λ (t : Bool). l.sum + cond t 1 0) (sym w.if-collides.false)
+          ]) ∙ l.invariant.0,
+      elim c.if-collides.branch [ then-collides w ↦ omega (arith, w.sum-is, l.invariant.1) | else-collides w ↦ omega (arith, w.sum-is, l.invariant.1) ],
     )
 
 pub returns : goal.returns
 returns c = let a = c.args in
-    let l = c.loop-i in
-    (collisions-end (centres a.xs.now a.ys.now) (decode_traces a.n a.traces.now) (λ k. decode_geometry (part 20 k a.records.now)) l.sum a.n l.i c.loop-i-test.false ∙ l.invariant.0, omega arith)
+    let l = c.loop-i in (collisions-end a.nodes.now (map trace_in a.traces.now) a.drawn.now l.i l.sum c.loop-i-test.false ∙ l.invariant.0, omega (arith, l.invariant.1))

@@ -1,24 +1,20 @@
--- `drawing_text::put_paths` meets its contract. The invariant: what is written, with the paths of the records still to come, is the whole text.
-use mathlib.Core.Path.{sym, ap, ◌∙◌}
-use mathlib.Core.List.{flat_map}
-use native.Mathlib.Omega.{arith}
-use Rattle.laws.specs.Flat.{part}
-use Rattle.records.specs.Records.{decode_geometry}
-use Rattle.text.specs.Writing.{adds_as}
+-- `drawing_text::put_paths` meets its contract.
+use Rattle.std.proofs.Common.{refl, sym, ◌∙◌, get_or, drop_of_length-le, arith}
 use Rattle.text.specs.Continues.{continues_whole, texts_step, texts_end}
 use Rattle.laws.specs.Joined.{flat_map_lem}
-use Rattle.laws.specs.Tables.{table_from, table_front, table-past}
 use Rattle.svg.specs.Paths.{curve_path}
 use Rattle.label_spots.specs.declared.Geometry.{Geometry}
 use Rattle.drawing_text.specs.Lines.{path_line, paths_of, paths_text}
+use Rattle.drawing_text.proofs.Laws.{no_geometry, drawn_front}
 use Rattle.drawing_text.proofs.put_paths.Goals as goal
 
-pub loop-k-init : goal.loop-k-init
+pub loop-g-init : goal.loop-g-init
 unfolding paths_text paths_of
-loop-k-init c = continues_whole _ (omega arith) (omega arith) (ap (flat_map (λ (g : Geometry). path_line (curve_path g.curve))) (table_from (λ j. decode_geometry (part 20 j c.args.records.now)) c.args.count) ∙ sym (flat_map_lem path_line (λ (g : Geometry). curve_path g.curve) _))
+loop-g-init c = continues_whole _ (omega arith) (omega arith) (sym (flat_map_lem path_line (λ (g : Geometry). curve_path g.curve) _))
 
-pub loop-k-preserved : goal.loop-k-preserved
-loop-k-preserved c = texts_step (λ (g : Geometry). path_line (curve_path g.curve)) (decode_geometry (part 20 c.loop-k.k c.args.records.now)) (table_front _ c.loop-k.k c.args.count (omega arith)) c.loop-k.invariant (adds_as (ap (λ (g : Geometry). path_line (curve_path g.curve)) c.geometry_at-g.ensures) c.put_path_line.ensures)
+pub loop-g-preserved : goal.loop-g-preserved
+loop-g-preserved c = let l = c.loop-g in
+  texts_step (λ (g : Geometry). path_line (curve_path g.curve)) (get_or c.args.drawn.now l.g-index no_geometry) (drawn_front c.args.drawn.now l.g-index c.loop-g-test.true) l.invariant c.put_path_line.ensures
 
 pub returns : goal.returns
-returns c = texts_end (λ (g : Geometry). path_line (curve_path g.curve)) (table-past _ c.loop-k.k c.args.count (omega arith)) c.loop-k.invariant
+returns c = texts_end (λ (g : Geometry). path_line (curve_path g.curve)) (drop_of_length-le c.args.drawn.now c.loop-g-test.false) c.loop-g.invariant

@@ -1,5 +1,5 @@
 -- `drawing_text::put_states` meets its contract. The invariant: what is written, with the lines of the states still to come, is the whole text.
-use mathlib.Core.Path.{sym}
+use mathlib.Core.Path.{refl, sym, ◌∙◌}
 use native.Mathlib.Omega.{arith}
 use Rattle.text.specs.Continues.{continues_whole, texts_step, texts_end}
 use Rattle.laws.specs.Joined.{flat_map_lem}
@@ -12,7 +12,7 @@ unfolding lines_text
 loop-k-init c = continues_whole _ (omega arith) (omega arith) (sym (flat_map_lem line_text state_line _))
 
 pub loop-k-preserved : goal.loop-k-preserved
-loop-k-preserved c = texts_step (λ (s : ListedState). line_text (state_line s)) _ (states_front c.args.xs.now c.args.ys.now c.loop-k.k c.centre.result c.centre.ensures c.requires (omega arith)) c.loop-k.invariant c.put_state_line.ensures
+loop-k-preserved c = texts_step (λ (s : ListedState). line_text (state_line s)) _ (states_front c.args.nodes.now c.loop-k.k c.loop-k-test.true) c.loop-k.invariant c.put_state_line.ensures
 
 pub returns : goal.returns
-returns c = texts_end (λ (s : ListedState). line_text (state_line s)) (states_none c.args.xs.now c.args.ys.now c.loop-k.k c.requires (omega arith)) c.loop-k.invariant
+returns c = texts_end (λ (s : ListedState). line_text (state_line s)) (states_none c.args.nodes.now c.loop-k.k c.loop-k-test.false) c.loop-k.invariant

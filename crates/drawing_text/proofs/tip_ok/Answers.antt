@@ -16,9 +16,9 @@ writable-requires c = tt
 pub returns-then-point_ok : goal.returns-then-point_ok
 unfolding line_writable fields_writable field_writable every
 returns-then-point_ok c = and_yes (sym c.point_ok.ensures ∙ c.if-point_ok.true) (last c.writable.ensures)
-    ∙ sym (tests_fields (point_fields c.args.g.tip) (float_field c.args.g.tip_angle ∷ []))
+    ∙ sym (tests_fields (point_fields c.args.g.now.tip) (float_field c.args.g.now.tip_angle ∷ []))
 
 pub returns : goal.returns
 unfolding line_writable fields_writable field_writable every
 returns c = and_no _ (sym c.point_ok.ensures ∙ c.if-point_ok.false)
-    ∙ sym (tests_fields (point_fields c.args.g.tip) (float_field c.args.g.tip_angle ∷ []))
+    ∙ sym (tests_fields (point_fields c.args.g.now.tip) (float_field c.args.g.now.tip_angle ∷ []))

@@ -1,6 +1,5 @@
 -- `fit::cover_state` meets its contract.
 use mathlib.Core.Path.{sym, ◌∙◌}
-use Rattle.shape.specs.Plane.{extended}
 use Rattle.fit.proofs.Laws.{state_start, state_other}
 use Rattle.fit.proofs.cover_state.Goals as goal
 

@@ -1,6 +1,5 @@
 -- `fit::cover_states` meets its contract.
 use mathlib.Core.Path.{refl, ◌∙◌}
-use Prim.Native.Nat.{◌-◌}
 use native.Mathlib.Omega.{arith}
 use Rattle.fit.proofs.Laws.{states-step, states-end}
 use borrow.Author.Rules.{rules}

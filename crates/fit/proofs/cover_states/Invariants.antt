@@ -2,7 +2,7 @@
 use mathlib.Core.Path.{◌≡◌}
 use Prim.Native.Nat.{◌-◌, ◌≤◌}
 use lib.ListN.{length, drop}
-use Rattle.laws.specs.Loops.{over}
+use Rattle.std.specs.List.{fold}
 use Rattle.shape.specs.Plane.{extended}
 use Rattle.shape.specs.Centres.{centres}
 use Rattle.fit.specs.Fit.{states_points}
@@ -10,7 +10,7 @@ use Rattle.fit.proofs.cover_states.Given as goal
 
 abbrev pub invariant-loop-i : goal.invariant-loop-i
 invariant-loop-i l = (l.i-end ≡ length l.flags) × (l.i ≤ length l.flags)
-    × (over extended l.b (states_points (drop l.i l.flags) (drop l.i (centres l.xs l.ys))) ≡ over extended l.initial.b (states_points l.flags (centres l.xs l.ys)))
+    × (fold extended l.b (states_points (drop l.i l.flags) (drop l.i (centres l.xs l.ys))) ≡ fold extended l.initial.b (states_points l.flags (centres l.xs l.ys)))
 
 abbrev pub decreases-loop-i : goal.decreases-loop-i
 decreases-loop-i l = length l.flags - l.i

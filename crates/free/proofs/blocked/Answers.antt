@@ -1,44 +1,45 @@
--- `free::blocked` meets its contract. The invariant: the intervals stored, and those of the states to come, are all.
-use mathlib.Core.Path.{refl, sym, ap, ◌∙◌}
-use mathlib.Core.List.{List, ◌++◌, append-nil}
-use Prim.Native.Nat.{◌-◌, ◌≤◌, ◌<◌}
-use native.Mathlib.Omega.{arith}
-use lib.ListN.{length, take}
-use borrow.Author.Rules.{rules}
-use Rattle.laws.specs.Zip.{zip_by, zip_length}
+-- `free::blocked` meets its contract. The intervals stored, and those of the states to come, are all.
+use Rattle.std.proofs.Common.{◌≡◌, ◌∙◌, ◌++◌, List, ap, sym, true, false, arith, take, append-nil}
+use Rattle.laws.specs.Lists.{get_d_any}
+use Rattle.float.specs.Constants.{f0}
 use Rattle.shape.specs.Plane.{vec}
+use Rattle.shape.specs.Centres.{centre}
 use Rattle.free.specs.declared.Span.{Span}
-use Rattle.shape.specs.Centres.{centres}
-use Rattle.free.specs.Free.{spans}
+use Rattle.free.specs.Chords.{is_end}
+use Rattle.free.specs.Blocked.{off_chord, span_of}
 use Rattle.free.specs.Steps.{intervals-end}
-use Rattle.free.proofs.Laws.{blocked-step}
+use Rattle.free.proofs.Laws.{blocked_skip, blocked_put}
+use Rattle.free.proofs.blocked.Goals.{then-not-is_end+then-not-off_chord, else-not-is_end, else-not-is_end-via-then-not-is_end+else-not-off_chord, else-not-is_end-via-else-not-is_end}
 use Rattle.free.proofs.blocked.Goals as goal
-
-pub loop-k-init : goal.loop-k-init
-unfolding zip_by
-loop-k-init c = (refl, omega arith, omega arith, refl, refl, refl)
 
 pub loop-k-preserved : goal.loop-k-preserved
 loop-k-preserved c = let a = c.args in
-    let g = c.block-n.ensures in
-    let h : c.loop-k.k < length (centres a.xs.now a.ys.now) = omega (arith, zip_length vec a.xs.now a.ys.now c.requires.ys_len) in (
-      search rules,
-      omega arith,
-      omega (arith, g.more),
-      g.low ∙ c.loop-k.invariant.3,
-      g.high ∙ c.loop-k.invariant.4,
-      blocked-step a.c (centres a.xs.now a.ys.now) c.loop-k.k c.centre.result _ _ _ _ _ _ _ h c.centre.ensures g c.loop-k.invariant.5,
-    )
+    let l = c.loop-k in
+    let h = c.loop-k-test.true in
+    let p = get_d_any a.nodes.now l.k _ (vec f0 f0) h in
+    let skip = blocked_skip a.c a.nodes.now l.k l.n l.room _ h l.invariant.1 in
+    elim c.if-not-is_end.branch [
+      | then-not-is_end+then-not-off_chord w ↦
+          let e : is_end a.c l.k ≡ false = sym c.is_end.ensures ∙ w.if-not-is_end.true in
+          let f : off_chord a.c (centre a.nodes.now l.k) ≡ false = sym (w.off_chord.ensures ∙ ap (off_chord a.c) p) ∙ w.if-not-off_chord.true in
+          rw (w.n-is, w.room-is) (
+            omega arith,
+            blocked_put a.c a.nodes.now l.k l.n l.room _ h l.invariant.1 w.span_of.result (omega arith) e f (w.span_of.ensures ∙ ap (span_of a.c) p),
+          )
+      | else-not-is_end w ↦ rw (w.n-is, w.room-is) (
+        omega arith,
+        skip
+            (elim w.else-not-is_end.branch [
+              | else-not-is_end-via-then-not-is_end+else-not-off_chord v ↦
+                  let f : off_chord a.c (centre a.nodes.now l.k) ≡ true = sym (v.off_chord.ensures ∙ ap (off_chord a.c) p) ∙ v.if-not-off_chord.false in
+                  rw (sym c.is_end.ensures ∙ v.if-not-is_end.true, f)
+              | else-not-is_end-via-else-not-is_end v ↦ rw (sym c.is_end.ensures ∙ v.if-not-is_end.false)
+            ]),
+      )
+    ]
 
 pub returns : goal.returns
-returns c = let a = c.args in
-    let l = c.loop-k in
-    let h : length (centres a.xs.now a.ys.now) ≤ l.k = omega (arith, zip_length vec a.xs.now a.ys.now c.requires.ys_len) in
-    record {
-      same = l.invariant.4 ∙ c.requires.hi_len ∙ sym l.invariant.3;
-      room = omega arith;
-      are =
-          sym (append-nil (spans (take l.n l.lo) (take l.n l.hi)))
-          ∙ ap (λ (q : List Span). spans (take l.n l.lo) (take l.n l.hi) ++ q) (sym (intervals-end a.c (centres a.xs.now a.ys.now) l.k h))
-          ∙ l.invariant.5;
-    }
+returns c = let l = c.loop-k in
+    sym (append-nil (take l.n l.room))
+    ∙ ap (λ (q : List Span). take l.n l.room ++ q) (sym (intervals-end c.args.c c.args.nodes.now l.k c.loop-k-test.false))
+    ∙ l.invariant.1
