@@ -15,6 +15,13 @@ pub struct Limits {
     pub lines: usize,
 }
 
+// The states that an arrow joins, by number.
+#[derive(Clone, Copy)]
+pub struct Ends {
+    pub source: usize,
+    pub target: usize,
+}
+
 // The most bytes of a line, on every screen.
 pub const LONGEST_LINE: usize = 96;
 
