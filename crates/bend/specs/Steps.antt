@@ -1,5 +1,5 @@
 -- The steps of the loops over states, bows and arrows. Assumes nothing.
-use Rattle.std.specs.Prelude.{◌≡◌, Bool, true, false, List, ℕ, ◌+◌, ◌≤◌, ◌<◌, eqb, length, drop, get_or, Float}
+use Rattle.std.specs.Prelude.{◌≡◌, true, false, List, ℕ, ◌+◌, ◌≤◌, ◌<◌, length, drop, get_or, Float}
 use Rattle.std.proofs.Common.{add-one, drop_of_length-le}
 use Rattle.std.proofs.Math.Seq.{drop-cons}
 use Rattle.std.specs.Float.Ieee.{nan}
@@ -40,7 +40,3 @@ module _ (keeps : Float → Float) (b : Best) (hs : List Float) (i : ℕ) where
   pub choose-end : length hs ≤ i → b.bow ≡ choose keeps b (drop i hs)
   unfolding choose
   choose-end h = rw (drop_of_length-le hs h)
-
--- arrow j leaves a
-abbrev pub leaves_state : List ℕ → ℕ → ℕ → Bool
-leaves_state sources a j = eqb (get_or sources j 0) a

@@ -2,7 +2,6 @@
 #![tactic(auto)]
 
 ghost use Rattle.std.specs.Prelude.{◌≡◌, ◌-◌, ◌<◌, ◌≤◌, length};
-ghost use Rattle.laws.specs.Sort.{place_from};
 ghost use Rattle.free.specs.Chords as C;
 ghost use Rattle.bend.specs.Clear as L;
 ghost use Rattle.bend.specs.Choice as K;
@@ -14,6 +13,7 @@ ghost use Rattle.bend.specs.Steps as S;
 
 use free::{CLEARANCE, Chord, Span};
 use shape::{Curve, EPS, NODE_RADIUS, V};
+use sheet::Ends;
 
 // Which way the label of an arrow may go: beside a line, outside an arc (1 bent to the left, -1 to the right),
 // outwards from a loop.
@@ -243,44 +243,17 @@ pub fn between(nodes: &[V], from: usize, to: usize, both_ways: bool) -> Routed
     with_bow(c, h)
 }
 
-// The first arrow from k on that leaves a, or the number of arrows. A step looks at two arrows.
-fn next_from(sources: &[usize], a: usize, k: usize) -> usize
-    requires { k ≤ length sources.now }
-    ensures { let all = sources.now in
-        result ≡ place_from (S.leaves_state all a) k (length all - k) }
+// Whether it leads from a to b.
+fn leads_from(e: &Ends, a: usize, b: usize) -> bool
+    ensures { result ≡ D.leads_from a b e.now }
 {
-    let mut i = k;
-    let mut twos = (sources.len() - k) / 2;
-    while 0 < twos {
-        if sources[i] == a {
-            return i;
-        }
-        if sources[i + 1] == a {
-            return i + 1;
-        }
-        i += 2;
-        twos -= 1;
-    }
-    if i == sources.len() {
-        return i;
-    }
-    if sources[i] == a {
-        return i;
-    }
-    sources.len()
+    e.source == a && e.target == b
 }
 
 // Whether some arrow leads from a to b.
-pub fn leads(sources: &[usize], targets: &[usize], a: usize, b: usize) -> bool
-    requires { length targets.now ≡ length sources.now }
-    ensures { result ≡ D.leads (D.arrows_by sources.now targets.now) a b }
+#[tactic(auto, unfolding(crate::specs::Leads::leads))]
+pub fn leads(arrows: &[Ends], a: usize, b: usize) -> bool
+    ensures { result ≡ D.leads arrows.now a b }
 {
-    let mut k = next_from(sources, a, 0);
-    while k < sources.len() {
-        if targets[k] == b {
-            return true;
-        }
-        k = next_from(sources, a, k + 1);
-    }
-    false
+    arrows.iter().any(|e| leads_from(e, a, b))
 }
