@@ -1,129 +1,80 @@
 -- What one arrow leaves, and the first i arrows. Assumes nothing.
-use mathlib.Core.Path.{◌≡◌, refl, sym, ap, ◌∙◌, subst}
-use mathlib.Core.Bool.{Bool, true, false, cond, not, ◌&&◌, true≢false}
-use mathlib.Core.List.{List, [], ◌∷◌, ◌++◌, append-nil, append_assoc}
-use Prim.Native.Nat.{ℕ, ◌+◌, ◌*◌, ◌%◌, ◌≤◌, ◌<◌}
-use native.Mathlib.Omega.{arith}
+use mathlib.Core.Path.{◌≡◌, refl, sym, ap, ap₂, ◌∙◌}
+use mathlib.Core.Bool.{true, false, cond, true≢false}
+use mathlib.Core.List.{List, [], ◌∷◌, ◌++◌, map, flat_map, append-nil, append_assoc}
+use Prim.Native.Nat.{ℕ, suc, ◌+◌, ◌%◌, ◌≤◌, ◌<◌}
+use native.Mathlib.Numerals.{add-one}
 use borrow.Author.Tests.{eqb-true, eq-eqb, ne_eqb}
-use lib.Dec.{ltb, eqb}
-use lib.ListN.{length, get_or, drop, set}
-use lib.Ieee.{Float, nan, inf, fin, of_bits}
+use Rattle.std.proofs.Common.{drop-cons, drop_of_length-le}
+use lib.Dec.{eqb}
+use lib.ListN.{length, get_or, drop}
+use lib.Ieee.{Float, nan, inf, fin}
 use lib.Ieee.Scale.{finite}
 use Rattle.laws.specs.Cases.{by_bool}
-use Rattle.laws.specs.Put.{put}
-use Rattle.laws.specs.Bools.{and_both, not-holds}
 use Rattle.float.specs.Constants.{f0}
 use Rattle.shape.specs.declared.«V».{«V»}
-use Rattle.trace.specs.Traces.{Trace, nobody, trace_of, arrow}
-use Rattle.trace.specs.Form.{decode_traces}
-use Rattle.shape.specs.Centres.{centre, centres}
-use Rattle.bend.specs.declared.Routed.{Routed}
-use Rattle.bend.specs.Leads.{leads, arrows_by}
-use Rattle.bend.specs.Between.{between}
+use Rattle.trace.specs.Traces.{Trace, nobody, trace_of}
+use Rattle.shape.specs.Centres.{centre}
+use Rattle.routing.specs.Routing.{Frame, Ends, numbered, numbered_from, numbered_by, is_kept_in, is_loop, joined, start_curve, start_traces}
+use Rattle.routing.specs.Sheets.{or_zero}
+use Rattle.routing_laws.specs.Passes.{traces_of}
+use Rattle.routing_laws.proofs.Order.{first_scene_lem, routes-each}
+use Rattle.routing_laws.specs.Order.{routes_of}
+use Rattle.routing_laws.specs.Rim.{route_meets}
+use Rattle.laws.specs.Joined.{flat_flat}
+use Rattle.std.proofs.lemmas.Bool.{eqb-false}
+use Rattle.float.specs.Constants.{π}
+use Rattle.sheet.specs.Meaning.{is_start}
 use Rattle.directions.specs.Rims.{leave_angle, reach_angle}
-use Rattle.records.specs.Slots.{routed_fields}
-use Rattle.scene.specs.Scene.{Scene}
-use Rattle.routing.specs.Routing.{Frame, Numbered, is_kept_in, is_loop, is_arc, route_of, joined, arc_shape, start_curve, start_traces}
-use Rattle.routing.specs.Sheets.{frame_by, or_zero}
-use Rattle.routing_laws.specs.Passes.{is_crossing, turn_kind, leave_of, reach_of, traces_of}
-use Rattle.routing_laws.proofs.Order.{first_scene_lem}
-use Rattle.curves.specs.Lay.{Slices, slices, Laying}
-use Rattle.curves.specs.Steps.{arrow_by, other_kind, Along, One, LaidArrows}
-use Rattle.curves.specs.Traces.{starts-step}
+use Rattle.routing.specs.Routing.{rim}
+use Rattle.curves.specs.declared.Laid.{Laid}
+use Rattle.curves.specs.Lay.{laid_by, laid_of, traces_laid, laid_traces, first_traces, crossing_by, met_by, all_met}
+use Rattle.curves.specs.Traces.{starts-step, starts-past}
 
--- ---- an arrow between different states
+-- ---- the traces of the arrows
 
-module _ (f : Frame) (a : Numbered) (t : is_crossing f a ≡ true) where
-  crossing-kept : is_kept_in f a ≡ true
-  crossing-kept = (and_both (is_kept_in f a) (not (is_loop a)) t).0
+one_laid : (f : Frame) (n : ℕ) (e : Ends) → traces_laid n (laid_by f e) ≡ traces_of f (numbered_by n e)
+unfolding laid_by traces_of joined
+one_laid f n e =
+    by_bool (is_kept_in f (numbered_by n e))
+    (λ k. by_bool (is_loop (numbered_by n e)) (λ l. rw (k, l)) (λ l. rw (k, l)))
+    (λ k. rw k)
 
-  crossing_ends : is_loop a ≡ false
-  crossing_ends = not-holds (is_loop a) (and_both (is_kept_in f a) (not (is_loop a)) t).1
+laid_from : (f : Frame) (n : ℕ) (es : List Ends) → laid_traces n (map (laid_by f) es) ≡ flat_map (traces_of f) (numbered_from n es)
+unfolding laid_traces flat_map numbered_from
+laid_from f n [] = refl
+laid_from f n (e ∷ es) = ap₂ (λ (p q : List Trace). p ++ q) (one_laid f n e) (laid_from f (suc n) es)
 
-  module _ (r : Routed) (e : joined f a ≡ r) where
-    crossing_kind : turn_kind f a ≡ cond (arc_shape r.shape) 2 3
-    unfolding turn_kind
-    crossing_kind = rw (crossing-kept, crossing_ends) (ap (λ (q : Routed). cond (arc_shape q.shape) 2 3) e)
+pub first_are : (f : Frame) → laid_traces 0 (laid_of f) ++ start_traces f.flags f.centres ≡ first_traces f
+first_are f = ap (λ (l : List Trace). l ++ start_traces f.flags f.centres) (laid_from f 0 f.arrows) ∙ sym (ap (λ s. s.traces) (first_scene_lem f))
 
-    crossing_leave : leave_of f a ≡ leave_angle r.curve (centre f.centres a.ends.source)
-    unfolding leave_of
-    crossing_leave = rw t (ap (λ (q : Routed). leave_angle q.curve (centre f.centres a.ends.source)) e)
+-- ---- one after another
 
-    crossing-reach : reach_of f a ≡ reach_angle r.curve (centre f.centres a.ends.target)
-    unfolding reach_of
-    crossing-reach = rw t (ap (λ (q : Routed). reach_angle q.curve (centre f.centres a.ends.target)) e)
+pub map_more : {A B : Type 0} (g : A → B) (xs : List A) (i : ℕ) (x : A) (p q r : List B) → i < length xs → x ≡ get_or xs i x → q ≡ p ++ (g x ∷ [])
+    → p ++ map g (drop i xs) ≡ r → q ++ map g (drop (i + 1) xs) ≡ r
+map_more g xs i x p q r h w e k =
+    ap (λ y. y ++ map g (drop (i + 1) xs)) e
+    ∙ append_assoc p (g x ∷ []) (map g (drop (i + 1) xs))
+    ∙ ap (p ++◌) (rw (drop-cons xs i x h, ← w, add-one))
+    ∙ k
 
-    crossing_traces : traces_of f a ≡ trace_of (arrow a.edge) r.curve ∷ []
-    unfolding traces_of
-    crossing_traces = rw t (ap (λ (q : Routed). trace_of (arrow a.edge) q.curve ∷ []) e)
+pub map_end : {A B : Type 0} (g : A → B) (xs : List A) (i : ℕ) (p r : List B) → length xs ≤ i → p ++ map g (drop i xs) ≡ r → p ≡ r
+map_end g xs i p r h k = sym (append-nil p) ∙ (rw (drop_of_length-le xs h) at k)
 
-    along_one : (nt m : ℕ) (s u : Slices) → Along f.centres a.ends.source a.ends.target a.edge r nt m s u → One f a nt m s u
-    along_one nt m s u g = record {
-      kinds = g.kinds ∙ ap (set s.kinds a.edge) (sym crossing_kind);
-      leaves = g.leaves ∙ ap (set s.leaves a.edge) (sym crossing_leave);
-      reaches = g.reaches ∙ ap (set s.reaches a.edge) (sym crossing-reach);
-      slots = rw t (g.slots ∙ ap (λ (q : Routed). put s.slots (20 * a.edge) (routed_fields q)) (sym e));
-      traces = g.traces ∙ ap (λ (l : List Trace). decode_traces nt s.traces ++ l) (sym crossing_traces);
-      room = omega (arith, g.many);
-    }
+pub laid_more : (ls : List Laid) (i : ℕ) (l : Laid) (p q r : List Trace) → i < length ls → l ≡ get_or ls i l → q ≡ p ++ traces_laid i l
+    → p ++ laid_traces i (drop i ls) ≡ r → q ++ laid_traces (i + 1) (drop (i + 1) ls) ≡ r
+unfolding laid_traces
+laid_more ls i l p q r h w e g =
+    ap (λ (x : List Trace). x ++ laid_traces (i + 1) (drop (i + 1) ls)) e
+    ∙ append_assoc p (traces_laid i l) (laid_traces (i + 1) (drop (i + 1) ls))
+    ∙ ap (p ++◌) (rw (drop-cons ls i l h, ← w, add-one))
+    ∙ g
 
-pub along_by : (cs : List «V») (a b i nt m : ℕ) (s u : Slices) (r q : Routed) → r ≡ q → Along cs a b i r nt m s u → Along cs a b i q nt m s u
-along_by cs a b i nt m s u r q e g = subst (λ (x : Routed). Along cs a b i x nt m s u) e g
+pub laid_end : (ls : List Laid) (i : ℕ) (p r : List Trace) → length ls ≤ i → p ++ laid_traces i (drop i ls) ≡ r → p ≡ r
+unfolding laid_traces
+laid_end ls i p r h g = sym (append-nil p) ∙ (rw (drop_of_length-le ls h) at g)
 
--- ---- any other arrow
-
-twice : (x : Bool) → ◌≡◌ {A = ℕ} (cond (x && x) 1 0) (cond x 1 0)
-twice true = refl
-twice false = refl
-
-apart-not : (x y : Bool) (k : ℕ) → x && y && true ≡ false → cond (x && y) k 0 ≡ cond x 0 0
-apart-not true true k h = absurd (true≢false h)
-apart-not true false k h = refl
-apart-not false y k h = refl
-
-other_kind_is : (n a b k : ℕ) → ltb a n && ltb b n && not (eqb a b) ≡ false → cond (ltb a n && ltb b n) (cond (eqb a b) 1 k) 0 ≡ other_kind n a b
-other_kind_is n a b k t =
-    by_bool (eqb a b)
-    (λ q. let e : a ≡ b = eqb-true a b q in rw (q, ← e) (twice (ltb a n)))
-    (λ q. rw q (apart-not (ltb a n) (ltb b n) k (rw q at t)))
-
-module _ (f : Frame) (a : Numbered) (t : is_crossing f a ≡ false) where
-  pub other_kind_lem : turn_kind f a ≡ other_kind (length f.flags) a.ends.source a.ends.target
-  unfolding turn_kind
-  other_kind_lem = other_kind_is (length f.flags) a.ends.source a.ends.target (cond (is_arc (route_of f a)) 2 3) t
-
-  other_leave : leave_of f a ≡ f0
-  unfolding leave_of
-  other_leave = rw t
-
-  other-reach : reach_of f a ≡ f0
-  unfolding reach_of
-  other-reach = rw t
-
-  other_traces : traces_of f a ≡ []
-  unfolding traces_of
-  other_traces = rw t
-
-  pub other_one : (nt : ℕ) (s u : Slices) → u.kinds ≡ set s.kinds a.edge (other_kind (length f.flags) a.ends.source a.ends.target)
-      → u.leaves ≡ set s.leaves a.edge f0 → u.reaches ≡ set s.reaches a.edge f0 → u.slots ≡ s.slots → u.traces ≡ s.traces → One f a nt nt s u
-  other_one nt s u k l r p q = record {
-    kinds = k ∙ ap (set s.kinds a.edge) (sym other_kind_lem);
-    leaves = l ∙ ap (set s.leaves a.edge) (sym other_leave);
-    reaches = r ∙ ap (set s.reaches a.edge) (sym other-reach);
-    slots = rw t p;
-    traces = ap (decode_traces nt) q ∙ sym (append-nil (decode_traces nt s.traces)) ∙ ap (λ (v : List Trace). decode_traces nt s.traces ++ v) (sym other_traces);
-    room = omega arith;
-  }
-
--- ---- arrow i, from slices
-module _ (flags : List ℕ) (xs ys : List Float) (sources targets : List ℕ) (i : ℕ) where
-  pub crossing_one : is_crossing (frame_by flags (centres xs ys) sources targets) (arrow_by sources targets i) ≡ true → (nt m : ℕ) (s u : Slices)
-      → Along (centres xs ys) (get_or sources i 0) (get_or targets i 0) i (between (centres xs ys) (get_or sources i 0) (get_or targets i 0) (leads (arrows_by sources targets) (get_or targets i 0) (get_or sources i 0))) nt m s u
-      → One (frame_by flags (centres xs ys) sources targets) (arrow_by sources targets i) nt m s u
-  unfolding joined
-  crossing_one t nt m s u g = along_one (frame_by flags (centres xs ys) sources targets) (arrow_by sources targets i) t _ refl nt m s u g
-
--- ---- a number that is missing or not finite
+-- ---- a number that is not finite
 pub finite_yes : (v : Float) → finite v ≡ true → v ≡ or_zero v
 finite_yes nan e = absurd (true≢false (sym e))
 finite_yes (inf s) e = absurd (true≢false (sym e))
@@ -133,10 +84,6 @@ pub finite_no : (v : Float) → finite v ≡ false → f0 ≡ or_zero v
 finite_no nan e = refl
 finite_no (inf s) e = refl
 finite_no (fin s m e) h = absurd (true≢false h)
-
-pub missing : f0 ≡ or_zero f0
-unfolding of_bits
-missing = refl
 
 -- ---- start arrows
 pub start_yes : (flag : ℕ) (c : «V») → flag % 2 ≡ 1 → start_traces (flag ∷ []) (c ∷ []) ≡ trace_of nobody (start_curve c) ∷ []
@@ -154,20 +101,73 @@ starts_more flags cs k p q r n h e g =
     ∙ ap (p ++◌) (sym (starts-step flags cs k n h))
     ∙ g
 
--- ---- all
+pub starts_end : (flags : List ℕ) (cs : List «V») (k : ℕ) (p r : List Trace) → length flags ≤ k → p ++ start_traces (drop k flags) (drop k cs) ≡ r → p ≡ r
+starts_end flags cs k p r h g = sym (append-nil p) ∙ (rw (starts-past flags cs k h) at g)
 
-pub one_of : (f : Frame) (a b : Numbered) (nt m : ℕ) (s u : Slices) → a ≡ b → One f a nt m s u → One f b nt m s u
-one_of f a b nt m s u q o = subst (λ (x : Numbered). One f x nt m s u) q o
+-- ---- rims
 
--- the start arrows' traces after the arrows'
-pub laid_all : (f : Frame) (nt m : ℕ) (s : Slices) (traces : List Float) → LaidArrows f nt s → m ≤ nt + length f.flags
-    → decode_traces m traces ≡ decode_traces nt s.traces ++ start_traces f.flags f.centres
-    → Laying f m (slices s.kinds s.leaves s.reaches s.slots traces)
-laid_all f nt m s traces o h e = record {
-  kinds = o.kinds;
-  leaves = o.leaves;
-  reaches = o.reaches;
-  slots = o.slots;
-  traces = e ∙ ap (λ (x : List Trace). x ++ start_traces f.flags f.centres) o.traces ∙ sym (ap (λ (x : Scene). x.traces) (first_scene_lem f));
-  room = omega (arith, o.room);
-}
+-- an arrow between different states meets the rim of state k at one end at most
+apart_met : (k s t : ℕ) (cs : List «V») (g h : «V» → Float) → eqb s t ≡ false
+    → cond (eqb s k) (g (centre cs k) ∷ []) [] ++ cond (eqb t k) (h (centre cs k) ∷ []) []
+    ≡ cond (eqb s k) (g (centre cs s) ∷ []) (cond (eqb t k) (h (centre cs t) ∷ []) [])
+apart_met k s t cs g h d =
+    by_bool (eqb s k)
+    (λ q.
+    let e : s ≡ k = eqb-true s k q in
+    rw (q, ne_eqb t k (λ z. eqb-false s t d (e ∙ sym z))) (ap (λ (m : ℕ). g (centre cs m) ∷ []) (sym e)))
+    (λ q. rw q (by_bool (eqb t k) (λ w. rw w (ap (λ (m : ℕ). h (centre cs m) ∷ []) (sym (eqb-true t k w)))) (λ w. rw w)))
+
+one_met : (f : Frame) (k n : ℕ) (e : Ends) → flat_map (route_meets f k) (routes_of f (numbered_by n e)) ≡ met_by k e (laid_by f e)
+unfolding flat_map laid_by joined
+one_met f k n e =
+    by_bool (is_kept_in f (numbered_by n e))
+    (λ q.
+    by_bool (is_loop (numbered_by n e))
+    (λ l. rw (q, l))
+    (λ l.
+    let c = (crossing_by f e).routed.curve in
+    rw (q, l)
+    (append-nil _
+    ∙ apart_met k e.source e.target f.centres (leave_angle c) (reach_angle c) l)))
+    (λ q. rw q)
+
+met_from : (f : Frame) (k n : ℕ) (es : List Ends)
+    → all_met k es (map (laid_by f) es) ≡ flat_map (λ a. flat_map (route_meets f k) (routes_of f a)) (numbered_from n es)
+unfolding all_met flat_map numbered_from
+met_from f k n [] = refl
+met_from f k n (e ∷ es) = ap₂ (λ (p q : List Float). p ++ q) (sym (one_met f k n e)) (met_from f k (suc n) es)
+
+pub rim_met : (f : Frame) (k : ℕ) → all_met k f.arrows (laid_of f) ++ cond (is_start (get_or f.flags k 0)) (π ∷ []) [] ≡ rim f k
+unfolding rim
+rim_met f k =
+    ap (λ (l : List Float). l ++ cond (is_start (get_or f.flags k 0)) (π ∷ []) [])
+    (met_from f k 0 f.arrows
+    ∙ sym (flat_flat (route_meets f k) (routes_of f) (numbered f))
+    ∙ ap (flat_map (route_meets f k)) (sym (routes-each f)))
+
+module _ (f : Frame) (k : ℕ) (old m : List Float) (ls : List Laid) (w : ls ≡ laid_of f) (o : old ≡ []) (e : m ≡ old ++ all_met k f.arrows ls) where
+  met_all : m ++ cond (is_start (get_or f.flags k 0)) (π ∷ []) [] ≡ rim f k
+  met_all =
+      ap (λ (l : List Float). l ++ cond (is_start (get_or f.flags k 0)) (π ∷ []) [])
+      (e ∙ ap (λ (x : List Float). x ++ all_met k f.arrows ls) o ∙ ap (all_met k f.arrows) w)
+      ∙ rim_met f k
+
+  pub rim_start : (t : List Float) → get_or f.flags k 0 % 2 ≡ 1 → t ≡ m ++ (π ∷ []) → t ≡ rim f k
+  rim_start t s g = g ∙ (rw (eq-eqb (get_or f.flags k 0 % 2) 1 s) at met_all)
+
+  pub rim_other : (get_or f.flags k 0 % 2 ≡ 1 → ⊥) → m ≡ rim f k
+  rim_other s = sym (append-nil m) ∙ (rw (ne_eqb (get_or f.flags k 0 % 2) 1 s) at met_all)
+
+pub met_more : (k : ℕ) (es : List Ends) (ls : List Laid) (i : ℕ) (e : Ends) (l : Laid) (p q r : List Float) → i < length es → i < length ls
+    → e ≡ get_or es i e → l ≡ get_or ls i l → q ≡ p ++ met_by k e l
+    → p ++ all_met k (drop i es) (drop i ls) ≡ r → q ++ all_met k (drop (i + 1) es) (drop (i + 1) ls) ≡ r
+unfolding all_met
+met_more k es ls i e l p q r h j v w s g =
+    ap (λ (x : List Float). x ++ all_met k (drop (i + 1) es) (drop (i + 1) ls)) s
+    ∙ append_assoc p (met_by k e l) (all_met k (drop (i + 1) es) (drop (i + 1) ls))
+    ∙ ap (p ++◌) (rw (drop-cons es i e h, drop-cons ls i l j, ← v, ← w, add-one))
+    ∙ g
+
+pub met_end : (k : ℕ) (es : List Ends) (ls : List Laid) (i : ℕ) (p r : List Float) → length es ≤ i → p ++ all_met k (drop i es) (drop i ls) ≡ r → p ≡ r
+unfolding all_met
+met_end k es ls i p r h g = sym (append-nil p) ∙ (rw (drop_of_length-le es h) at g)

@@ -1,31 +1,64 @@
 -- What stands before any label is placed: "It begins with the states and traces that `geometry` has before any label."
-use Rattle.std.specs.Prelude.{◌≡◌, true, List, map, ℕ, ◌+◌, ◌≤◌, ◌<◌, length, Float}
-use Rattle.laws.specs.Flat.{part}
-use Rattle.trace.specs.Form.{decode_traces}
-use Rattle.records.specs.Slots.{decode_routed}
-use Rattle.routing.specs.Routing.{Frame, numbered, joined, first_scene, numbered_at}
-use Rattle.routing_laws.specs.Passes.{is_crossing, turn_kind, leave_of, reach_of}
+use Rattle.std.specs.Prelude.{◌≡◌, cond, ℕ, suc, ◌≤◌, eqb, length, Float}
+use mathlib.Core.List.{List, [], ◌∷◌, ◌++◌, map}
+use Rattle.shape.specs.Centres.{centre}
+use Rattle.sheet.specs.Meaning.{ends_below}
+use Rattle.trace.specs.Traces.{Trace, arrow, trace_of}
+use Rattle.bend.specs.Leads.{leads}
+use Rattle.bend.specs.Between.{between}
+use Rattle.directions.specs.Rims.{leave_angle, reach_angle}
+use Rattle.routing.specs.Routing.{Frame, Ends, first_scene}
+use Rattle.curves.specs.declared.Frame.{Frame as Lent}
+use Rattle.curves.specs.declared.Crossing.{Crossing}
+use Rattle.curves.specs.declared.Laid.{Laid}
+use Rattle.curves.specs.declared.Laid.TheVariants.{LeftOut, Loop, Between}
 
--- the lent slices: for each arrow a number of its kind, two angles and the twenty numbers of a slot; forty numbers for each trace
-pub record Slices : Type 0 where
-  pub kinds : List ℕ
-  pub leaves : List Float
-  pub reaches : List Float
-  pub slots : List Float
-  pub traces : List Float
+-- the frame that is lent
+abbrev pub frame_in : Lent → Frame
+frame_in f = record { flags = f.flags.now; centres = f.centres.now; arrows = f.arrows.now }
 
-abbrev pub slices : List ℕ → List Float → List Float → List Float → List Float → Slices
-slices kinds leaves reaches slots traces = record { kinds = kinds; leaves = leaves; reaches = reaches; slots = slots; traces = traces }
+-- a flag byte for each state, and the most states and arrows
+pub record Whole (f : Lent) : Type 0 where
+  pub level : length f.flags.now ≡ length f.centres.now
+  pub few : length f.centres.now ≤ 64
+  pub arrows : length f.arrows.now ≤ 256
 
--- each arrow between different states has its curve in its slot
-abbrev pub InSlots : Frame → List Float → ℕ → Type 0
-InSlots f slots n = (i : ℕ) → i < n → is_crossing f (numbered_at f i) ≡ true → decode_routed (part 20 i slots) ≡ joined f (numbered_at f i)
+-- an arrow between different states, and where it meets their rims
+abbrev pub crossing_by : Frame → Ends → Crossing
+crossing_by f e =
+    let r = between f.centres e.source e.target (leads f.arrows e.target e.source) in
+    record { routed = r; leave = leave_angle r.curve (centre f.centres e.source); reach = reach_angle r.curve (centre f.centres e.target) }
 
--- every arrow's kind, angles and curve, and the m traces of the first scene
-pub record Laying (f : Frame) (m : ℕ) (t : Slices) : Type 0 where
-  pub kinds : t.kinds ≡ map (turn_kind f) (numbered f)
-  pub leaves : t.leaves ≡ map (leave_of f) (numbered f)
-  pub reaches : t.reaches ≡ map (reach_of f) (numbered f)
-  pub slots : InSlots f t.slots (length f.arrows)
-  pub traces : decode_traces m t.traces ≡ (first_scene f).traces
-  pub room : m ≤ length f.arrows + length f.flags
+-- what is known of an arrow
+unfoldable pub laid_by : Frame → Ends → Laid
+laid_by f e = cond (ends_below (length f.flags) e.source e.target) (cond (eqb e.source e.target) Loop (Between (crossing_by f e))) LeftOut
+
+abbrev pub laid_of : Frame → List Laid
+laid_of f = map (laid_by f) f.arrows
+
+-- the traces of the arrows from number k on
+abbrev pub traces_laid : ℕ → Laid → List Trace
+traces_laid k LeftOut = []
+traces_laid k Loop = []
+traces_laid k (Between c) = trace_of (arrow k) c.routed.curve ∷ []
+
+unfoldable pub laid_traces : ℕ → List Laid → List Trace
+laid_traces k [] = []
+laid_traces k (l ∷ ls) = traces_laid k l ++ laid_traces (suc k) ls
+
+-- those of the first scene
+abbrev pub first_traces : Frame → List Trace
+first_traces f = (first_scene f).traces
+
+-- ---- rims
+
+-- the angle at which an arrow between different states meets the rim of state k
+abbrev pub met_by : ℕ → Ends → Laid → List Float
+met_by k e LeftOut = []
+met_by k e Loop = []
+met_by k e (Between c) = cond (eqb e.source k) (c.leave ∷ []) (cond (eqb e.target k) (c.reach ∷ []) [])
+
+unfoldable pub all_met : ℕ → List Ends → List Laid → List Float
+all_met k [] ls = []
+all_met k (e ∷ es) [] = []
+all_met k (e ∷ es) (l ∷ ls) = met_by k e l ++ all_met k es ls

@@ -1,4 +1,2 @@
 pub mod Lay
-pub mod Steps
-pub mod Numbers
 pub mod Traces

@@ -1,43 +1,32 @@
 -- `curves::push_starts` meets its contract.
-use mathlib.Core.Path.{◌≡◌, refl, sym, ap, ◌∙◌}
-use mathlib.Core.List.{List, [], ◌∷◌, ◌++◌, append-nil}
-use Prim.Native.Nat.{◌+◌, ◌-◌}
-use native.Mathlib.Omega.{arith}
-use lib.ListN.{length, get_or}
-use Rattle.laws.specs.Zip.{zip_length}
+use Rattle.std.proofs.Common.{rules, refl, sym, ap, ◌∙◌, arith, ◌++◌, ◌<◌, length, map, get_or, [], ◌∷◌}
+use Rattle.trace.specs.Form.{trace_in}
+use Rattle.laws.specs.Lists.{get_d_any}
 use Rattle.shape.specs.declared.«V».{«V»}
-use Rattle.shape.specs.Plane.{vec}
-use Rattle.trace.specs.Traces.{Trace}
-use Rattle.trace.specs.Form.{decode_traces}
-use Rattle.shape.specs.Centres.{centres}
 use Rattle.routing.specs.Routing.{start_traces}
-use Rattle.curves.specs.Traces.{starts-past}
-use Rattle.curves.proofs.Laws.{starts_more}
-use borrow.Author.Rules.{rules}
+use Rattle.curves.proofs.Laws.{starts_more, starts_end}
 use Rattle.curves.proofs.push_starts.Goals as goal
 
 pub loop-k-init : goal.loop-k-init
-loop-k-init c = (refl, omega arith, omega arith, refl, refl)
+loop-k-init g c = (omega arith, refl)
+
+pub push_start-requires : goal.push_start-requires
+push_start-requires g c = let l = c.loop-k in
+    let room : length l.traces < g.row.N = omega (arith, l.invariant.0, c.requires.room, c.loop-k-test.true) in
+    search rules
 
 pub loop-k-preserved : goal.loop-k-preserved
-loop-k-preserved c = let a = c.args in
-    let p = c.requires in
-    let l = c.loop-k in
-    let cs : List «V» = centres a.xs.now a.ys.now in
-    let n : length cs ≡ length a.flags.now = zip_length vec a.xs.now a.ys.now p.0 ∙ sym p.1 in (
-      search rules,
-      omega arith,
-      omega (arith, c.push_start-m.ensures.0),
-      c.push_start-m.auto.traces ∙ l.invariant.3,
-      starts_more a.flags.now cs l.k (decode_traces l.m l.traces) _ _ n (omega arith)
-          (c.push_start-m.ensures.1 ∙ ap (λ (v : «V»). decode_traces l.m l.traces ++ start_traces (get_or a.flags.now l.k 0 ∷ []) (v ∷ [])) c.centre.ensures) l.invariant.4,
+loop-k-preserved g c = let a = c.args in
+    let l = c.loop-k in (
+      omega (arith, l.invariant.0, c.push_start.ensures.many),
+      starts_more a.flags.now a.centres.now l.k (map trace_in l.traces) _ _ (sym c.requires.level) (omega (arith, c.requires.level, c.loop-k-test.true))
+          (c.push_start.ensures.all ∙ ap (λ (v : «V»). map trace_in l.traces ++ start_traces (get_or a.flags.now l.k 0 ∷ []) (v ∷ [])) (get_d_any a.centres.now l.k _ _ c.loop-k-test.true)) l.invariant.1,
     )
 
-pub shape_of-traces : goal.shape_of-traces
-shape_of-traces c = c.loop-k.invariant.3
-
-pub returns : goal.returns
-returns c = let a = c.args in
+pub returns-clause-all : goal.returns-clause-all
+returns-clause-all g c = let a = c.args in
     let l = c.loop-k in
-    let p : List Trace = decode_traces l.m l.traces in
-    (omega arith, sym (append-nil p) ∙ ap (λ (x : List Trace). p ++ x) (sym (starts-past a.flags.now (centres a.xs.now a.ys.now) l.k (omega arith))) ∙ l.invariant.4)
+    starts_end a.flags.now a.centres.now l.k (map trace_in l.traces) _ (omega (arith, c.requires.level, c.loop-k-test.false)) l.invariant.1
+
+pub returns-clause-many : goal.returns-clause-many
+returns-clause-many g c = let l = c.loop-k in omega (arith, l.invariant.0, c.loop-k.auto.k-end)
