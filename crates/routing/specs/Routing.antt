@@ -26,6 +26,8 @@ use Rattle.scene.specs.Turn as Place
 use Rattle.self_loop.specs.Looped.{Loop, loop_of, loop_drawn, trace_by, direction_cost}
 use Rattle.self_loop.specs.Looped as Looped
 pub use Rattle.bend.specs.Leads.{Ends}
+-- the size of an arrow's label block
+pub use Rattle.label.specs.declared.Block.{Block as BlockSize}
 
 -- ---- what is routed: no label enters the frame
 
@@ -34,11 +36,6 @@ pub record Frame : Type 0 where
   pub flags : List ℕ
   pub centres : List «V»
   pub arrows : List Ends
-
--- the size of an arrow's label block
-pub record BlockSize : Type 0 where
-  pub width : Float
-  pub height : Float
 
 abbrev pub no_size : BlockSize
 no_size = record { width = f0; height = f0 }

@@ -16,7 +16,6 @@ use Rattle.laws.specs.Zip.{zip_by, zip_at, take_zip}
 use Rattle.laws.specs.Joined.{filter_flat, flat_same, flat_filter}
 use Rattle.laws.specs.Places.{filter_some, filter_only, At, find}
 use Rattle.bend.specs.declared.Shape.{Shape}
-use Rattle.bend.specs.declared.Shape.TheVariants as Shape
 use Rattle.label_spots.specs.declared.Geometry.{Geometry}
 use Rattle.label_spots.specs.Spots.{spot_count, spot-count}
 use Rattle.label_spots.specs.Labels.{labelled}

@@ -1,5 +1,5 @@
 -- The passes leave in the slots what the run draws, and what is gathered from there is the records, one for each kept arrow. Assumes nothing.
-use Rattle.std.specs.Prelude.{◌≡◌, Bool, ℕ, zero, suc, ◌+◌, ◌*◌, ◌≤◌, ◌<◌, eqb, length, Float}
+use Rattle.std.specs.Prelude.{◌≡◌, Bool, ℕ, zero, suc, ◌+◌, ◌≤◌, ◌<◌, eqb, length}
 use Rattle.std.proofs.Math.Path.{refl}
 use Rattle.std.proofs.Common.{sym, ap, ap₂, ◌∙◌, arith, eqb-true}
 use Rattle.std.proofs.Math.Bool.{true, false, cond}
@@ -8,20 +8,22 @@ use Rattle.std.proofs.lemmas.Bool.{eqb-false}
 use Rattle.std.proofs.lemmas.List.{length-map}
 use Rattle.laws.specs.Cases.{by_bool}
 use Rattle.laws.specs.Filter.{filter_by, filter_join}
-use Rattle.laws.specs.Flat.{part, part-new}
 use Rattle.laws.specs.Loops.{over, over_join}
-use Rattle.laws.specs.Put.{put, length-put}
 use Rattle.laws.specs.Run as Run
 use Rattle.laws.specs.Zip.{zip_by}
-use Rattle.laws.specs.Flats.{part-kept}
-use Rattle.laws.specs.Joined.{map_join, map_flat, map_flat_one, over_flat, filter_flat, flat_same, flat_filter, flat_flat, filter_map, map-map}
+use Rattle.laws.specs.Joined.{map_join, map_flat, map_flat_one, over_flat, filter_flat, flat_same, flat_filter, filter_map, map-map}
 use Rattle.label_spots.specs.declared.Geometry.{Geometry}
 use Rattle.label_spots.specs.Labels.{labelled}
-use Rattle.records.specs.Records.{fields}
 use Rattle.scene.specs.Scene.{Scene}
 use Rattle.self_loop.specs.Looped.{loop_at}
 use Rattle.routing.specs.Routing.{Frame, BlockSize, Numbered, numbered, is_kept_in, is_loop, kept, route_of, first_scene, Item, loop, label, edge_of, is_arc, order, Step, step_of, steps, drawn_by, more, cost, scene_after, drawn_step, drawing, drawn_for, records, numbered_at, is_turn, item_for}
-use Rattle.routing_laws.specs.Passes.{turn_kind, items_of, Drawn, drawn_with, store, taken_in, played, turned, passed, slots_of, gathered}
+use Rattle.std.specs.Prelude.{Option, None, Some, set, get_or}
+use Rattle.std.proofs.Common.{add-zero, zero-add}
+use Rattle.std.proofs.lemmas.List.{length-set, get_or-set_same, get_or-set_other}
+use Rattle.std.proofs.Math.ListN.{get_or-eq_default}
+use Rattle.laws.specs.Cases.{by_lt}
+use Rattle.routing.specs.Routing.{Ends, numbered_from, numbered_by, no_ends}
+use Rattle.routing_laws.specs.Passes.{turn_kind, items_of, Drawn, drawn_with, store, taken_in, played, turned, passed, shown, gathered}
 use Rattle.routing_laws.specs.Numbers.{is_number, number_one, number_none, flat_numbered}
 use Rattle.routing_laws.proofs.Order.{order-passes}
 use Rattle.routing_laws.specs.Slots.{is_edge}
@@ -47,14 +49,14 @@ run-passes f sizes d =
     ∙ ap (λ (l : List Step). over (played f) (over (played f) d l) (turns 3)) (map_join (step_of sizes) (flat_map (items_of f 1) (numbered f)) (flat_map (items_of f 2) (numbered f)))
     ∙ ap (λ (c : Drawn). over (played f) c (turns 3)) (over_join (played f) d (turns 1) (turns 2)))
 
-slots_run : (f : Frame) (s : Scene) (l : List Float) (ts : List Step)
+slots_run : (f : Frame) (s : Scene) (l : List (Option Geometry)) (ts : List Step)
     → (over (played f) (drawn_with s l) ts).slots ≡ over store l (zip_by (drawn_step f) ts (Run.run (more f) (cost f) (scene_after f) s ts))
 unfolding over played zip_by Run.run
 slots_run f s l [] = refl
 slots_run f s l (t ∷ ts) = slots_run f (scene_after f s t (taken_in f s t)) (store l (drawn_step f t (taken_in f s t))) ts
 
 -- after the three passes, each drawing is stored in its slot, in the order of the turns
-pub passes-store : (f : Frame) (sizes : List BlockSize) (l : List Float)
+pub passes-store : (f : Frame) (sizes : List BlockSize) (l : List (Option Geometry))
     → (passed f sizes 3 (passed f sizes 2 (passed f sizes 1 (drawn_with (first_scene f) l)))).slots ≡ over store l (drawing f sizes)
 unfolding drawing
 passes-store f sizes l = ap (λ (d : Drawn). d.slots) (run-passes f sizes (drawn_with (first_scene f) l)) ∙ slots_run f (first_scene f) l (steps f sizes)
@@ -175,51 +177,75 @@ records_edges f sizes =
 pub records-length : (f : Frame) (sizes : List BlockSize) → length (records f sizes) ≡ length (kept f)
 records-length f sizes = sym (length-map (records f sizes) (λ g. g.edge)) ∙ ap length (records_edges f sizes) ∙ length-map (kept f) (λ a. a.edge)
 
-abbrev latest : List Float → Geometry → List Float
-latest p g = fields g
+abbrev latest : Option Geometry → Geometry → Option Geometry
+latest p g = Some g
 
 -- slot k has what was stored there last
-slot-last : (k : ℕ) (l : List Float) (gs : List Geometry) → 20 * k + 20 ≤ length l → part 20 k (over store l gs) ≡ over latest (part 20 k l) (filter_by (is_edge k) gs)
+slot-last : (k : ℕ) (l : List (Option Geometry)) (gs : List Geometry) → k < length l → get_or (over store l gs) k None ≡ over latest (get_or l k None) (filter_by (is_edge k) gs)
 unfolding over filter_by
 slot-last k l [] h = refl
 slot-last k l (g ∷ gs) h =
-    let room : 20 * k + 20 ≤ length (store l g) = omega (arith, length-put l (20 * g.edge) (fields g)) in
-    let go : part 20 k (over store (store l g) gs) ≡ over latest (part 20 k (store l g)) (filter_by (is_edge k) gs) = slot-last k (store l g) gs room in
+    let room : k < length (store l g) = omega (arith, length-set l g.edge (Some g)) in
+    let go : get_or (over store (store l g) gs) k None ≡ over latest (get_or (store l g) k None) (filter_by (is_edge k) gs) = slot-last k (store l g) gs room in
     by_bool (is_edge k g)
     (λ t. rw t
     (go
-    ∙ ap (λ (p : List Float). over latest p (filter_by (is_edge k) gs))
-    (ap (λ (m : ℕ). part 20 k (put l (20 * m) (fields g))) (eqb-true g.edge k t) ∙ part-new 20 (20 * k) l (fields g) refl h)))
-    (λ t. rw t (go ∙ ap (λ (p : List Float). over latest p (filter_by (is_edge k) gs)) (part-kept 20 k g.edge l (fields g) refl (λ q. eqb-false g.edge k t (sym q)))))
+    ∙ ap (λ (p : Option Geometry). over latest p (filter_by (is_edge k) gs))
+    (ap (λ (m : ℕ). get_or (set l m (Some g)) k None) (eqb-true g.edge k t) ∙ get_or-set_same l k (Some g) None h)))
+    (λ t. rw t (go ∙ ap (λ (p : Option Geometry). over latest p (filter_by (is_edge k) gs)) (get_or-set_other l g.edge k (Some g) None (λ q. eqb-false g.edge k t (sym q)))))
 
--- the slot of an arrow that is drawn once
-slot_one : (k : ℕ) (l : List Float) (gs : List Geometry) → map (λ g. g.edge) gs ≡ k ∷ [] → over latest l gs ≡ flat_map fields gs
-unfolding over flat_map
-slot_one k l [] e = absurd (omega (arith, ap length e))
-slot_one k l (g ∷ []) e = refl
-slot_one k l (g ∷ h ∷ gs) e = absurd (omega (arith, ap length e))
+length-store : (l : List (Option Geometry)) (gs : List Geometry) → length (over store l gs) ≡ length l
+unfolding over
+length-store l [] = refl
+length-store l (g ∷ gs) = length-store (store l g) gs ∙ length-set l g.edge (Some g)
 
-pub slots_gathered : (f : Frame) (sizes : List BlockSize) (l : List Float) → 20 * length f.arrows ≤ length l
-    → gathered f (over store l (drawing f sizes)) ≡ flat_map fields (records f sizes)
-unfolding gathered slots_of turn_kind flat_map
-slots_gathered f sizes l room =
-    flat_numbered _ (λ a. flat_map fields (cond (is_kept_in f a) (drawn_for (drawing f sizes) a) [])) f
-    (λ k i. go k (is_kept_in f (numbered_at f k)) (is_loop (numbered_at f k)) (is_arc (route_of f (numbered_at f k))) (drawn_for (drawing f sizes) (numbered_at f k))
-    (slot-last k l (drawing f sizes) (omega arith)) (drawn_once f sizes k i))
-    ∙ sym (flat_flat fields (λ a. cond (is_kept_in f a) (drawn_for (drawing f sizes) a) []) (numbered f))
-    ∙ ap (flat_map fields) (sym (records-each f sizes))
+-- the slot of an arrow that is drawn once, or not at all
+slot_one : (k : ℕ) (b : Bool) (gs : List Geometry) → map (λ g. g.edge) gs ≡ cond b (k ∷ []) [] → shown (over latest None gs) ≡ cond b gs []
+unfolding over
+slot_one k true [] e = absurd (omega (arith, ap length e))
+slot_one k true (g ∷ []) e = refl
+slot_one k true (g ∷ h ∷ gs) e = absurd (omega (arith, ap length e))
+slot_one k false [] e = refl
+slot_one k false (g ∷ gs) e = absurd (omega (arith, ap length e))
+
+-- slots that show what each arrow has, and nothing past the last arrow
+flat_slots : (h : Numbered → List Geometry) (l : List (Option Geometry)) (n : ℕ) (es : List Ends) → length es ≤ length l
+    → ((k : ℕ) → k < length es → shown (get_or l k None) ≡ h (numbered_by (n + k) (get_or es k no_ends)))
+    → ((k : ℕ) → length es ≤ k → shown (get_or l k None) ≡ []) → flat_map shown l ≡ flat_map h (numbered_from n es)
+unfolding flat_map numbered_from
+flat_slots h [] n [] r a z = refl
+flat_slots h [] n (e ∷ es) r a z = absurd (omega arith)
+flat_slots h (x ∷ l) n [] r a z =
+    ap (λ (y : List Geometry). y ++ flat_map shown l) (z 0 (omega arith))
+    ∙ flat_slots h l n [] (omega arith) (λ k i. absurd (omega arith)) (λ k i. z (suc k) (omega arith))
+flat_slots h (x ∷ l) n (e ∷ es) r a z =
+    ap₂ (λ (p q : List Geometry). p ++ q)
+    (a 0 (omega arith) ∙ ap (λ (m : ℕ). h (numbered_by m e)) (add-zero n))
+    (flat_slots h l (suc n) es (omega arith)
+    (λ k i.
+    let q : n + suc k ≡ suc n + k = omega arith in
+    a (suc k) (omega arith) ∙ ap (λ (m : ℕ). h (numbered_by m (get_or es k no_ends))) q)
+    (λ k i. z (suc k) (omega arith)))
+
+slots_gathered : (f : Frame) (sizes : List BlockSize) (l : List (Option Geometry)) → length f.arrows ≤ length l → ((k : ℕ) → get_or l k None ≡ None)
+    → gathered (over store l (drawing f sizes)) ≡ records f sizes
+unfolding gathered
+slots_gathered f sizes l room none =
+    flat_slots (λ a. cond (is_kept_in f a) (drawn_for (drawing f sizes) a) []) (over store l (drawing f sizes)) 0 f.arrows
+    (omega (arith, length-store l (drawing f sizes)))
+    (λ k i.
+    last k (omega arith) ∙ slot_one k (is_kept_in f (numbered_at f k)) (filter_by (is_edge k) (drawing f sizes)) (drawn_once f sizes k i)
+    ∙ ap (λ (m : ℕ). cond (is_kept_in f (numbered_by m (get_or f.arrows k no_ends))) (drawn_for (drawing f sizes) (numbered_by m (get_or f.arrows k no_ends))) []) (sym (zero-add k)))
+    (λ k i.
+    by_lt k (length l)
+    (λ h. last k h ∙ slot_one k false (filter_by (is_edge k) (drawing f sizes)) (edges_own f sizes k ∙ ap (map edge_of) (own_none f k i)))
+    (λ h. ap shown (get_or-eq_default (over store l (drawing f sizes)) None (omega (arith, length-store l (drawing f sizes))))))
+    ∙ sym (records-each f sizes)
   where
-    go : (k : ℕ) (b c d : Bool) (gs : List Geometry) → part 20 k (over store l (drawing f sizes)) ≡ over latest (part 20 k l) gs
-        → map (λ g. g.edge) gs ≡ cond b (k ∷ []) []
-        → cond (eqb (cond b (cond c 1 (cond d 2 3)) 0) 0) [] (part 20 k (over store l (drawing f sizes))) ≡ flat_map fields (cond b gs [])
-    go k true true d gs e n = e ∙ slot_one k (part 20 k l) gs n
-    go k true false true gs e n = e ∙ slot_one k (part 20 k l) gs n
-    go k true false false gs e n = e ∙ slot_one k (part 20 k l) gs n
-    go k false c d gs e n = refl
+    last : (k : ℕ) → k < length l → shown (get_or (over store l (drawing f sizes)) k None) ≡ shown (over latest None (filter_by (is_edge k) (drawing f sizes)))
+    last k h = ap shown (slot-last k l (drawing f sizes) h ∙ ap (λ (p : Option Geometry). over latest p (filter_by (is_edge k) (drawing f sizes))) (none k))
 
 -- what the three passes leave, gathered: the records
-pub passes-gathered : (f : Frame) (sizes : List BlockSize) (l : List Float) → 20 * length f.arrows ≤ length l
-    → gathered f (passed f sizes 3 (passed f sizes 2 (passed f sizes 1 (drawn_with (first_scene f) l)))).slots ≡ flat_map fields (records f sizes)
-passes-gathered f sizes l room = ap (gathered f) (passes-store f sizes l) ∙ slots_gathered f sizes l room
-
--- ---- the other slots stay
+pub passes-gathered : (f : Frame) (sizes : List BlockSize) (l : List (Option Geometry)) → length f.arrows ≤ length l → ((k : ℕ) → get_or l k None ≡ None)
+    → gathered (passed f sizes 3 (passed f sizes 2 (passed f sizes 1 (drawn_with (first_scene f) l)))).slots ≡ records f sizes
+passes-gathered f sizes l room none = ap gathered (passes-store f sizes l) ∙ slots_gathered f sizes l room none

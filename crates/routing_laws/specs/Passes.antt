@@ -1,20 +1,14 @@
 -- How the code runs the turns: what is known of each arrow before any label is placed, then three passes over all arrows in their order.
--- A scene and the twenty numbers of each arrow, at 20 times its number, go from turn to turn.
-use Rattle.std.specs.Prelude.{Bool, not, cond, ◌&&◌, ℕ, zero, suc, ◌*◌, eqb, Float}
+-- A scene and what is drawn of each arrow, at its number, go from turn to turn.
+use Rattle.std.specs.Prelude.{Bool, not, cond, ◌&&◌, ℕ, zero, suc, eqb, set, Option, None, Some}
 use mathlib.Core.List.{List, [], ◌∷◌, map, flat_map}
-use Rattle.laws.specs.Flat.{part}
 use Rattle.laws.specs.Loops.{over}
-use Rattle.laws.specs.Put.{put}
 use Rattle.laws.specs.Run as Run
-use Rattle.float.specs.Constants.{f0}
 use Rattle.trace.specs.Traces.{Trace}
-use Rattle.shape.specs.Centres.{centre, centres}
-use Rattle.directions.specs.Rims.{leave_angle, reach_angle}
 use Rattle.label_spots.specs.declared.Geometry.{Geometry}
-use Rattle.records.specs.Records.{fields}
 use Rattle.records.specs.Sorts.{sort_left_out, sort_loop, sort_arc, sort_straight}
 use Rattle.scene.specs.Scene.{Scene}
-use Rattle.routing.specs.Routing.{Frame, BlockSize, Numbered, Item, loop, label, Step, numbered, is_kept_in, is_loop, joined, route_of, is_arc, route_trace, step_of, more, cost, scene_after, drawn_step}
+use Rattle.routing.specs.Routing.{Frame, BlockSize, Numbered, Item, loop, label, Step, numbered, is_kept_in, is_loop, route_of, is_arc, route_trace, step_of, more, cost, scene_after, drawn_step}
 
 -- ---- what is known of an arrow before any label is placed
 
@@ -24,13 +18,6 @@ is_crossing f a = is_kept_in f a && not (is_loop a)
 -- an arrow's sort
 unfoldable pub turn_kind : Frame → Numbered → ℕ
 turn_kind f a = cond (is_kept_in f a) (cond (is_loop a) sort_loop (cond (is_arc (route_of f a)) sort_arc sort_straight)) sort_left_out
-
--- the angles at which an arrow between different states leaves its first and reaches its second; 0 for others
-unfoldable pub leave_of : Frame → Numbered → Float
-leave_of f a = cond (is_crossing f a) (leave_angle (joined f a).curve (centre f.centres a.ends.source)) f0
-
-unfoldable pub reach_of : Frame → Numbered → Float
-reach_of f a = cond (is_crossing f a) (reach_angle (joined f a).curve (centre f.centres a.ends.target)) f0
 
 -- the trace that it has before any label
 unfoldable pub traces_of : Frame → Numbered → List Trace
@@ -47,16 +34,16 @@ item_of f (suc (suc s)) a = label (route_of f a)
 unfoldable pub items_of : Frame → ℕ → Numbered → List Item
 items_of f s a = cond (eqb (turn_kind f a) s) (item_of f s a ∷ []) []
 
--- the scene, and what is drawn, twenty numbers at 20 times the arrow's number
+-- the scene, and what is drawn, at the arrow's number
 pub record Drawn : Type 0 where
   pub scene : Scene
-  pub slots : List Float
+  pub slots : List (Option Geometry)
 
-abbrev pub drawn_with : Scene → List Float → Drawn
+abbrev pub drawn_with : Scene → List (Option Geometry) → Drawn
 drawn_with s l = record { scene = s; slots = l }
 
-abbrev pub store : List Float → Geometry → List Float
-store l g = put l (20 * g.edge) (fields g)
+abbrev pub store : List (Option Geometry) → Geometry → List (Option Geometry)
+store l g = set l g.edge (Some g)
 
 -- the place taken at a turn
 abbrev pub taken_in : Frame → Scene → Step → ℕ
@@ -73,8 +60,9 @@ passed f sizes p d = over (turned f sizes p) d (numbered f)
 
 -- ---- the records, from the slots
 
-unfoldable pub slots_of : Frame → List Float → Numbered → List Float
-slots_of f l a = cond (eqb (turn_kind f a) sort_left_out) [] (part 20 a.edge l)
+abbrev pub shown : Option Geometry → List Geometry
+shown None = []
+shown (Some g) = g ∷ []
 
-unfoldable pub gathered : Frame → List Float → List Float
-gathered f l = flat_map (slots_of f l) (numbered f)
+unfoldable pub gathered : List (Option Geometry) → List Geometry
+gathered l = flat_map shown l
