@@ -1,1 +1,158 @@
 -- Steps of the proofs. Assumes nothing.
+use Rattle.std.specs.Prelude.{◌≡◌, refl, Bool, true, false, not, ◌&&◌, cond, ℕ, suc, ◌+◌, ◌≤◌, ◌<◌, ltb, eqb, length, get_or, drop, Option, None, Some}
+use Rattle.std.proofs.Common.{sym, ap, ap₂, ◌∙◌, arith, ltb-true, eqb-true, add-one, drop-cons, drop_of_length-le}
+use Rattle.std.proofs.lemmas.Bool.{eqb-false}
+use mathlib.Core.List.{List, [], ◌∷◌, ◌++◌, map, flat_map}
+use Rattle.std.proofs.Math.ListN.{get_or-map}
+use Rattle.laws.specs.Cases.{by_bool}
+use Rattle.laws.specs.Bools.{and_first}
+use Rattle.laws.specs.Loops.{over}
+use Rattle.laws.specs.Lists.{get_d_any, map_at}
+use Rattle.label_spots.specs.declared.Geometry.{Geometry}
+use Rattle.routing.specs.Routing.{Frame, Ends, BlockSize, Numbered, numbered, numbered_at, no_ends, is_kept_in, is_loop, joined, route_of, is_arc, arc_shape}
+use Rattle.routing_laws.specs.Passes.{Drawn, turn_kind, turned, passed, shown, gathered}
+use Rattle.routing_laws.specs.Turns.{size_for}
+use Rattle.routing_laws.specs.Numbers.{numbered-drop, numbered-past}
+use Rattle.routing_laws.proofs.Turns.{turned_loop, turned_label, turned-other}
+use Rattle.curves.specs.declared.Laid.{Laid}
+use Rattle.curves.specs.declared.Laid.TheVariants as Laid
+use Rattle.curves.specs.Lay.{laid_by, laid_of, crossing_by}
+use Rattle.turns.specs.Steps.{kind_laid, pass_of, turned_as, turned_by}
+use Rattle.turns.specs.declared.Sort.{Sort}
+use Rattle.turns.specs.declared.Sort.TheVariants as Sort
+use Rattle.std.specs.Prelude.{set}
+use Rattle.laws.specs.Joined.{map_join}
+use Rattle.shape.specs.declared.«V».{«V»}
+use Rattle.shape.specs.declared.Rect.{Rect}
+use Rattle.trace.specs.Traces.{Trace, trace_of, arrow}
+use Rattle.trace.specs.Form.{trace_in}
+use Rattle.trace.specs.declared.Trace.{Trace as Stored}
+use Rattle.label_spots.specs.declared.Turn.{Turn}
+use Rattle.label_spots.specs.Labels.{labelled}
+use Rattle.scene.specs.Scene.{Scene, scene_of}
+use Rattle.scene.specs.Turn.{placed_arrow}
+use Rattle.self_loop.specs.Looped.{Loop, looped, loop_at, trace_by}
+use Rattle.routing_laws.specs.Passes.{drawn_with}
+use Rattle.routing_laws.specs.Turns.{with_loop, with_label}
+
+module _ (f : Frame) (i : ℕ) where
+  abbrev ends : Ends
+  ends = get_or f.arrows i no_ends
+
+  abbrev this : Numbered
+  this = numbered_at f i
+
+  -- what is known of arrow i
+  pub laid_at : (ls : List Laid) (d : Laid) → ls ≡ laid_of f → i < length f.arrows → i < length ls → get_or ls i d ≡ laid_by f ends
+  laid_at ls d e h k = get_d_any ls i d (laid_by f no_ends) k ∙ ap (λ (l : List Laid). get_or l i (laid_by f no_ends)) e ∙ get_or-map (laid_by f) f.arrows i no_ends
+
+  laid_left : is_kept_in f this ≡ false → laid_by f ends ≡ Laid.LeftOut
+  unfolding laid_by
+  laid_left k = rw k
+
+  laid_loop : is_kept_in f this ≡ true → is_loop this ≡ true → laid_by f ends ≡ Laid.Loop
+  unfolding laid_by
+  laid_loop k l = rw (k, l)
+
+  laid_between : is_kept_in f this ≡ true → is_loop this ≡ false → laid_by f ends ≡ Laid.Between (crossing_by f ends)
+  unfolding laid_by
+  laid_between k l = rw (k, l)
+
+  pub kind_is : turn_kind f this ≡ kind_laid (laid_by f ends)
+  unfolding turn_kind laid_by joined
+  kind_is =
+      by_bool (is_kept_in f this)
+      (λ k. by_bool (is_loop this) (λ l. rw (k, l)) (λ l. rw (k, l)))
+      (λ k. rw k)
+
+  -- the state of a loop exists
+  pub loop_state : laid_by f ends ≡ Laid.Loop → ends.source < length f.flags
+  loop_state e =
+      by_bool (is_kept_in f this)
+      (λ k. ltb-true _ _ (and_first (ltb ends.source (length f.flags)) (ltb ends.target (length f.flags)) k))
+      (λ k. let z : 0 ≡ 1 = ap kind_laid (sym (laid_left k) ∙ e) in absurd (omega arith))
+
+  -- the turn in the pass of the arrow's sort, and in another
+  module _ (sizes : List BlockSize) (p : ℕ) (d : Drawn) where
+    label_turned : turn_kind f this ≡ cond (arc_shape (crossing_by f ends).routed.shape) 2 3 → turn_kind f this ≡ suc p
+        → turned f sizes (suc p) d this ≡ turned_as f (size_for sizes i) i d (Laid.Between (crossing_by f ends))
+    unfolding joined
+    label_turned kind e =
+        by_bool (arc_shape (crossing_by f ends).routed.shape)
+        (λ w.
+        let two : turn_kind f this ≡ 2 = kind ∙ rw w in
+        ap (λ (q : ℕ). turned f sizes q d this) (sym e ∙ two) ∙ turned_label f sizes 0 d this two)
+        (λ w.
+        let three : turn_kind f this ≡ 3 = kind ∙ rw w in
+        ap (λ (q : ℕ). turned f sizes q d this) (sym e ∙ three) ∙ turned_label f sizes 1 d this three)
+
+    pub turn_yes : eqb (kind_laid (laid_by f ends)) (suc p) ≡ true → turned_by f (size_for sizes i) i d ≡ turned f sizes (suc p) d this
+    turn_yes t =
+        let e : turn_kind f this ≡ suc p = kind_is ∙ eqb-true _ _ t in
+        by_bool (is_kept_in f this)
+        (λ k.
+        by_bool (is_loop this)
+        (λ l.
+        let one : turn_kind f this ≡ 1 = kind_is ∙ ap kind_laid (laid_loop k l) in
+        ap (turned_as f (size_for sizes i) i d) (laid_loop k l)
+        ∙ sym (ap (λ (q : ℕ). turned f sizes q d this) (sym e ∙ one) ∙ turned_loop f sizes d this one))
+        (λ l.
+        let kind : turn_kind f this ≡ cond (arc_shape (crossing_by f ends).routed.shape) 2 3 = kind_is ∙ ap kind_laid (laid_between k l) in
+        ap (turned_as f (size_for sizes i) i d) (laid_between k l) ∙ sym (label_turned kind e)))
+        (λ k. let z : 0 ≡ suc p = sym (kind_is ∙ ap kind_laid (laid_left k)) ∙ e in absurd (omega arith))
+    pub turn_no : eqb (kind_laid (laid_by f ends)) p ≡ false → d ≡ turned f sizes p d this
+    turn_no t = sym (turned-other f sizes p d this (λ q. eqb-false _ _ t (sym kind_is ∙ q)))
+
+  module _ (sizes : List BlockSize) (d : Drawn) (x : Laid) (sort : Sort) (w : x ≡ laid_by f ends) where
+    turn_held : (size : BlockSize) (s : Sort) → size ≡ size_for sizes i → eqb (kind_laid (laid_by f ends)) (pass_of s) ≡ true → turned_by f size i d ≡ turned f sizes (pass_of s) d this
+    turn_held size Sort.Loop z t = ap (λ (q : BlockSize). turned_by f q i d) z ∙ turn_yes sizes 0 d t
+    turn_held size Sort.Arc z t = ap (λ (q : BlockSize). turned_by f q i d) z ∙ turn_yes sizes 1 d t
+    turn_held size Sort.Straight z t = ap (λ (q : BlockSize). turned_by f q i d) z ∙ turn_yes sizes 2 d t
+
+    pub turn_sort : (size : BlockSize) → size ≡ size_for sizes i → eqb (kind_laid x) (pass_of sort) ≡ true → turned_by f size i d ≡ turned f sizes (pass_of sort) d this
+    turn_sort size z t = turn_held size sort z (ap (λ (l : Laid). eqb (kind_laid l) (pass_of sort)) (sym w) ∙ t)
+
+    pub turn_other : eqb (kind_laid x) (pass_of sort) ≡ false → d ≡ turned f sizes (pass_of sort) d this
+    turn_other t = turn_no sizes (pass_of sort) d (ap (λ (l : Laid). eqb (kind_laid l) (pass_of sort)) (sym w) ∙ t)
+
+-- ---- one drawing more
+
+pub looped-edge : (s : Scene) (l : Loop) → (looped s l).edge ≡ l.edge
+unfolding loop_at labelled
+looped-edge s l = refl
+
+pub placed-edge : (s : Scene) (t : Turn) → (placed_arrow s t).edge ≡ t.edge
+unfolding labelled
+placed-edge s t = refl
+
+module _ (cs : List «V») (bs : List Rect) (slots : List (Option Geometry)) (i : ℕ) (g h : Geometry) (e : g ≡ h) (k : h.edge ≡ i) where
+  pub loop_added : (ts us : List Stored) (t : Stored) → us ≡ ts ++ (t ∷ []) → trace_in t ≡ trace_of (arrow i) g.curve
+      → drawn_with (scene_of cs (map trace_in us) (bs ++ (g.label_box ∷ []))) (set slots i (Some g)) ≡ with_loop (drawn_with (scene_of cs (map trace_in ts) bs) slots) h
+  loop_added ts us t w v =
+      let owned : trace_in t ≡ trace_by h = v ∙ ap₂ (λ (n : ℕ) (x : Geometry). trace_of (arrow n) x.curve) (sym k) e in
+      ap (λ (x : Geometry). drawn_with (scene_of cs (map trace_in us) (bs ++ (x.label_box ∷ []))) (set slots i (Some x))) e
+      ∙ ap₂ (λ (y : List Trace) (n : ℕ). drawn_with (scene_of cs y (bs ++ (h.label_box ∷ []))) (set slots n (Some h)))
+      (ap (map trace_in) w ∙ map_join trace_in ts (t ∷ []) ∙ ap (λ (x : Trace). map trace_in ts ++ (x ∷ [])) owned) (sym k)
+
+  pub label_added : (ts : List Trace) → drawn_with (scene_of cs ts (bs ++ (g.label_box ∷ []))) (set slots i (Some g)) ≡ with_label (drawn_with (scene_of cs ts bs) slots) h
+  label_added ts =
+      ap (λ (x : Geometry). drawn_with (scene_of cs ts (bs ++ (x.label_box ∷ []))) (set slots i (Some x))) e
+      ∙ ap (λ (n : ℕ). drawn_with (scene_of cs ts (bs ++ (h.label_box ∷ []))) (set slots n (Some h))) (sym k)
+
+-- ---- a pass
+
+pub pass_more : (f : Frame) (sizes : List BlockSize) (p i : ℕ) (c d r : Drawn) → i < length f.arrows → d ≡ turned f sizes p c (numbered_at f i)
+    → over (turned f sizes p) c (drop i (numbered f)) ≡ r → over (turned f sizes p) d (drop (i + 1) (numbered f)) ≡ r
+unfolding over
+pass_more f sizes p i c d r h e g =
+    ap (λ (x : Drawn). over (turned f sizes p) x (drop (i + 1) (numbered f))) e
+    ∙ ap (over (turned f sizes p) c) (sym (numbered-drop f i h))
+    ∙ g
+
+pub pass_end : (f : Frame) (sizes : List BlockSize) (p i : ℕ) (c r : Drawn) → length f.arrows ≤ i → over (turned f sizes p) c (drop i (numbered f)) ≡ r → c ≡ r
+unfolding over
+pass_end f sizes p i c r h g = sym (ap (over (turned f sizes p) c) (numbered-past f i h)) ∙ g
+
+pub pass_all : (f : Frame) (sizes : List BlockSize) (p : ℕ) (d : Drawn) → over (turned f sizes p) d (drop 0 (numbered f)) ≡ passed f sizes p d
+unfolding passed
+pass_all f sizes p d = refl

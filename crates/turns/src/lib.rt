@@ -184,9 +184,11 @@ pub fn gather(drawn: &[Option<Geometry>], records: &mut [Geometry]) -> usize
     ensures { (result ≡ length (gathered drawn.now)) × (records.new ≡ put records.old 0 (gathered drawn.now)) }
 {
     let mut n: usize = 0;
-    for g in drawn.iter().flatten() {
-        records[n] = *g;
-        n += 1;
+    for shown in drawn {
+        if let Some(g) = shown {
+            records[n] = *g;
+            n += 1;
+        }
     }
     n
 }
