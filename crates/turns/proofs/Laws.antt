@@ -1,27 +1,26 @@
 -- Steps of the proofs. Assumes nothing.
-use Rattle.std.specs.Prelude.{◌≡◌, refl, Bool, true, false, not, ◌&&◌, cond, ℕ, suc, ◌+◌, ◌≤◌, ◌<◌, ltb, eqb, length, get_or, drop, Option, None, Some}
-use Rattle.std.proofs.Common.{sym, ap, ap₂, ◌∙◌, arith, ltb-true, eqb-true, add-one, drop-cons, drop_of_length-le}
+use Rattle.std.specs.Prelude.{◌≡◌, refl, true, false, cond, ℕ, suc, ◌+◌, ◌≤◌, ◌<◌, ltb, eqb, length, get_or, drop, Option, Some}
+use Rattle.std.proofs.Common.{sym, ap, ap₂, ◌∙◌, arith, ltb-true, eqb-true, add-one, drop-cons, drop_of_length-le, length-append}
 use Rattle.std.proofs.lemmas.Bool.{eqb-false}
 use mathlib.Core.List.{List, [], ◌∷◌, ◌++◌, map, flat_map}
 use Rattle.std.proofs.Math.ListN.{get_or-map}
 use Rattle.laws.specs.Cases.{by_bool}
 use Rattle.laws.specs.Bools.{and_first}
 use Rattle.laws.specs.Loops.{over}
-use Rattle.laws.specs.Lists.{get_d_any, map_at}
+use Rattle.laws.specs.Lists.{get_d_any}
 use Rattle.label_spots.specs.declared.Geometry.{Geometry}
-use Rattle.routing.specs.Routing.{Frame, Ends, BlockSize, Numbered, numbered, numbered_at, no_ends, is_kept_in, is_loop, joined, route_of, is_arc, arc_shape}
+use Rattle.routing.specs.Routing.{Frame, Ends, BlockSize, Numbered, numbered, numbered_at, no_ends, is_kept_in, is_loop, joined, arc_shape}
 use Rattle.routing_laws.specs.Passes.{Drawn, turn_kind, turned, passed, shown, gathered}
 use Rattle.routing_laws.specs.Turns.{size_for}
 use Rattle.routing_laws.specs.Numbers.{numbered-drop, numbered-past}
 use Rattle.routing_laws.proofs.Turns.{turned_loop, turned_label, turned-other}
 use Rattle.curves.specs.declared.Laid.{Laid}
-use Rattle.curves.specs.declared.Laid.TheVariants as Laid
 use Rattle.curves.specs.Lay.{laid_by, laid_of, crossing_by}
 use Rattle.turns.specs.Steps.{kind_laid, pass_of, turned_as, turned_by}
 use Rattle.turns.specs.declared.Sort.{Sort}
-use Rattle.turns.specs.declared.Sort.TheVariants as Sort
 use Rattle.std.specs.Prelude.{set}
 use Rattle.laws.specs.Joined.{map_join}
+use Rattle.laws.specs.Put.{put, put-put}
 use Rattle.shape.specs.declared.«V».{«V»}
 use Rattle.shape.specs.declared.Rect.{Rect}
 use Rattle.trace.specs.Traces.{Trace, trace_of, arrow}
@@ -156,3 +155,28 @@ pass_end f sizes p i c r h g = sym (ap (over (turned f sizes p) c) (numbered-pas
 pub pass_all : (f : Frame) (sizes : List BlockSize) (p : ℕ) (d : Drawn) → over (turned f sizes p) d (drop 0 (numbered f)) ≡ passed f sizes p d
 unfolding passed
 pass_all f sizes p d = refl
+
+-- ---- the records
+
+gathered_more : (l : List (Option Geometry)) (i : ℕ) (x : Option Geometry) → i < length l → x ≡ get_or l i x → gathered (drop i l) ≡ shown x ++ gathered (drop (i + 1) l)
+unfolding gathered flat_map
+gathered_more l i x h w = rw (drop-cons l i x h, ← w, add-one)
+
+module _ (l : List (Option Geometry)) (i : ℕ) (x : Option Geometry) (h : i < length l) (w : x ≡ get_or l i x) where
+  pub gathered_length : length (gathered (drop i l)) ≡ length (shown x) + length (gathered (drop (i + 1) l))
+  gathered_length = ap length (gathered_more l i x h w) ∙ length-append (shown x) (gathered (drop (i + 1) l))
+
+  pub gathered_put : (rs ss ts : List Geometry) (n m : ℕ) → ss ≡ put rs n (shown x) → m ≡ n + length (shown x) → put rs n (gathered (drop i l)) ≡ ts → put ss m (gathered (drop (i + 1) l)) ≡ ts
+  gathered_put rs ss ts n m e k g =
+      ap₂ (λ (y : List Geometry) (j : ℕ). put y j (gathered (drop (i + 1) l))) e k
+      ∙ put-put rs n (shown x) (gathered (drop (i + 1) l))
+      ∙ ap (put rs n) (sym (gathered_more l i x h w))
+      ∙ g
+
+pub gathered_past : (l : List (Option Geometry)) (i : ℕ) → length l ≤ i → gathered (drop i l) ≡ []
+unfolding gathered flat_map
+gathered_past l i h = rw (drop_of_length-le l h)
+
+pub gathered_end : (l : List (Option Geometry)) (i n : ℕ) (rs ts : List Geometry) → length l ≤ i → put rs n (gathered (drop i l)) ≡ ts → rs ≡ ts
+unfolding put
+gathered_end l i n rs ts h g = sym (ap (put rs n) (gathered_past l i h)) ∙ g

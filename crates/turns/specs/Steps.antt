@@ -1,5 +1,5 @@
 -- The turns as the code runs them, arrow by arrow.
-use Rattle.std.specs.Prelude.{◌≡◌, cond, ℕ, ◌+◌, ◌≤◌, length, get_or, set, Option, Some}
+use Rattle.std.specs.Prelude.{cond, ℕ, ◌+◌, ◌≤◌, length, get_or, set, Some}
 use mathlib.Core.List.{List, [], ◌∷◌, ◌++◌, map}
 use Rattle.trace.specs.Form.{trace_in}
 use Rattle.label_spots.specs.declared.Geometry.{Geometry}
@@ -8,12 +8,11 @@ use Rattle.scene.specs.Turn.{placed_arrow}
 use Rattle.self_loop.specs.Looped.{looped}
 use Rattle.routing.specs.Routing.{Frame, BlockSize, loop_turn, turn_of, arc_shape, numbered_at, no_ends}
 use Rattle.routing_laws.specs.Passes.{Drawn, drawn_with, passed}
+pub use Rattle.routing_laws.specs.Passes.{shown}
 use Rattle.routing_laws.specs.Turns.{with_loop, with_label}
 use Rattle.curves.specs.declared.Laid.{Laid}
-use Rattle.curves.specs.declared.Laid.TheVariants as Laid
 use Rattle.curves.specs.Lay.{laid_by}
 use Rattle.turns.specs.declared.Sort.{Sort}
-use Rattle.turns.specs.declared.Sort.TheVariants as Sort
 use Rattle.turns.specs.declared.Drawing.{Drawing}
 
 -- an arrow's sort, by the number of its pass; 0 for one that is left out

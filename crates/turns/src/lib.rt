@@ -178,6 +178,21 @@ impl<const ARROWS: usize, const BOXES: usize, const TRACES: usize> Drawing<ARROW
     }
 }
 
+// ---- the records
+
+// Puts a drawing as record n, where there is one; the number of records after.
+#[tactic(auto, unfolding(laws::specs::Put::put))]
+fn put_shown(shown: &Option<Geometry>, records: &mut [Geometry], n: usize) -> usize
+    requires { n + length (S.shown shown.now) ≤ length records.old }
+    ensures { (result ≡ n + length (S.shown shown.now)) × (records.new ≡ put records.old n (S.shown shown.now)) }
+{
+    if let Some(g) = shown {
+        records[n] = *g;
+        return n + 1;
+    }
+    n
+}
+
 // The drawings, in arrow order; how many.
 pub fn gather(drawn: &[Option<Geometry>], records: &mut [Geometry]) -> usize
     requires { length (gathered drawn.now) ≤ length records.old }
@@ -185,10 +200,7 @@ pub fn gather(drawn: &[Option<Geometry>], records: &mut [Geometry]) -> usize
 {
     let mut n: usize = 0;
     for shown in drawn {
-        if let Some(g) = shown {
-            records[n] = *g;
-            n += 1;
-        }
+        n = put_shown(shown, records, n);
     }
     n
 }

@@ -1,11 +1,7 @@
 -- `turns::gather` meets its contract.
 use Rattle.std.proofs.Common.{◌≡◌, ◌+◌, length, drop}
-use Rattle.laws.specs.Loops.{over}
 use Rattle.laws.specs.Put.{put}
-use Rattle.routing.specs.Routing.{numbered}
-use Rattle.routing_laws.specs.Passes.{turned, passed, gathered}
-use Rattle.curves.specs.Lay.{frame_in}
-use Rattle.turns.specs.Steps.{Grown, drawn_in, pass_of}
+use Rattle.routing_laws.specs.Passes.{gathered}
 use Rattle.turns.proofs.gather.Given as goal
 
 abbrev pub invariant-loop-shown : goal.invariant-loop-shown

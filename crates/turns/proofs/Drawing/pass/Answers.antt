@@ -1,6 +1,5 @@
 -- `turns::Drawing::pass` meets its contract.
-use Rattle.std.proofs.Common.{rules, refl, sym, ap, ◌∙◌, arith, ◌≡◌, ◌+◌, ◌<◌, length, get_or}
-use Rattle.laws.specs.Lists.{get_d_any}
+use Rattle.std.proofs.Common.{arith}
 use Rattle.curves.specs.Lay.{frame_in}
 use Rattle.turns.specs.Steps.{drawn_in, pass_of}
 use Rattle.turns.proofs.Laws.{pass_more, pass_end, pass_all}

@@ -1,9 +1,8 @@
 -- `turns::Drawing::pass` meets its contract.
-use Rattle.std.proofs.Common.{◌≡◌, ◌+◌, length, drop}
+use Rattle.std.proofs.Common.{◌≡◌, drop}
 use Rattle.laws.specs.Loops.{over}
-use Rattle.laws.specs.Put.{put}
 use Rattle.routing.specs.Routing.{numbered}
-use Rattle.routing_laws.specs.Passes.{turned, passed, gathered}
+use Rattle.routing_laws.specs.Passes.{turned, passed}
 use Rattle.curves.specs.Lay.{frame_in}
 use Rattle.turns.specs.Steps.{Grown, drawn_in, pass_of}
 use Rattle.turns.proofs.Drawing.pass.Given as goal

@@ -1,13 +1,11 @@
 -- `turns::Drawing::turn` meets its contract.
-use Rattle.std.proofs.Common.{rules, refl, sym, ap, ◌∙◌, arith, ◌≡◌, ◌+◌, ◌<◌, length, get_or}
-use Rattle.laws.specs.Lists.{get_d_any}
+use Rattle.std.proofs.Common.{rules, sym, ap, ◌∙◌, arith, ◌<◌, length}
 use Rattle.curves.specs.Lay.{frame_in}
 use Rattle.std.proofs.lemmas.List.{length-map}
 use Rattle.scene.specs.Turn.{placed_arrow}
 use Rattle.self_loop.specs.Looped.{looped}
-use Rattle.routing.specs.Routing.{Frame, no_ends, loop_turn, turn_of, numbered_at}
+use Rattle.routing.specs.Routing.{loop_turn, turn_of, numbered_at}
 use Rattle.curves.specs.Lay.{laid_by}
-use Rattle.trace.specs.Form.{trace_in}
 use Rattle.turns.specs.Steps.{scene_in, drawn_in, turned_as}
 use Rattle.turns.proofs.Laws.{laid_at, loop_state, looped-edge, placed-edge, loop_added, label_added}
 use Rattle.turns.proofs.Drawing.turn.Goals as goal

@@ -1,5 +1,5 @@
 -- `turns::Drawing::turn_at` meets its contract.
-use Rattle.std.proofs.Common.{rules, refl, sym, ap, ◌∙◌, arith, ◌≡◌, ◌+◌, ◌<◌, length, get_or}
+use Rattle.std.proofs.Common.{sym, ap, ◌∙◌, arith, ◌<◌, length}
 use Rattle.laws.specs.Lists.{get_d_any}
 use Rattle.curves.specs.Lay.{frame_in}
 use Rattle.turns.specs.Steps.{drawn_in}
