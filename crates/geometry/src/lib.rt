@@ -1,275 +1,68 @@
 // `geometry`: the drawing of a graph at given centres, from its flags, arrow ends and label sizes.
 #![tactic(auto)]
 
-ghost use Rattle.std.specs.Prelude.{◌≡◌, ◌*◌, ◌≤◌, length};
-ghost use Rattle.shape.specs.Centres.{centres};
+ghost use Rattle.std.specs.Prelude.{◌≡◌, ◌+◌, ◌*◌, ◌≤◌, ◌<◌, length};
 ghost use Rattle.laws.specs.Put.{put};
-ghost use Rattle.routing.specs.Sheets.{frame_by, sizes_by};
-ghost use Rattle.geometry.specs.Geometry as G;
-ghost use Rattle.geometry.specs.Slices as L;
+ghost use Rattle.routing.specs.Routing.{records};
+ghost use Rattle.curves.specs.Lay.{Whole, frame_in};
 
-use records::RECORD_NUMBERS;
-use scene::BOX_NUMBERS;
-use trace::TRACE_NUMBERS;
+use curves::{Frame, Laid};
+use label::Block;
+use label_spots::Geometry;
+use shape::Rect;
+use stack::Stack;
+use trace::NO_TRACE;
+use turns::Drawing;
 
 // A small sheet has at most so many states and so many arrows.
 const FEW: usize = 32;
 
-// The drawing at these centres, in slices to work in; how many records it has.
-fn draw(
-    flags: &[u8],
-    sources: &[usize],
-    targets: &[usize],
-    widths: &[f64],
-    heights: &[f64],
-    xs: &[f64],
-    ys: &[f64],
-    kinds: &mut [u8],
-    leaves: &mut [f64],
-    reaches: &mut [f64],
-    slots: &mut [f64],
-    boxes: &mut [f64],
-    traces: &mut [f64],
-    drawn: &mut [f64],
-    records: &mut [f64],
+// What fills the space for boxes.
+const NO_BOX: Rect = Rect {
+    x0: 0.0,
+    y0: 0.0,
+    x1: 0.0,
+    y1: 0.0,
+};
+
+// The drawing in space for so many arrows, boxes and traces; how many records it has.
+fn draw<const ARROWS: usize, const BOXES: usize, const TRACES: usize>(
+    frame: &Frame,
+    sizes: &[Block],
+    out: &mut [Geometry],
 ) -> usize
-    requires { L.DrawSlices flags.now sources.now targets.now widths.now heights.now xs.now ys.now kinds.old
-        leaves.old reaches.old slots.old boxes.old traces.old drawn.old records.old }
-    ensures { let sizes = sizes_by widths.now heights.now in
-        let frame = frame_by flags.now (centres xs.now ys.now)
-        sources.now targets.now in
-        (result ≡ G.record_count frame sizes)
-        × (records.new ≡ put records.old 0 (G.numbers frame sizes)) }
+    requires whole { Whole frame.now }
+    requires sized { length sizes.now ≡ length frame.now.arrows.now }
+    requires arrows { length frame.now.arrows.now ≤ ARROWS }
+    requires boxes { 3 * length frame.now.arrows.now ≤ BOXES }
+    requires traces { 2 * length frame.now.arrows.now + length frame.now.centres.now ≤ TRACES }
+    requires small { (ARROWS ≤ 256) × (BOXES ≤ 768) × (TRACES ≤ 576) }
+    requires room { length frame.now.arrows.now ≤ length out.old }
+    ensures { let drawn = records (frame_in frame.now) sizes.now in
+        (result ≡ length drawn) × (out.new ≡ put out.old 0 drawn) }
 {
-    let nt = curves::lay(
-        xs, ys, flags, sources, targets, kinds, leaves, reaches, slots, traces,
-    );
-    turns::run(
-        flags, xs, ys, sources, targets, kinds, leaves, reaches, slots, widths, heights, boxes,
-        traces, nt, drawn, records,
-    )
+    let mut laid: Stack<Laid, ARROWS> = Stack::new(Laid::LeftOut);
+    let mut drawing: Drawing<ARROWS, BOXES, TRACES> = Drawing {
+        boxes: Stack::new(NO_BOX),
+        traces: Stack::new(NO_TRACE),
+        drawn: [None; ARROWS],
+    };
+    frame.lay(&mut laid, &mut drawing.traces);
+    drawing.run(frame, laid.as_slice(), sizes);
+    turns::gather(&drawing.drawn, out)
 }
 
-// The same at centres of which those that are missing or not finite count as 0.
-fn draw_at(
-    flags: &[u8],
-    sources: &[usize],
-    targets: &[usize],
-    widths: &[f64],
-    heights: &[f64],
-    xs: &[f64],
-    ys: &[f64],
-    cx: &mut [f64],
-    cy: &mut [f64],
-    kinds: &mut [u8],
-    leaves: &mut [f64],
-    reaches: &mut [f64],
-    slots: &mut [f64],
-    boxes: &mut [f64],
-    traces: &mut [f64],
-    drawn: &mut [f64],
-    records: &mut [f64],
-) -> usize
-    requires { L.DrawSlices flags.now sources.now targets.now widths.now heights.now cx.old cy.old kinds.old
-        leaves.old reaches.old slots.old boxes.old traces.old drawn.old records.old }
-    ensures { let sizes = sizes_by widths.now heights.now in
-        let frame = G.frame_from flags.now xs.now ys.now
-        sources.now targets.now in
-        (result ≡ G.record_count frame sizes)
-        × (records.new ≡ put records.old 0 (G.numbers frame sizes)) }
+// The drawing of a graph at given centres: a record for each arrow that has one, in arrow order; how many. Setting
+// the space to 0 is a large part of drawing a small sheet, which has less.
+pub fn geometry(frame: &Frame, sizes: &[Block], out: &mut [Geometry]) -> usize
+    requires whole { Whole frame.now }
+    requires sized { length sizes.now ≡ length frame.now.arrows.now }
+    requires room { length frame.now.arrows.now ≤ length out.old }
+    ensures { let drawn = records (frame_in frame.now) sizes.now in
+        (result ≡ length drawn) × (out.new ≡ put out.old 0 drawn) }
 {
-    curves::centred(xs, cx);
-    curves::centred(ys, cy);
-    draw(
-        flags, sources, targets, widths, heights, cx, cy, kinds, leaves, reaches, slots, boxes,
-        traces, drawn, records,
-    )
-}
-
-// ---- the space that a drawing needs: setting it to 0 is a large part of drawing a small sheet
-
-// In space for a small sheet.
-fn draw_little(
-    flags: &[u8],
-    sources: &[usize],
-    targets: &[usize],
-    widths: &[f64],
-    heights: &[f64],
-    xs: &[f64],
-    ys: &[f64],
-    cx: &mut [f64],
-    cy: &mut [f64],
-    kinds: &mut [u8],
-    leaves: &mut [f64],
-    reaches: &mut [f64],
-    records: &mut [f64],
-) -> usize
-    requires { L.RecordSlices flags.now sources.now targets.now widths.now heights.now cx.old cy.old kinds.old
-        leaves.old reaches.old records.old
-        × (length flags.now ≤ 32)
-        × (length sources.now ≤ 32) }
-    ensures { let sizes = sizes_by widths.now heights.now in
-        let frame = G.frame_from flags.now xs.now ys.now
-        sources.now targets.now in
-        (result ≡ G.record_count frame sizes)
-        × (records.new ≡ put records.old 0 (G.numbers frame sizes)) }
-{
-    let mut slots = [0.0f64; RECORD_NUMBERS * FEW];
-    let mut boxes = [0.0f64; 3 * BOX_NUMBERS * FEW];
-    let mut traces = [0.0f64; TRACE_NUMBERS * (2 * FEW + FEW)];
-    let mut drawn = [0.0f64; RECORD_NUMBERS * FEW];
-    draw_at(
-        flags,
-        sources,
-        targets,
-        widths,
-        heights,
-        xs,
-        ys,
-        cx,
-        cy,
-        kinds,
-        leaves,
-        reaches,
-        &mut slots,
-        &mut boxes,
-        &mut traces,
-        &mut drawn,
-        records,
-    )
-}
-
-// In space for 64 states and 256 arrows.
-fn draw_full(
-    flags: &[u8],
-    sources: &[usize],
-    targets: &[usize],
-    widths: &[f64],
-    heights: &[f64],
-    xs: &[f64],
-    ys: &[f64],
-    cx: &mut [f64],
-    cy: &mut [f64],
-    kinds: &mut [u8],
-    leaves: &mut [f64],
-    reaches: &mut [f64],
-    records: &mut [f64],
-) -> usize
-    requires { L.RecordSlices flags.now sources.now targets.now widths.now heights.now cx.old cy.old kinds.old
-        leaves.old reaches.old records.old }
-    ensures { let sizes = sizes_by widths.now heights.now in
-        let frame = G.frame_from flags.now xs.now ys.now
-        sources.now targets.now in
-        (result ≡ G.record_count frame sizes)
-        × (records.new ≡ put records.old 0 (G.numbers frame sizes)) }
-{
-    let mut slots = [0.0f64; RECORD_NUMBERS * 256];
-    let mut boxes = [0.0f64; 3 * BOX_NUMBERS * 256];
-    let mut traces = [0.0f64; TRACE_NUMBERS * (2 * 256 + 64)];
-    let mut drawn = [0.0f64; RECORD_NUMBERS * 256];
-    draw_at(
-        flags,
-        sources,
-        targets,
-        widths,
-        heights,
-        xs,
-        ys,
-        cx,
-        cy,
-        kinds,
-        leaves,
-        reaches,
-        &mut slots,
-        &mut boxes,
-        &mut traces,
-        &mut drawn,
-        records,
-    )
-}
-
-// In space for the sheet.
-fn draw_sized(
-    flags: &[u8],
-    sources: &[usize],
-    targets: &[usize],
-    widths: &[f64],
-    heights: &[f64],
-    xs: &[f64],
-    ys: &[f64],
-    cx: &mut [f64],
-    cy: &mut [f64],
-    kinds: &mut [u8],
-    leaves: &mut [f64],
-    reaches: &mut [f64],
-    records: &mut [f64],
-) -> usize
-    requires { L.RecordSlices flags.now sources.now targets.now widths.now heights.now cx.old cy.old kinds.old
-        leaves.old reaches.old records.old }
-    ensures { let sizes = sizes_by widths.now heights.now in
-        let frame = G.frame_from flags.now xs.now ys.now
-        sources.now targets.now in
-        (result ≡ G.record_count frame sizes)
-        × (records.new ≡ put records.old 0 (G.numbers frame sizes)) }
-{
-    if flags.len() <= FEW {
-        if sources.len() <= FEW {
-            return draw_little(
-                flags, sources, targets, widths, heights, xs, ys, cx, cy, kinds, leaves, reaches,
-                records,
-            );
-        }
+    if frame.flags.len() <= FEW && frame.arrows.len() <= FEW {
+        return draw::<32, 96, 96>(frame, sizes, out);
     }
-    draw_full(
-        flags, sources, targets, widths, heights, xs, ys, cx, cy, kinds, leaves, reaches, records,
-    )
-}
-
-// The drawing of a graph at given centres: for each arrow of the records its twenty numbers, in arrow order; how
-// many records there are.
-pub fn geometry(
-    flags: &[u8],
-    sources: &[usize],
-    targets: &[usize],
-    widths: &[f64],
-    heights: &[f64],
-    xs: &[f64],
-    ys: &[f64],
-    records: &mut [f64],
-) -> usize
-    requires { let arrows = length sources.now in
-        (length flags.now ≤ 64)
-        × (arrows ≤ 256)
-        × (length targets.now ≡ arrows)
-        × (length widths.now ≡ arrows)
-        × (length heights.now ≡ arrows)
-        × (20 * arrows ≤ length records.old) }
-    ensures { let sizes = sizes_by widths.now heights.now in
-        let frame = G.frame_from flags.now xs.now ys.now
-        sources.now targets.now in
-        (result ≡ G.record_count frame sizes)
-        × (records.new ≡ put records.old 0 (G.numbers frame sizes)) }
-{
-    let mut cx = [0.0f64; 64];
-    let mut cy = [0.0f64; 64];
-    let mut kinds = [0u8; 256];
-    let mut leaves = [0.0f64; 256];
-    let mut reaches = [0.0f64; 256];
-    let n = flags.len();
-    let m = sources.len();
-    draw_sized(
-        flags,
-        sources,
-        targets,
-        widths,
-        heights,
-        xs,
-        ys,
-        &mut cx[..n],
-        &mut cy[..n],
-        &mut kinds[..m],
-        &mut leaves[..m],
-        &mut reaches[..m],
-        records,
-    )
+    draw::<256, 768, 576>(frame, sizes, out)
 }

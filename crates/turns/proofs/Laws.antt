@@ -16,7 +16,7 @@ use Rattle.routing_laws.specs.Numbers.{numbered-drop, numbered-past}
 use Rattle.routing_laws.proofs.Turns.{turned_loop, turned_label, turned-other}
 use Rattle.curves.specs.declared.Laid.{Laid}
 use Rattle.curves.specs.Lay.{laid_by, laid_of, crossing_by}
-use Rattle.turns.specs.Steps.{kind_laid, pass_of, turned_as, turned_by}
+use Rattle.turns.specs.Steps.{kind_laid, pass_of, looped_as, more, turned_as, turned_by}
 use Rattle.turns.specs.declared.Sort.{Sort}
 use Rattle.std.specs.Prelude.{set}
 use Rattle.laws.specs.Joined.{map_join}
@@ -155,6 +155,25 @@ pass_end f sizes p i c r h g = sym (ap (over (turned f sizes p) c) (numbered-pas
 pub pass_all : (f : Frame) (sizes : List BlockSize) (p : ℕ) (d : Drawn) → over (turned f sizes p) d (drop 0 (numbered f)) ≡ passed f sizes p d
 unfolding passed
 pass_all f sizes p d = refl
+
+-- ---- how many traces
+
+pub sort_traces : (x : Laid) (s : Sort) → eqb (kind_laid x) (pass_of s) ≡ true → looped_as x ≤ more s 1
+sort_traces Laid.LeftOut s t = omega arith
+sort_traces (Laid.Between c) s t = omega arith
+sort_traces Laid.Loop Sort.Loop t = omega arith
+sort_traces Laid.Loop Sort.Arc t = absurd (omega (arith, eqb-true 1 2 t))
+sort_traces Laid.Loop Sort.Straight t = absurd (omega (arith, eqb-true 1 3 t))
+
+pub more_next : (s : Sort) (i : ℕ) → more s (i + 1) ≡ more s i + more s 1
+more_next Sort.Loop i = refl
+more_next Sort.Arc i = refl
+more_next Sort.Straight i = refl
+
+pub more_most : (s : Sort) (i n : ℕ) → i < n → more s i + more s 1 ≤ more s n
+more_most Sort.Loop i n h = omega (arith, h)
+more_most Sort.Arc i n h = omega arith
+more_most Sort.Straight i n h = omega arith
 
 -- ---- the records
 

@@ -26,6 +26,21 @@ pass_of Sort.Loop = 1
 pass_of Sort.Arc = 2
 pass_of Sort.Straight = 3
 
+-- a loop adds a trace; the others have theirs already
+abbrev pub looped_as : Laid → ℕ
+looped_as Laid.LeftOut = 0
+looped_as Laid.Loop = 1
+looped_as (Laid.Between c) = 0
+
+abbrev pub looped_at : List Laid → ℕ → ℕ
+looped_at ls i = looped_as (get_or ls i Laid.LeftOut)
+
+-- the most traces that n turns of a pass add
+abbrev pub more : Sort → ℕ → ℕ
+more Sort.Loop n = n
+more Sort.Arc n = 0
+more Sort.Straight n = 0
+
 -- ---- what is drawn so far
 module _ {a b t : ℕ} where
   abbrev pub scene_in : Frame → Drawing a b t → Scene
@@ -37,10 +52,10 @@ module _ {a b t : ℕ} where
   abbrev pub added : Drawing a b t → ℕ → Geometry → Drawing a b t
   added d i g = record { boxes = d.boxes ++ (g.label_box ∷ []); traces = d.traces; drawn = set d.drawn i (Some g) }
 
-  -- at most n labels and n traces more
-  pub record Grown (d e : Drawing a b t) (n : ℕ) : Type 0 where
+  -- at most n labels and m traces more
+  pub record Grown (d e : Drawing a b t) (n m : ℕ) : Type 0 where
     pub boxes : length e.boxes ≤ length d.boxes + n
-    pub traces : length e.traces ≤ length d.traces + n
+    pub traces : length e.traces ≤ length d.traces + m
 
 -- ---- the turn of arrow i
 abbrev pub turned_as : Frame → BlockSize → ℕ → Drawn → Laid → Drawn

@@ -111,10 +111,11 @@ impl<const ARROWS: usize, const BOXES: usize, const TRACES: usize> Drawing<ARROW
         requires whole { Whole frame.now }
         requires all { laid.now ≡ laid_of (frame_in frame.now) }
         requires arrow { (i < length frame.now.arrows.now) × (i < ARROWS) }
-        requires room { (length self.old.boxes < BOXES) × (length self.old.traces < TRACES) }
+        requires room { (length self.old.boxes < BOXES)
+            × (length self.old.traces + S.looped_at laid.now i ≤ TRACES) }
         ensures turned { let f = frame_in frame.now in
             S.drawn_in f self.new ≡ S.turned_by f size i (S.drawn_in f self.old) }
-        ensures many { S.Grown self.old self.new 1 }
+        ensures many { S.Grown self.old self.new 1 (S.looped_at laid.now i) }
     {
         match laid[i] {
             Laid::LeftOut => {}
@@ -136,10 +137,10 @@ impl<const ARROWS: usize, const BOXES: usize, const TRACES: usize> Drawing<ARROW
         requires all { laid.now ≡ laid_of (frame_in frame.now) }
         requires sized { length sizes.now ≡ length frame.now.arrows.now }
         requires arrow { (i < length frame.now.arrows.now) × (i < ARROWS) }
-        requires room { (length self.old.boxes < BOXES) × (length self.old.traces < TRACES) }
+        requires room { (length self.old.boxes < BOXES) × (length self.old.traces + S.more sort 1 ≤ TRACES) }
         ensures turned { let f = frame_in frame.now in
             S.drawn_in f self.new ≡ turned f sizes.now (S.pass_of sort) (S.drawn_in f self.old) (numbered_at f i) }
-        ensures many { S.Grown self.old self.new 1 }
+        ensures many { S.Grown self.old self.new 1 (S.more sort 1) }
     {
         if is_sort(&laid[i], sort) {
             self.turn(frame, laid, sizes[i], i);
@@ -152,10 +153,10 @@ impl<const ARROWS: usize, const BOXES: usize, const TRACES: usize> Drawing<ARROW
         requires all { laid.now ≡ laid_of (frame_in frame.now) }
         requires sized { (length sizes.now ≡ length frame.now.arrows.now) × (length frame.now.arrows.now ≤ ARROWS) }
         requires room { (length self.old.boxes + length frame.now.arrows.now ≤ BOXES)
-            × (length self.old.traces + length frame.now.arrows.now ≤ TRACES) }
+            × (length self.old.traces + S.more sort (length frame.now.arrows.now) ≤ TRACES) }
         ensures passed { let f = frame_in frame.now in
             S.drawn_in f self.new ≡ passed f sizes.now (S.pass_of sort) (S.drawn_in f self.old) }
-        ensures many { S.Grown self.old self.new (length frame.now.arrows.now) }
+        ensures many { S.Grown self.old self.new (length frame.now.arrows.now) (S.more sort (length frame.now.arrows.now)) }
     {
         for i in 0..frame.arrows.len() {
             self.turn_at(sort, frame, laid, sizes, i);
@@ -168,7 +169,7 @@ impl<const ARROWS: usize, const BOXES: usize, const TRACES: usize> Drawing<ARROW
         requires all { laid.now ≡ laid_of (frame_in frame.now) }
         requires sized { (length sizes.now ≡ length frame.now.arrows.now) × (length frame.now.arrows.now ≤ ARROWS) }
         requires room { (length self.old.boxes + 3 * length frame.now.arrows.now ≤ BOXES)
-            × (length self.old.traces + 3 * length frame.now.arrows.now ≤ TRACES) }
+            × (length self.old.traces + length frame.now.arrows.now ≤ TRACES) }
         ensures { let f = frame_in frame.now in
             S.drawn_in f self.new ≡ S.all_passed f sizes.now (S.drawn_in f self.old) }
     {
