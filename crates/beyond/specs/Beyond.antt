@@ -1,5 +1,5 @@
 -- Refusal 9: "a two-way pair whose first free bow exceeds 10^9".
-use Rattle.std.specs.Prelude.{Bool, not, ◌&&◌, List, ℕ}
+use Rattle.std.specs.Prelude.{Bool, not, ◌&&◌, List, length}
 use Rattle.laws.specs.Any.{any_of}
 use Rattle.float.specs.Ops.{lt}
 use Rattle.float.specs.Constants.{f1e9}
@@ -9,6 +9,7 @@ use Rattle.free.specs.Chords.{chord}
 use Rattle.free.specs.Blocked.{blocked}
 use Rattle.bend.specs.Bend.{pair_up}
 use Rattle.bend.specs.Leads.{Ends, leads}
+use Rattle.directions.specs.Rims.{is_between}
 use Rattle.routing.specs.Routing.{Frame, Numbered, is_kept_in, is_loop, crossing, is_paired}
 
 -- the first free bow of a pair along a chord, past the states at these centres
@@ -25,10 +26,10 @@ beyond f = any_of (is_beyond f) (crossing f)
 
 -- ---- as the code decides it
 
--- of the pair from state a to state b
-abbrev pub ends_beyond : List «V» → List Ends → ℕ → ℕ → Bool
-ends_beyond ps arrows a b = leads arrows b a && pair_beyond (chord ps a b) ps
+-- of any arrow, by its ends
+abbrev pub ends_refused : Frame → Ends → Bool
+ends_refused f e = is_between (length f.flags) e.source e.target && (leads f.arrows e.target e.source && pair_beyond (chord f.centres e.source e.target) f.centres)
 
--- of any arrow
+-- and by its number
 abbrev pub is_refused : Frame → Numbered → Bool
 is_refused f a = is_kept_in f a && (not (is_loop a) && is_beyond f a)
