@@ -1,10 +1,10 @@
 -- The refusal arrow by arrow, as the code looks for it. Assumes nothing.
-use Rattle.std.specs.Prelude.{◌≡◌, refl, Bool, true, false, not, ◌&&◌, ◌||◌, ℕ, suc, length}
+use Rattle.std.specs.Prelude.{◌≡◌, refl, Bool, true, false, not, ◌&&◌, ◌||◌, ℕ, suc}
 use Rattle.std.specs.List.{list_any}
-use Rattle.std.proofs.Common.{sym, ap, ap₂, ◌∙◌}
+use Rattle.std.proofs.Common.{sym, ap₂, ◌∙◌}
 use mathlib.Core.List.{List, [], ◌∷◌}
 use Rattle.laws.specs.Any.{any_of, any_filter}
-use Rattle.routing.specs.Routing.{Frame, Ends, Numbered, numbered, numbered_from, numbered_by, is_kept_in, is_loop, kept}
+use Rattle.routing.specs.Routing.{Frame, Ends, numbered, numbered_from, numbered_by, is_kept_in, is_loop, kept}
 use Rattle.beyond.specs.Beyond.{is_beyond, beyond, ends_refused, is_refused}
 
 -- among all arrows

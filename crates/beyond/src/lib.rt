@@ -17,7 +17,8 @@ fn pair_beyond(nodes: &[V], c: Chord) -> bool
     ensures { result ≡ S.pair_beyond c nodes.now }
 {
     let mut room = [Span { lo: 0.0, hi: 0.0 }; 64];
-    bend::pair_up(c, free::blocked(nodes, c, &mut room)) > 1e9
+    let up = bend::pair_up(c, free::blocked(nodes, c, &mut room));
+    up > 1e9
 }
 
 // The same of an arrow, where it joins different states and a reverse arrow exists.
@@ -41,7 +42,6 @@ fn some_beyond(frame: &Frame, arrows: &[Ends]) -> bool
 }
 
 // Whether the drawing of a graph at these centres is refused by 9.
-#[tactic(auto, using(crate::specs::Laws::some_is))]
 pub fn beyond(frame: &Frame) -> bool
     requires whole { Whole frame.now }
     ensures { result ≡ S.beyond (frame_in frame.now) }

@@ -99,6 +99,7 @@ module _ (f : Frame) (i : ℕ) where
         let kind : turn_kind f this ≡ cond (arc_shape (crossing_by f ends).routed.shape) 2 3 = kind_is ∙ ap kind_laid (laid_between k l) in
         ap (turned_as f (size_for sizes i) i d) (laid_between k l) ∙ sym (label_turned kind e)))
         (λ k. let z : 0 ≡ suc p = sym (kind_is ∙ ap kind_laid (laid_left k)) ∙ e in absurd (omega arith))
+
     pub turn_no : eqb (kind_laid (laid_by f ends)) p ≡ false → d ≡ turned f sizes p d this
     turn_no t = sym (turned-other f sizes p d this (λ q. eqb-false _ _ t (sym kind_is ∙ q)))
 
