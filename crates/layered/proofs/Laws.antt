@@ -11,7 +11,8 @@ use Rattle.laws.specs.Loops.{over}
 use Rattle.laws.specs.Split.{split_step, split}
 use Rattle.float.specs.Constants.{f0}
 use Rattle.float.specs.Ops.{◌⊗◌, of_nat}
-use Rattle.columns.specs.Columns.{EndPair, elem, state_numbers, columns}
+use Rattle.sheet.specs.declared.Ends.{Ends}
+use Rattle.columns.specs.Columns.{elem, state_numbers, columns}
 use Rattle.sweep.specs.Sweeps.{Arranged, arranged, centre_column, four_sweeps, swept}
 use Rattle.layered.specs.Layered.{column_of, column_gap, row, layered_xs, layered_ys}
 
@@ -40,7 +41,7 @@ module _ {A : Type 0} (l l₀ : List A) (i : ℕ) where
   rest-set x e = drop-set-lt (i + 1) l i x (omega arith) ∙ sym (drop-drop 1 i l) ∙ ap (drop 1) e ∙ drop-drop 1 i l₀
 
 -- ---- the centres, by what each step leaves
-module _ (n start : ℕ) (arrows : List EndPair) (cs : List (List ℕ)) (w : Float) (c : cs ≡ columns n arrows start) where
+module _ (n start : ℕ) (arrows : List Ends) (cs : List (List ℕ)) (w : Float) (c : cs ≡ columns n arrows start) where
   pub xs_are : (g : Float) (m : ℕ) (xs : List Float) → g ≡ column_gap w → m ≡ n → xs ≡ map (λ (v : ℕ). of_nat (column_of cs v) ⊗ g) (state_numbers m) → xs ≡ layered_xs n start arrows w
   unfolding layered_xs
   xs_are g m xs e f h = h ∙ ap₂ (λ (k : ℕ) (x : Float). map (λ (v : ℕ). of_nat (column_of cs v) ⊗ x) (state_numbers k)) f e ∙ ap (λ (d : List (List ℕ)). map (λ (v : ℕ). of_nat (column_of d v) ⊗ column_gap w) (state_numbers n)) c

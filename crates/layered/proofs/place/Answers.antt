@@ -5,7 +5,7 @@ use native.Mathlib.Omega.{arith}
 use lib.ListN.{length, take}
 use lib.Seq.{length-take-le}
 use Rattle.laws.specs.Split.{split}
-use Rattle.columns.specs.Columns.{end_pairs, columns}
+use Rattle.columns.specs.Columns.{columns}
 use Rattle.layered.proofs.Laws.{xs_are, ys_are}
 use Rattle.layered.proofs.place.Goals as goal
 
@@ -25,7 +25,7 @@ pub returns : goal.returns
 returns c = let a = c.args in
     let f = c.fill_columns-k in
     let n : ℕ = length a.xs.now in
-    let l = end_pairs a.sources.now a.targets.now in
+    let l = a.arrows.now in
     let cs = split (take f.result f.new.sizes) f.new.order in
     let q : cs ≡ columns n l a.start = f.ensures.2 ∙ ap (λ (k : ℕ). columns k l a.start) c.requires.5 in (
       xs_are n a.start l cs a.width q c.gap_for.result n c.put_xs.new.xs c.gap_for.ensures refl c.put_xs.ensures,
