@@ -15,7 +15,7 @@ use Rattle.laws.specs.Bools.{and_true}
 use Rattle.laws.specs.Filter.{filter_by, filter_join}
 use Rattle.laws.specs.Flat.{table}
 use Rattle.laws.specs.Loops.{over}
-use Rattle.laws.specs.Split.{split, split_snoc, split-take, flat_split, sum_all, sum_snoc}
+use Rattle.laws.specs.Split.{split, split_snoc, split-take, flat_split, split_at_column, split-set, sum_all, sum_snoc, sum_take, sum_fits}
 use Rattle.directions.specs.Rims.{is_between}
 use Rattle.sheet.specs.declared.Ends.{Ends}
 use Rattle.columns.specs.Columns.{leaves, successors, elem, discover, explore, columns_after, reached, is_new, unreached, concat, columns, last_column}
@@ -262,3 +262,40 @@ module _ (arrows : List Ends) (start : ℕ) (order order' sizes : List ℕ) (k p
         one_column : (u : List ℕ) → 0 < length u → last_column u ≡ u ∷ []
         one_column [] h = absurd (not-suc-le-zero h)
         one_column (v ∷ u) h = refl
+
+-- ---- columns that stand in the first places
+pub split_front : (ks l rest : List ℕ) → sum_all ks ≤ length l → split ks (l ++ rest) ≡ split ks l
+split_front ks l rest h = sym (split-take ks (length l) (l ++ rest) h) ∙ ap (split ks) (take_at l rest (length l) refl)
+
+-- the first k of the first n sizes
+pub sum_front : (k n : ℕ) (sizes : List ℕ) → k ≤ n → sum_all (take k sizes) ≤ sum_all (take n sizes)
+sum_front k n sizes h = omega (arith, ap sum_all (take-take k n sizes h), sum_take (take n sizes) k)
+
+-- column l among the first n
+module _ (sizes order : List ℕ) (n l : ℕ) (h : l < n) (i : n ≤ length sizes) where
+  fits : l < length (take n sizes)
+  fits = omega (arith, length-take-le n sizes i)
+
+  size_is : get_or (take n sizes) l 0 ≡ get_or sizes l 0
+  size_is = get_or-take n sizes l 0 h
+
+  start_is : sum_all (take l (take n sizes)) ≡ sum_all (take l sizes)
+  start_is = ap sum_all (take-take l n sizes (omega arith))
+
+  pub column_ends : sum_all (take l sizes) + get_or sizes l 0 ≤ sum_all (take n sizes)
+  column_ends = omega (arith, sum_fits (take n sizes) l fits, size_is, start_is)
+
+  pub column_is : get_or (split (take n sizes) order) l [] ≡ take (get_or sizes l 0) (drop (sum_all (take l sizes)) order)
+  column_is = split_at_column (take n sizes) l order fits ∙ ap₂ (λ (k a : ℕ). take k (drop a order)) size_is start_is
+
+  -- another column of its size in its place
+  pub column_set : (c : List ℕ) → length c ≡ get_or sizes l 0 → sum_all (take n sizes) ≤ length order
+      → split (take n sizes) (take (sum_all (take l sizes)) order ++ (c ++ drop (get_or sizes l 0) (drop (sum_all (take l sizes)) order))) ≡ set (split (take n sizes) order) l c
+  column_set c e f =
+      ap₂ (λ (k a : ℕ). split (take n sizes) (take a order ++ (c ++ drop k (drop a order)))) (sym size_is) (sym start_is)
+      ∙ split-set (take n sizes) l order c fits (e ∙ sym size_is) f
+
+  pub part_is : (a : ℕ) → a ≡ sum_all (take l sizes) → take (a + get_or sizes l 0 - a) (drop a order) ≡ get_or (split (take n sizes) order) l []
+  part_is a e =
+      let k : a + get_or sizes l 0 - a ≡ get_or sizes l 0 = omega arith in
+      ap₂ (λ (j b : ℕ). take j (drop b order)) k e ∙ sym column_is

@@ -2,7 +2,7 @@
 // The columns stand one after another in `order`, which has one place a state; `sizes` says how long each is.
 #![tactic(auto)]
 
-ghost use Rattle.std.specs.Prelude.{◌≡◌, false, [], ◌∷◌, ◌++◌, ◌+◌, ◌≤◌, ◌<◌, length, take, drop};
+ghost use Rattle.std.specs.Prelude.{◌≡◌, false, [], ◌∷◌, ◌++◌, ◌+◌, ◌≤◌, ◌<◌, length, get_or, take, drop};
 ghost use Rattle.laws.specs.Filter.{filter_by};
 ghost use Rattle.laws.specs.Loops.{over};
 ghost use Rattle.laws.specs.Split.{split, sum_all};
@@ -184,4 +184,70 @@ pub fn fill_columns(
     }
     sizes[k] = n - p;
     k + 1
+}
+
+// The columns of some states, in the first places.
+fn fill_first(
+    start: usize,
+    states: usize,
+    arrows: &[Ends],
+    order: &mut [usize; 64],
+    sizes: &mut [usize],
+) -> usize
+    requires { (start < states) × (states ≤ 64) × (states + 1 < length sizes.old) }
+    ensures { let used = take result sizes.new in
+        (result ≤ length sizes.old)
+        × (sum_all used ≡ states)
+        × (split used order.new ≡ D.columns states arrows.now start) }
+{
+    fill_columns(start, arrows, &mut order[..states], sizes)
+}
+
+// The columns one after another in `order`; `sizes` says how long each is.
+pub struct Columns<const SIZES: usize> {
+    pub order: [usize; 64],
+    pub sizes: [usize; SIZES],
+    pub count: usize,
+    pub ghost count_fits: { count ≤ SIZES },
+    pub ghost states_fit: { sum_all (take count sizes) ≤ 64 },
+}
+
+impl<const SIZES: usize> Columns<SIZES> {
+    ghost use Rattle.columns.specs.Listed.{listed};
+
+    // The columns of the layered layout.
+    pub fn breadth_first(start: usize, states: usize, arrows: &[Ends]) -> Self
+        requires { (start < states) × (states ≤ 64) × (states + 1 < SIZES) }
+        ensures { listed result ≡ D.columns states arrows.now start }
+    {
+        let mut order = [0usize; 64];
+        let mut sizes = [0usize; SIZES];
+        let count = fill_first(start, states, arrows, &mut order, &mut sizes);
+        Columns {
+            order,
+            sizes,
+            count,
+        }
+    }
+
+    // Where column l begins.
+    pub fn start_of(&self, l: usize) -> usize
+        requires { l ≤ self.now.count }
+        ensures { result ≡ sum_all (take l self.now.sizes) }
+    {
+        let mut start = 0;
+        for size in &self.sizes[..l] {
+            start += *size;
+        }
+        start
+    }
+
+    // The states of column l.
+    pub fn column(&self, l: usize) -> &[usize]
+        requires { l < self.now.count }
+        ensures { (result.now ≡ get_or (listed self.now) l []) × (length result.now ≤ 64) }
+    {
+        let start = self.start_of(l);
+        &self.order[start..start + self.sizes[l]]
+    }
 }
