@@ -14,11 +14,14 @@ use lib.Seq.{drop-cons, take-suc-set, length-take-le, take-take, take-append-le,
 use Rattle.laws.specs.Bools.{and_true}
 use Rattle.laws.specs.Filter.{filter_by, filter_join}
 use Rattle.laws.specs.Flat.{table}
+use Rattle.laws.specs.Lists.{part_length}
 use Rattle.laws.specs.Loops.{over}
-use Rattle.laws.specs.Split.{split, split_snoc, split-take, flat_split, split_at_column, split-set, sum_all, sum_snoc, sum_take, sum_fits}
+use Rattle.laws.specs.Split.{split, split_snoc, split-take, flat_split, split_at_column, split-set, length-split, sum_all, sum_snoc, sum_take, sum_fits}
 use Rattle.directions.specs.Rims.{is_between}
 use Rattle.sheet.specs.declared.Ends.{Ends}
 use Rattle.columns.specs.Columns.{leaves, successors, elem, discover, explore, columns_after, reached, is_new, unreached, concat, columns, last_column}
+use Rattle.columns.specs.declared.Columns.{Columns}
+use Rattle.columns.specs.Listed.{listed}
 use Rattle.columns.specs.Found.{Fair, Reached, discover-new, fair_start, explore_one, explore-end, explore_fair, explore_front, explore_grows, after_none, after_more, after-end}
 
 -- whether a list has w, as the library says it
@@ -299,3 +302,32 @@ module _ (sizes order : List ℕ) (n l : ℕ) (h : l < n) (i : n ≤ length size
   part_is a e =
       let k : a + get_or sizes l 0 - a ≡ get_or sizes l 0 = omega arith in
       ap₂ (λ (j b : ℕ). take j (drop b order)) k e ∙ sym column_is
+
+pub listed-length : {SIZES : ℕ} (c : Columns SIZES) → c.count ≤ length c.sizes → length (listed c) ≡ c.count
+listed-length c h = length-split (take c.count c.sizes) c.order ∙ length-take-le c.count c.sizes h
+
+-- column l of the columns that the code holds, read and stored as its part of the order
+module _ {SIZES : ℕ} (c : Columns SIZES) (l a k : ℕ) (h : l < c.count) (i : c.count ≤ length c.sizes) (room : length c.order ≡ 64) (fit : sum_all (take c.count c.sizes) ≤ 64) (e : a ≡ sum_all (take l c.sizes))
+    (f : k ≡ get_or c.sizes l 0)
+  where
+    pub room_for : a + k ≤ 64
+    room_for = omega (arith, e, f, column_ends c.sizes c.order c.count l h i, fit)
+
+    wide : a + k - a ≡ get_or c.sizes l 0
+    wide = omega (arith, f)
+
+    pub part_long : length (take (a + k - a) (drop a c.order)) ≡ get_or c.sizes l 0
+    part_long = part_length a (a + k - a) c.order (omega (arith, room, room_for)) ∙ wide
+
+    pub part_set : (d : List ℕ) → length d ≡ length (take (a + k - a) (drop a c.order)) → split (take c.count c.sizes) (take a c.order ++ (d ++ drop (a + k - a) (drop a c.order))) ≡ set (listed c) l d
+    part_set d g =
+        ap₂ (λ (j b : ℕ). split (take c.count c.sizes) (take b c.order ++ (d ++ drop j (drop b c.order)))) wide e
+        ∙ column_set c.sizes c.order c.count l h i d (g ∙ part_long) (omega (arith, fit, room))
+
+pub column_long : {SIZES : ℕ} (c : Columns SIZES) (l : ℕ) → l < c.count → c.count ≤ length c.sizes → length c.order ≡ 64 → sum_all (take c.count c.sizes) ≤ 64 → length (get_or (listed c) l []) ≡ get_or c.sizes l 0
+column_long c l h i room fit =
+    let a = sum_all (take l c.sizes) in
+    ap length (sym (part_is c.sizes c.order c.count l h i a refl)) ∙ part_long c l a (get_or c.sizes l 0) h i room fit refl refl
+
+pub size_le : {SIZES : ℕ} (c : Columns SIZES) (l : ℕ) → l < c.count → c.count ≤ length c.sizes → sum_all (take c.count c.sizes) ≤ 64 → get_or c.sizes l 0 ≤ 64
+size_le c l h i fit = omega (arith, column_ends c.sizes c.order c.count l h i, fit)

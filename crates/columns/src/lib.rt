@@ -208,7 +208,7 @@ pub struct Columns<const SIZES: usize> {
     pub order: [usize; 64],
     pub sizes: [usize; SIZES],
     pub count: usize,
-    pub ghost count_fits: { count ≤ SIZES },
+    pub ghost count_fits: { count ≤ length sizes },
     pub ghost states_fit: { sum_all (take count sizes) ≤ 64 },
 }
 
@@ -240,6 +240,14 @@ impl<const SIZES: usize> Columns<SIZES> {
             start += *size;
         }
         start
+    }
+
+    // How many states column l has.
+    pub fn size(&self, l: usize) -> usize
+        requires { l < self.now.count }
+        ensures { result ≡ get_or self.now.sizes l 0 }
+    {
+        self.sizes[l]
     }
 
     // The states of column l.
