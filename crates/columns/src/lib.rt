@@ -204,6 +204,7 @@ fn fill_first(
 }
 
 // The columns one after another in `order`; `sizes` says how long each is.
+#[derive(Drop)]
 pub struct Columns<const SIZES: usize> {
     pub order: [usize; 64],
     pub sizes: [usize; SIZES],

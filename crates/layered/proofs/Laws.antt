@@ -1,14 +1,14 @@
 -- A step of each loop over slices, and its end. Assumes nothing.
 use mathlib.Core.Path.{◌≡◌, sym, ap, ap₂, ◌∙◌}
 use mathlib.Core.Bool.{true, false}
-use mathlib.Core.List.{List, map}
+use mathlib.Core.List.{List, [], map}
 use Prim.Native.Nat.{ℕ, suc, ◌+◌, ◌-◌, ◌≤◌, ◌<◌}
 use native.Mathlib.Omega.{arith}
 use lib.ListN.{length, get_or, take, drop, set, replicate, drop_of_length-le}
-use lib.Seq.{drop-drop, get_or-drop, drop-set-lt}
+use lib.Seq.{drop-cons, drop-drop, get_or-drop, drop-set-lt}
+use native.Mathlib.Numerals.{add-one}
 use lib.Ieee.{Float}
 use Rattle.laws.specs.Loops.{over}
-use Rattle.laws.specs.Split.{split_step, split}
 use Rattle.float.specs.Constants.{f0}
 use Rattle.float.specs.Ops.{◌⊗◌, of_nat}
 use Rattle.sheet.specs.declared.Ends.{Ends}
@@ -17,18 +17,18 @@ use Rattle.sweep.specs.Sweeps.{Arranged, arranged, centre_column, four_sweeps, s
 use Rattle.layered.specs.Layered.{column_of, column_gap, row, layered_xs, layered_ys}
 
 -- ---- column after column
-module _ (v : ℕ) (ks : List ℕ) (i a e : ℕ) (l : List ℕ) (h : i < length ks) (q : e ≡ a + get_or ks i 0) where
-  pub column_hit : elem v (take (e - a) (drop a l)) ≡ true → column_of (split (drop i ks) (drop a l)) v ≡ 0
+module _ (v : ℕ) (cs : List (List ℕ)) (i : ℕ) where
+  pub column_hit : i < length cs → elem v (get_or cs i []) ≡ true → column_of (drop i cs) v ≡ 0
   unfolding column_of
-  column_hit t = ap (λ (c : List (List ℕ)). column_of c v) (split_step ks i a e l h q) ∙ rw t
+  column_hit h t = rw (drop-cons cs i [] h, t)
 
-  pub column_miss : elem v (take (e - a) (drop a l)) ≡ false → column_of (split (drop i ks) (drop a l)) v ≡ suc (column_of (split (drop (i + 1) ks) (drop e l)) v)
+  pub column_miss : i < length cs → elem v (get_or cs i []) ≡ false → column_of (drop i cs) v ≡ suc (column_of (drop (i + 1) cs) v)
   unfolding column_of
-  column_miss t = ap (λ (c : List (List ℕ)). column_of c v) (split_step ks i a e l h q) ∙ rw t
+  column_miss h t = rw (drop-cons cs i [] h, t, add-one)
 
-pub column_none : (v : ℕ) (ks : List ℕ) (i : ℕ) (l : List ℕ) → length ks ≤ i → column_of (split (drop i ks) l) v ≡ 0
-unfolding column_of split
-column_none v ks i l h = rw (drop_of_length-le ks h)
+  pub column_none : length cs ≤ i → column_of (drop i cs) v ≡ 0
+  unfolding column_of
+  column_none h = rw (drop_of_length-le cs h)
 
 -- ---- what is still to be read is as it was
 module _ {A : Type 0} (l l₀ : List A) (i : ℕ) where
