@@ -8,18 +8,15 @@ use Prim.Native.Nat.{ℕ, suc, ◌+◌, ◌-◌, ◌≤◌, ◌<◌}
 use native.Mathlib.Nat.{sub-zero, not-suc-le-zero}
 use native.Mathlib.Numerals.{add-one}
 use native.Mathlib.Omega.{arith}
-use borrow.Author.Tests.{eq-eqb, ne_eqb}
 use lib.ListN.{length, get_or, take, drop, set, length-append, length-drop, drop_of_length-le}
 use lib.Seq.{drop-cons, take-suc-set, length-take-le, take-take, take-append-le, take_all, get_or-take, take_at, drop_at}
-use Rattle.laws.specs.Bools.{and_true}
 use Rattle.laws.specs.Filter.{filter_by, filter_join}
 use Rattle.laws.specs.Flat.{table}
 use Rattle.laws.specs.Lists.{part_length}
 use Rattle.laws.specs.Loops.{over}
 use Rattle.laws.specs.Split.{split, split_snoc, split-take, flat_split, split_at_column, split-set, length-split, sum_all, sum_snoc, sum_take, sum_fits}
-use Rattle.directions.specs.Rims.{is_between}
 use Rattle.sheet.specs.declared.Ends.{Ends}
-use Rattle.columns.specs.Columns.{leaves, successors, elem, discover, explore, columns_after, reached, is_new, unreached, concat, columns, last_column}
+use Rattle.columns.specs.Columns.{successors, elem, discover, explore, columns_after, reached, is_new, unreached, concat, columns, last_column}
 use Rattle.columns.specs.declared.Columns.{Columns}
 use Rattle.columns.specs.Listed.{listed}
 use Rattle.columns.specs.Found.{Fair, Reached, discover-new, fair_start, explore_one, explore-end, explore_fair, explore_front, explore_grows, after_none, after_more, after-end}

@@ -86,6 +86,7 @@ fn explore(arrows: &[Ends], order: &mut [usize], low: usize, high: usize) -> usi
         × (take result order.new ≡ D.explore states arrows.now known (drop low known)) }
 {
     let mut p = high;
+    // By place: the loop stores in `order` while it reads it.
     for i in low..high {
         let v = order[i];
         p = visit(arrows, order, p, v);
@@ -94,12 +95,7 @@ fn explore(arrows: &[Ends], order: &mut [usize], low: usize, high: usize) -> usi
 }
 
 // The columns that are reached from `start`.
-fn reach(
-    start: usize,
-    arrows: &[Ends],
-    order: &mut [usize],
-    sizes: &mut [usize],
-) -> Filled
+fn reach(start: usize, arrows: &[Ends], order: &mut [usize], sizes: &mut [usize]) -> Filled
     requires { (start < length order.old)
         × (length order.old < length sizes.old) }
     ensures { Reached arrows.now start order.new sizes.new

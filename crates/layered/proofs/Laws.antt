@@ -2,9 +2,9 @@
 use mathlib.Core.Path.{◌≡◌, sym, ap, ap₂, ◌∙◌}
 use mathlib.Core.Bool.{true, false}
 use mathlib.Core.List.{List, [], map}
-use Prim.Native.Nat.{ℕ, suc, ◌+◌, ◌-◌, ◌≤◌, ◌<◌}
+use Prim.Native.Nat.{ℕ, suc, ◌+◌, ◌≤◌, ◌<◌}
 use native.Mathlib.Omega.{arith}
-use lib.ListN.{length, get_or, take, drop, set, replicate, drop_of_length-le}
+use lib.ListN.{length, get_or, drop, set, replicate, drop_of_length-le}
 use lib.Seq.{drop-cons, drop-drop, get_or-drop, drop-set-lt}
 use native.Mathlib.Numerals.{add-one}
 use lib.Ieee.{Float}

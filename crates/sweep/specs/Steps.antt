@@ -1,7 +1,7 @@
 -- The columns that the code holds, what it adds up, arrow by arrow, and a step of each of its loops. Assumes nothing.
-use Rattle.std.specs.Prelude.{◌≡◌, refl, Bool, ℕ, ◌+◌, ◌-◌, ◌%◌, ◌≤◌, ◌<◌, eqb, length, take, drop, Float}
+use Rattle.std.specs.Prelude.{◌≡◌, refl, Bool, ℕ, ◌+◌, ◌%◌, ◌≤◌, ◌<◌, eqb, length, Float}
 use Rattle.std.proofs.Common.{sym, ap, ◌∙◌, not-suc-le-zero, add-zero, arith}
-use mathlib.Core.List.{List, [], ◌∷◌, ◌++◌, flat_map}
+use mathlib.Core.List.{List, [], ◌∷◌, flat_map}
 use Rattle.laws.specs.Cases.{by_bool}
 use Rattle.laws.specs.Filter.{filter_by, filter_join}
 use Rattle.laws.specs.Loops.{over, over_join, up_keeps}
@@ -11,7 +11,7 @@ use Rattle.sheet.specs.declared.Ends.{Ends}
 use Rattle.columns.specs.declared.Columns.{Columns}
 use Rattle.columns.specs.Listed.{listed}
 use Rattle.sweep.specs.declared.Sum.{Sum}
-use Rattle.sweep.specs.Sweeps.{Arranged, arranged, slot, slot_total, other_end, neighbours, in_column, mean_or, ordered_column, sweep_down, sweep_up, sweep_at, sweeps, four_sweeps}
+use Rattle.sweep.specs.Sweeps.{Arranged, arranged, slot, slot_total, other_end, neighbours, in_column, mean_or, sweep_down, sweep_up, sweep_at, sweeps, four_sweeps}
 
 -- ---- columns
 

@@ -1,7 +1,6 @@
 -- `columns::fill_first` meets its contract.
-use Rattle.std.proofs.Common.{◌≡◌, ap, sym, ◌∙◌, arith, ℕ, ◌++◌, length, take}
+use Rattle.std.proofs.Common.{◌≡◌, ap, ◌∙◌, arith, ℕ, length, take}
 use Rattle.std.proofs.Math.Seq.{length-take-le}
-use Rattle.laws.specs.Split.{split}
 use Rattle.columns.specs.Columns as D
 use Rattle.columns.proofs.Laws.{split_front}
 use Rattle.columns.proofs.fill_first.Goals as goal

@@ -2,7 +2,6 @@
 use mathlib.Core.Path.{sym, ◌∙◌}
 use native.Mathlib.Omega.{arith}
 use lib.ListN.{length, take}
-use Rattle.columns.specs.Columns.{leaves}
 use Rattle.columns.specs.Found.{target_in, follow_yes, follow_no}
 use Rattle.columns.proofs.follow.Goals as goal
 

@@ -1,6 +1,5 @@
 -- `columns::reach` meets its contract.
 use mathlib.Core.Path.{◌≡◌}
-use Prim.Native.Nat.{◌-◌}
 use lib.ListN.{length}
 use Rattle.columns.proofs.Laws.{Searching}
 use Rattle.columns.proofs.reach.Given as goal

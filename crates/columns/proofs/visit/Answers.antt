@@ -1,5 +1,5 @@
 -- `columns::visit` meets its contract.
-use Rattle.std.proofs.Common.{rules, ◌≡◌, ap, sym, subst, ◌∙◌, arith, List, ℕ, ◌+◌, length, get_or, take, drop}
+use Rattle.std.proofs.Common.{◌≡◌, ap, sym, subst, ◌∙◌, arith, List, ℕ, ◌+◌, length, get_or, take, drop}
 use Rattle.laws.specs.Loops.{over}
 use Rattle.sheet.specs.declared.Ends.{Ends}
 use Rattle.columns.specs.Found.{Fair, follow, follow_fair, follows}

@@ -1,5 +1,5 @@
 -- `layered::column_of` meets its contract.
-use Rattle.std.proofs.Common.{◌≡◌, refl, ap, sym, ◌∙◌, arith, ◌+◌, ◌≤◌, length, true, false}
+use Rattle.std.proofs.Common.{ap, sym, ◌∙◌, arith}
 use Rattle.columns.specs.Columns.{elem}
 use Rattle.columns.specs.Listed.{listed}
 use Rattle.columns.proofs.Laws.{listed-length}

@@ -1,5 +1,5 @@
 -- `layered::column_of` meets its contract.
-use Rattle.std.proofs.Common.{◌≡◌, ◌+◌, ◌≤◌, drop}
+use Rattle.std.proofs.Common.{◌≡◌, ◌+◌, drop}
 use Rattle.columns.specs.Listed.{listed}
 use Rattle.layered.specs.Layered.{column_of}
 use Rattle.layered.proofs.column_of.Given as goal

@@ -1,5 +1,5 @@
 -- `layered::layered` meets its contract.
-use Rattle.std.proofs.Common.{◌≡◌, refl, sym, ◌∙◌, ℕ, length}
+use Rattle.std.proofs.Common.{◌≡◌, refl, ℕ, length}
 use Rattle.columns.specs.Columns.{columns}
 use Rattle.columns.specs.Listed.{listed}
 use Rattle.layered.proofs.Laws.{xs_are, ys_are}

@@ -1,5 +1,5 @@
 -- `layered::scale` meets its contract.
-use Rattle.std.proofs.Common.{◌≡◌, refl, ap, ◌∙◌, arith, map, get_or}
+use Rattle.std.proofs.Common.{refl, ap, ◌∙◌, arith, map, get_or}
 use Rattle.std.specs.Prelude.{Float}
 use Rattle.std.specs.Float.{nan}
 use lib.ListN.{length-map}

@@ -1,6 +1,5 @@
 -- `columns::Columns::column` meets its contract.
-use Rattle.std.proofs.Common.{◌≡◌, refl, ap, sym, ◌∙◌, arith, ℕ, ◌+◌, ◌-◌, ◌≤◌, length, get_or, take, drop}
-use Rattle.laws.specs.Split.{sum_all}
+use Rattle.std.proofs.Common.{arith, ◌+◌, ◌-◌, get_or}
 use Rattle.laws.specs.Lists.{part-le}
 use Rattle.columns.proofs.Laws.{column_ends, part_is}
 use Rattle.columns.proofs.Columns.column.Goals as goal

@@ -1,6 +1,6 @@
 -- `columns::Columns::start_of` meets its contract.
-use Rattle.std.proofs.Common.{◌≡◌, refl, ap, sym, ◌∙◌, arith, ℕ, ◌+◌, ◌≤◌, length, get_or, take}
-use Rattle.std.proofs.Math.Seq.{length-take-le, take_all}
+use Rattle.std.proofs.Common.{refl, ap, sym, ◌∙◌, arith, ℕ, ◌+◌, get_or, take}
+use Rattle.std.proofs.Math.Seq.{take_all}
 use Rattle.laws.specs.Split.{sum_all, sum_next, sum_fits}
 use Rattle.columns.proofs.Laws.{sum_front}
 use Rattle.columns.proofs.Columns.start_of.Goals as goal
