@@ -103,11 +103,10 @@ fn reach(start: usize, arrows: &[Ends], order: &mut [usize], sizes: &mut [usize]
 {
     order[0] = start;
     sizes[0] = 1;
-    let mut count: usize = 1;
+    let most = order.len() + 1;
     let mut low: usize = 0;
     let mut high: usize = 1;
-    let mut left = order.len();
-    while 0 < left {
+    for count in 1..most {
         let p = explore(arrows, order, low, high);
         if p == high {
             return Filled {
@@ -116,13 +115,11 @@ fn reach(start: usize, arrows: &[Ends], order: &mut [usize], sizes: &mut [usize]
             };
         }
         sizes[count] = p - high;
-        count += 1;
         low = high;
         high = p;
-        left -= 1;
     }
     Filled {
-        columns: count,
+        columns: most,
         states: high,
     }
 }
