@@ -4,38 +4,21 @@ use mathlib.Core.List.{List, [], ◌∷◌, ◌++◌, map, flat_map}
 use Rattle.laws.specs.Filter.{filter_by}
 use Rattle.laws.specs.Flat.{table}
 use Rattle.laws.specs.Loops.{over}
-use Rattle.laws.specs.Zip.{zip_by}
+use Rattle.sheet.specs.declared.Ends.{Ends}
 use Rattle.directions.specs.Rims.{is_between}
 
 -- ---- arrows
 
--- an arrow's source and target
-abbrev pub EndPair : Type 0
-EndPair = ℕ × ℕ
-
-abbrev pub end_pair : ℕ → ℕ → EndPair
-end_pair a b = (a, b)
-
-abbrev pub source : EndPair → ℕ
-source a = a.0
-
-abbrev pub target : EndPair → ℕ
-target a = a.1
-
--- the arrows, from their sources and their targets
-abbrev pub end_pairs : List ℕ → List ℕ → List EndPair
-end_pairs sources targets = zip_by end_pair sources targets
-
 -- an arrow counts where it is between two different states of n
-abbrev pub pair_between : ℕ → EndPair → Bool
-pair_between n a = is_between n (source a) (target a)
+abbrev pub counts : ℕ → Ends → Bool
+counts n a = is_between n a.source a.target
 
-abbrev pub leaves : ℕ → ℕ → EndPair → Bool
-leaves n v a = pair_between n a && eqb (source a) v
+abbrev pub leaves : ℕ → ℕ → Ends → Bool
+leaves n v a = counts n a && eqb a.source v
 
 -- the states to which arrows lead from v, in the order of the arrows
-unfoldable pub successors : ℕ → List EndPair → ℕ → List ℕ
-successors n arrows v = map target (filter_by (leaves n v) arrows)
+unfoldable pub successors : ℕ → List Ends → ℕ → List ℕ
+successors n arrows v = map (λ (a : Ends). a.target) (filter_by (leaves n v) arrows)
 
 -- ---- the search
 
@@ -48,11 +31,11 @@ unfoldable pub discover : List ℕ → ℕ → List ℕ
 discover found w = let more = found ++ (w ∷ []) in cond (elem w found) found more
 
 -- what is found when the arrows that leave the states of a column are followed
-unfoldable pub explore : ℕ → List EndPair → List ℕ → List ℕ → List ℕ
+unfoldable pub explore : ℕ → List Ends → List ℕ → List ℕ → List ℕ
 explore n arrows found column = over discover found (flat_map (successors n arrows) column)
 
 -- The columns after a column: the first has what is newly found from it, and so on until nothing is new; at most `most`.
-unfoldable pub columns_after : ℕ → List EndPair → ℕ → List ℕ → List ℕ → List (List ℕ)
+unfoldable pub columns_after : ℕ → List Ends → ℕ → List ℕ → List ℕ → List (List ℕ)
 columns_after n arrows zero found column = []
 columns_after n arrows (suc most) found column =
     let all = explore n arrows found column in
@@ -61,7 +44,7 @@ columns_after n arrows (suc most) found column =
     cond (eqb (length new) 0) [] (new ∷ rest)
 
 -- "breadth-first from the first start state or 0"; n states have no more than n columns
-unfoldable pub reached : ℕ → List EndPair → ℕ → List (List ℕ)
+unfoldable pub reached : ℕ → List Ends → ℕ → List (List ℕ)
 reached n arrows start = (start ∷ []) ∷ columns_after n arrows n (start ∷ []) (start ∷ [])
 
 -- ---- the rest
@@ -85,5 +68,5 @@ unfoldable pub concat : List (List ℕ) → List ℕ
 concat columns = flat_map (λ (c : List ℕ). c) columns
 
 -- "unreached states in one last column"
-unfoldable pub columns : ℕ → List EndPair → ℕ → List (List ℕ)
+unfoldable pub columns : ℕ → List Ends → ℕ → List (List ℕ)
 columns n arrows start = let found = reached n arrows start in found ++ last_column (unreached n (concat found))

@@ -14,7 +14,8 @@ use Rattle.std.proofs.Math.Dec.{eqb}
 use Rattle.laws.specs.Cases.{by_bool, by_lt}
 use Rattle.laws.specs.Filter.{filter_by}
 use Rattle.laws.specs.Bools.{or-first, or-second, or_cases, clash, not-holds}
-use Rattle.columns.specs.Columns.{EndPair, successors, elem, explore, columns_after, reached, concat, state_numbers, is_new, unreached}
+use Rattle.sheet.specs.declared.Ends.{Ends}
+use Rattle.columns.specs.Columns.{successors, elem, explore, columns_after, reached, concat, state_numbers, is_new, unreached}
 use Rattle.columns.specs.Found.{Fair, explore_fair, fair_start, after_none, after_more, after-end}
 use Rattle.columns.specs.Once.{is_new_lem}
 use Rattle.columns.specs.Elements.{times, elem_join, times_join, times_some, elem-explore, elem_flat, flat_elem, single_explore, single_one, found-new, concat-cons, concat_none, columns-more}
@@ -29,7 +30,7 @@ kept p v (x ∷ l) e =
     (or_cases (eqb x v) (elem v (filter_by p l)) (sym (ap (λ (b : Bool). elem v (cond b (x ∷ filter_by p l) (filter_by p l))) t) ∙ e)))
     (λ t. kept p v l (sym (ap (λ (b : Bool). elem v (cond b (x ∷ filter_by p l) (filter_by p l))) t) ∙ e))
 
-module _ (n : ℕ) (arrows : List EndPair) (start : ℕ) where
+module _ (n : ℕ) (arrows : List Ends) (start : ℕ) where
   -- v is reached from the start by k arrows
   pub data Walk : ℕ → ℕ → Type 0 where
     here : Walk 0 start

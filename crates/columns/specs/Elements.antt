@@ -1,5 +1,5 @@
 -- What a list of states holds, and how often, after each step of the search. Assumes nothing.
-use Rattle.std.specs.Prelude.{◌≡◌, refl, Bool, true, false, cond, ◌||◌, ◌⊎◌, ℕ, zero, suc, ◌+◌, ◌-◌, ◌≤◌, ◌<◌, eqb, length, drop}
+use Rattle.std.specs.Prelude.{◌≡◌, refl, Bool, true, false, cond, ◌||◌, ℕ, zero, suc, ◌+◌, ◌-◌, ◌≤◌, ◌<◌, eqb, length, drop}
 use Rattle.std.proofs.Common.{sym, ap, subst, ◌∙◌, ⊎_elim, arith, eq-eqb, eqb-true, take-append-drop}
 use mathlib.Core.List.{List, [], ◌∷◌, ◌++◌, flat_map, append-nil, append_assoc}
 use Rattle.std.proofs.lemmas.Bool.{eqb-false}
@@ -8,7 +8,8 @@ use Rattle.laws.specs.Cases.{by_bool}
 use Rattle.laws.specs.Counting.{how_many}
 use Rattle.laws.specs.Loops.{over}
 use Rattle.laws.specs.Bools.{clash, or-first, or-second, or_assoc, or_false, or_cases}
-use Rattle.columns.specs.Columns.{EndPair, successors, elem, discover, explore, columns_after, concat}
+use Rattle.sheet.specs.declared.Ends.{Ends}
+use Rattle.columns.specs.Columns.{successors, elem, discover, explore, columns_after, concat}
 use Rattle.columns.specs.Found.{discover_old, discover-new, explore_front, after_none, after_more, after-end}
 
 -- how often a list has v
@@ -66,7 +67,7 @@ elem-over v found (w ∷ ws) =
     elem-over v (discover found w) ws ∙ ap (λ (b : Bool). b || elem v ws) (elem-discover v found w) ∙ or_assoc (elem v found) (eqb w v) (elem v ws)
 
 -- what is found from a column: what was found, and where its arrows lead
-pub elem-explore : (v n : ℕ) (arrows : List EndPair) (found column : List ℕ) → elem v (explore n arrows found column) ≡ elem v found || elem v (flat_map (successors n arrows) column)
+pub elem-explore : (v n : ℕ) (arrows : List Ends) (found column : List ℕ) → elem v (explore n arrows found column) ≡ elem v found || elem v (flat_map (successors n arrows) column)
 unfolding explore
 elem-explore v n arrows found column = elem-over v found (flat_map (successors n arrows) column)
 
@@ -108,7 +109,7 @@ unfolding over
 single_over found [] s = s
 single_over found (w ∷ ws) s = single_over (discover found w) ws (single_discover found w s)
 
-pub single_explore : (n : ℕ) (arrows : List EndPair) (found column : List ℕ) → ((v : ℕ) → times v found ≤ 1) → (v : ℕ) → times v (explore n arrows found column) ≤ 1
+pub single_explore : (n : ℕ) (arrows : List Ends) (found column : List ℕ) → ((v : ℕ) → times v found ≤ 1) → (v : ℕ) → times v (explore n arrows found column) ≤ 1
 unfolding explore
 single_explore n arrows found column s = single_over found (flat_map (successors n arrows) column) s
 
@@ -117,7 +118,7 @@ single_one start v = by_bool (eqb start v) (λ e. omega (arith, times_one v star
 
 -- ---- all columns
 
-pub found-new : (n : ℕ) (arrows : List EndPair) (found column : List ℕ) → found ++ drop (length found) (explore n arrows found column) ≡ explore n arrows found column
+pub found-new : (n : ℕ) (arrows : List Ends) (found column : List ℕ) → found ++ drop (length found) (explore n arrows found column) ≡ explore n arrows found column
 found-new n arrows found column =
     ap (λ (l : List ℕ). l ++ drop (length found) (explore n arrows found column)) (sym (explore_front (length found) n arrows found column (omega arith) ∙ take-length found))
     ∙ take-append-drop (length found) (explore n arrows found column)
@@ -130,7 +131,7 @@ pub concat_none : concat [] ≡ []
 unfolding concat flat_map
 concat_none = refl
 
-pub columns-more : (n : ℕ) (arrows : List EndPair) (most : ℕ) (found column : List ℕ) → (length (drop (length found) (explore n arrows found column)) ≡ 0 → ⊥)
+pub columns-more : (n : ℕ) (arrows : List Ends) (most : ℕ) (found column : List ℕ) → (length (drop (length found) (explore n arrows found column)) ≡ 0 → ⊥)
     → found ++ concat (columns_after n arrows (suc most) found column)
     ≡ explore n arrows found column ++ concat (columns_after n arrows most (explore n arrows found column) (drop (length found) (explore n arrows found column)))
 columns-more n arrows most found column d =
@@ -144,7 +145,7 @@ columns-more n arrows most found column d =
     ∙ ap (λ (l : List ℕ). l ++ concat rest) (found-new n arrows found column)
 
 -- what each step of the search keeps, all columns have
-pub search_keeps : (n : ℕ) (arrows : List EndPair) (P : List ℕ → Type 0) → ((found column : List ℕ) → P found → P (explore n arrows found column)) → (most : ℕ) (found column : List ℕ) → P found
+pub search_keeps : (n : ℕ) (arrows : List Ends) (P : List ℕ → Type 0) → ((found column : List ℕ) → P found → P (explore n arrows found column)) → (most : ℕ) (found column : List ℕ) → P found
     → P (found ++ concat (columns_after n arrows most found column))
 search_keeps n arrows P keeps zero found column p = subst P (sym (ap (λ (cs : List (List ℕ)). found ++ concat cs) (after-end n arrows 0 found column (omega arith)) ∙ ap (λ (l : List ℕ). found ++ l) concat_none ∙ append-nil found)) p
 search_keeps n arrows P keeps (suc most) found column p =

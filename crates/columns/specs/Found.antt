@@ -13,20 +13,21 @@ use Rattle.laws.specs.Flat.{table}
 use Rattle.laws.specs.Loops.{over, over_join, less_one}
 use Rattle.laws.specs.Split.{split, sum_all}
 use Rattle.laws.specs.Bools.{and_first, and_second, or-second, or_assoc, or_false}
-use Rattle.columns.specs.Columns.{EndPair, end_pairs, source, target, pair_between, leaves, successors, elem, discover, explore, columns_after, reached, is_new, unreached}
+use Rattle.sheet.specs.declared.Ends.{Ends}
+use Rattle.columns.specs.Columns.{counts, leaves, successors, elem, discover, explore, columns_after, reached, is_new, unreached}
 
 -- those found and those not found are as many as there are states
 abbrev pub Fair : ℕ → List ℕ → Type 0
 Fair n found = length found + length (unreached n found) ≡ n
 
 -- what is found when one arrow is followed from v
-unfoldable pub follow : ℕ → ℕ → List ℕ → EndPair → List ℕ
-follow n v found a = let more = discover found (target a) in cond (leaves n v a) more found
+unfoldable pub follow : ℕ → ℕ → List ℕ → Ends → List ℕ
+follow n v found a = let more = discover found a.target in cond (leaves n v a) more found
 
 -- k columns of p states are all that are reached
-abbrev pub Reached : List ℕ → List ℕ → ℕ → List ℕ → List ℕ → ℕ → ℕ → Type 0
-Reached sources targets start order sizes k p =
-    (p ≤ length order) × (k ≤ length order + 1) × Fair (length order) (take p order) × (sum_all (take k sizes) ≡ p) × (split (take k sizes) (take p order) ≡ reached (length order) (end_pairs sources targets) start)
+abbrev pub Reached : List Ends → ℕ → List ℕ → List ℕ → ℕ → ℕ → Type 0
+Reached arrows start order sizes k p =
+    (p ≤ length order) × (k ≤ length order + 1) × Fair (length order) (take p order) × (sum_all (take k sizes) ≡ p) × (split (take k sizes) (take p order) ≡ reached (length order) arrows start)
 
 -- ---- one state more
 
@@ -99,45 +100,45 @@ fair_start n start h = discover_fair n [] start (omega (arith, all_new 0 n)) h
 
 module _ (n v : ℕ) where
   -- an arrow that counts leads to one of the states
-  pub target_in : (a : EndPair) → leaves n v a ≡ true → target a < n
+  pub target_in : (a : Ends) → leaves n v a ≡ true → a.target < n
   target_in a e =
-      ltb-true (target a) n
-      (and_second (ltb (source a) n) (ltb (target a) n) (and_first (ltb (source a) n && ltb (target a) n) (not (eqb (source a) (target a))) (and_first (pair_between n a) (eqb (source a) v) e)))
+      ltb-true a.target n
+      (and_second (ltb a.source n) (ltb a.target n) (and_first (ltb a.source n && ltb a.target n) (not (eqb a.source a.target)) (and_first (counts n a) (eqb a.source v) e)))
 
-  pub follow_yes : (found : List ℕ) (a : EndPair) → leaves n v a ≡ true → follow n v found a ≡ discover found (target a)
+  pub follow_yes : (found : List ℕ) (a : Ends) → leaves n v a ≡ true → follow n v found a ≡ discover found a.target
   unfolding follow
   follow_yes found a e = rw e
 
-  pub follow_no : (found : List ℕ) (a : EndPair) → leaves n v a ≡ false → follow n v found a ≡ found
+  pub follow_no : (found : List ℕ) (a : Ends) → leaves n v a ≡ false → follow n v found a ≡ found
   unfolding follow
   follow_no found a e = rw e
 
-  pub follow_fair : (found : List ℕ) (a : EndPair) → Fair n found → Fair n (follow n v found a)
+  pub follow_fair : (found : List ℕ) (a : Ends) → Fair n found → Fair n (follow n v found a)
   follow_fair found a f =
       by_bool (leaves n v a)
-      (λ e. rw (follow_yes found a e) (discover_fair n found (target a) f (target_in a e)))
+      (λ e. rw (follow_yes found a e) (discover_fair n found a.target f (target_in a e)))
       (λ e. rw (follow_no found a e) f)
 
-  follows_fair : (found : List ℕ) (arrows : List EndPair) → Fair n found → Fair n (over (follow n v) found arrows)
+  follows_fair : (found : List ℕ) (arrows : List Ends) → Fair n found → Fair n (over (follow n v) found arrows)
   unfolding over
   follows_fair found [] f = f
   follows_fair found (a ∷ l) f = follows_fair (follow n v found a) l (follow_fair found a f)
 
   -- the arrows that leave v, followed in their order
-  pub follows : (found : List ℕ) (arrows : List EndPair) → over (follow n v) found arrows ≡ over discover found (successors n arrows v)
+  pub follows : (found : List ℕ) (arrows : List Ends) → over (follow n v) found arrows ≡ over discover found (successors n arrows v)
   unfolding over successors filter_by
   follows found [] = refl
   follows found (a ∷ l) =
       by_bool (leaves n v a)
-      (λ e. rw (follow_yes found a e, e) (follows (discover found (target a)) l))
+      (λ e. rw (follow_yes found a e, e) (follows (discover found a.target) l))
       (λ e. rw (follow_no found a e, e) (follows found l))
 
-pub visit_fair : (n v : ℕ) (found : List ℕ) (arrows : List EndPair) → Fair n found → Fair n (over discover found (successors n arrows v))
+pub visit_fair : (n v : ℕ) (found : List ℕ) (arrows : List Ends) → Fair n found → Fair n (over discover found (successors n arrows v))
 visit_fair n v found arrows f = subst (Fair n) (follows n v found arrows) (follows_fair n v found arrows f)
 
 -- ---- column by column
 
-module _ (n : ℕ) (arrows : List EndPair) where
+module _ (n : ℕ) (arrows : List Ends) where
   pub explore_one : (found : List ℕ) (v : ℕ) (column : List ℕ) → explore n arrows (over discover found (successors n arrows v)) column ≡ explore n arrows found (v ∷ column)
   unfolding explore flat_map
   explore_one found v column = sym (over_join discover found (successors n arrows v) (flat_map (successors n arrows) column))
@@ -181,7 +182,7 @@ front_kept k p q l m ws h i j e =
 
 -- ---- the columns after a column, by what is found
 
-module _ (n : ℕ) (arrows : List EndPair) (found column all : List ℕ) (e : all ≡ explore n arrows found column) where
+module _ (n : ℕ) (arrows : List Ends) (found column all : List ℕ) (e : all ≡ explore n arrows found column) where
   pub after_none : (most : ℕ) → length (drop (length found) all) ≡ 0 → columns_after n arrows most found column ≡ []
   unfolding columns_after
   after_none zero h = refl
@@ -193,15 +194,15 @@ module _ (n : ℕ) (arrows : List EndPair) (found column all : List ℕ) (e : al
   after_more zero h d = absurd (not-suc-le-zero h)
   after_more (suc most) h d = rw (← e, ne_eqb (length (drop (length found) all)) 0 d, less_one)
 
-pub after-end : (n : ℕ) (arrows : List EndPair) (most : ℕ) (found column : List ℕ) → most ≤ 0 → columns_after n arrows most found column ≡ []
+pub after-end : (n : ℕ) (arrows : List Ends) (most : ℕ) (found column : List ℕ) → most ≤ 0 → columns_after n arrows most found column ≡ []
 unfolding columns_after
 after-end n arrows zero found column h = refl
 after-end n arrows (suc most) found column h = absurd (not-suc-le-zero h)
 
-pub explore_front : (k : ℕ) (n : ℕ) (arrows : List EndPair) (found column : List ℕ) → k ≤ length found → take k (explore n arrows found column) ≡ take k found
+pub explore_front : (k : ℕ) (n : ℕ) (arrows : List Ends) (found column : List ℕ) → k ≤ length found → take k (explore n arrows found column) ≡ take k found
 unfolding explore
 explore_front k n arrows found column h = over_front k found (flat_map (successors n arrows) column) h
 
-pub explore_grows : (n : ℕ) (arrows : List EndPair) (found column : List ℕ) → length found ≤ length (explore n arrows found column)
+pub explore_grows : (n : ℕ) (arrows : List Ends) (found column : List ℕ) → length found ≤ length (explore n arrows found column)
 unfolding explore
 explore_grows n arrows found column = over_grows found (flat_map (successors n arrows) column)

@@ -1,5 +1,6 @@
 pub mod Columns
-pub mod Found
-pub mod Elements
-pub mod Once
 pub mod Distance
+pub mod Elements
+pub mod Found
+pub mod Listed
+pub mod Once

@@ -14,7 +14,8 @@ use Rattle.laws.specs.Counting.{how_many}
 use Rattle.laws.specs.Filter.{filter_by}
 use Rattle.laws.specs.Flat.{table}
 use Rattle.laws.specs.Bools.{or_cases, clash}
-use Rattle.columns.specs.Columns.{EndPair, target, leaves, successors, elem, columns_after, reached, is_new, unreached, concat, last_column, columns}
+use Rattle.sheet.specs.declared.Ends.{Ends}
+use Rattle.columns.specs.Columns.{leaves, successors, elem, columns_after, reached, is_new, unreached, concat, last_column, columns}
 use Rattle.columns.specs.Found.{target_in}
 use Rattle.columns.specs.Elements.{times, times_join, times_none, times_some, elem-explore, elem_flat, single_explore, single_one, concat-cons, concat_none, search_keeps}
 
@@ -73,7 +74,7 @@ is_new_lem n found v h e =
 
 -- ---- the columns that are reached
 
-module _ (n : ℕ) (arrows : List EndPair) (start : ℕ) where
+module _ (n : ℕ) (arrows : List Ends) (start : ℕ) where
   -- no state is in them twice
   pub reached_single : (v : ℕ) → times v (concat (reached n arrows start)) ≤ 1
   unfolding reached
@@ -81,14 +82,14 @@ module _ (n : ℕ) (arrows : List EndPair) (start : ℕ) where
       subst (λ (l : List ℕ). times v l ≤ 1) (sym (concat-cons (start ∷ []) (columns_after n arrows n (start ∷ []) (start ∷ []))))
       (search_keeps n arrows (λ (l : List ℕ). (u : ℕ) → times u l ≤ 1) (single_explore n arrows) n (start ∷ []) (start ∷ []) (single_one start) v)
 
-  successors_in : (l : List EndPair) (u v : ℕ) → elem v (successors n l u) ≡ true → v < n
+  successors_in : (l : List Ends) (u v : ℕ) → elem v (successors n l u) ≡ true → v < n
   unfolding successors filter_by elem
   successors_in [] u v e = absurd (clash e refl)
   successors_in (a ∷ l) u v e =
       by_bool (leaves n u a)
-      (λ t. ⊎_elim (λ (h : eqb (target a) v ≡ true). subst (λ (w : ℕ). w < n) (eqb-true (target a) v h) (target_in n u a t)) (λ (h : elem v (map target (filter_by (leaves n u) l)) ≡ true). successors_in l u v h)
-      (or_cases (eqb (target a) v) (elem v (map target (filter_by (leaves n u) l))) (sym (ap (λ (b : Bool). elem v (map target (cond b (a ∷ filter_by (leaves n u) l) (filter_by (leaves n u) l)))) t) ∙ e)))
-      (λ t. successors_in l u v (sym (ap (λ (b : Bool). elem v (map target (cond b (a ∷ filter_by (leaves n u) l) (filter_by (leaves n u) l)))) t) ∙ e))
+      (λ t. ⊎_elim (λ (h : eqb a.target v ≡ true). subst (λ (w : ℕ). w < n) (eqb-true a.target v h) (target_in n u a t)) (λ (h : elem v (map (λ (a : Ends). a.target) (filter_by (leaves n u) l)) ≡ true). successors_in l u v h)
+      (or_cases (eqb a.target v) (elem v (map (λ (a : Ends). a.target) (filter_by (leaves n u) l))) (sym (ap (λ (b : Bool). elem v (map (λ (a : Ends). a.target) (cond b (a ∷ filter_by (leaves n u) l) (filter_by (leaves n u) l)))) t) ∙ e)))
+      (λ t. successors_in l u v (sym (ap (λ (b : Bool). elem v (map (λ (a : Ends). a.target) (cond b (a ∷ filter_by (leaves n u) l) (filter_by (leaves n u) l)))) t) ∙ e))
 
   -- only states are in them
   pub reached_in : start < n → (v : ℕ) → elem v (concat (reached n arrows start)) ≡ true → v < n
@@ -114,7 +115,7 @@ concat-last : (u : List ℕ) → concat (last_column u) ≡ u
 concat-last [] = concat_none
 concat-last (v ∷ u) = concat-cons (v ∷ u) [] ∙ ap (λ (l : List ℕ). v ∷ u ++ l) concat_none ∙ append-nil (v ∷ u)
 
-module _ (n : ℕ) (arrows : List EndPair) (start : ℕ) where
+module _ (n : ℕ) (arrows : List Ends) (start : ℕ) where
   all-states : concat (columns n arrows start) ≡ concat (reached n arrows start) ++ unreached n (concat (reached n arrows start))
   unfolding columns
   all-states =

@@ -1,33 +1,34 @@
 -- A step of each loop over slices, and its end. Assumes nothing.
 use mathlib.Core.Path.{◌≡◌, sym, ap, ap₂, ◌∙◌}
 use mathlib.Core.Bool.{true, false}
-use mathlib.Core.List.{List, map}
-use Prim.Native.Nat.{ℕ, suc, ◌+◌, ◌-◌, ◌≤◌, ◌<◌}
+use mathlib.Core.List.{List, [], map}
+use Prim.Native.Nat.{ℕ, suc, ◌+◌, ◌≤◌, ◌<◌}
 use native.Mathlib.Omega.{arith}
-use lib.ListN.{length, get_or, take, drop, set, replicate, drop_of_length-le}
-use lib.Seq.{drop-drop, get_or-drop, drop-set-lt}
+use lib.ListN.{length, get_or, drop, set, replicate, drop_of_length-le}
+use lib.Seq.{drop-cons, drop-drop, get_or-drop, drop-set-lt}
+use native.Mathlib.Numerals.{add-one}
 use lib.Ieee.{Float}
 use Rattle.laws.specs.Loops.{over}
-use Rattle.laws.specs.Split.{split_step, split}
 use Rattle.float.specs.Constants.{f0}
 use Rattle.float.specs.Ops.{◌⊗◌, of_nat}
-use Rattle.columns.specs.Columns.{EndPair, elem, state_numbers, columns}
+use Rattle.sheet.specs.declared.Ends.{Ends}
+use Rattle.columns.specs.Columns.{elem, state_numbers, columns}
 use Rattle.sweep.specs.Sweeps.{Arranged, arranged, centre_column, four_sweeps, swept}
 use Rattle.layered.specs.Layered.{column_of, column_gap, row, layered_xs, layered_ys}
 
 -- ---- column after column
-module _ (v : ℕ) (ks : List ℕ) (i a e : ℕ) (l : List ℕ) (h : i < length ks) (q : e ≡ a + get_or ks i 0) where
-  pub column_hit : elem v (take (e - a) (drop a l)) ≡ true → column_of (split (drop i ks) (drop a l)) v ≡ 0
+module _ (v : ℕ) (cs : List (List ℕ)) (i : ℕ) where
+  pub column_hit : i < length cs → elem v (get_or cs i []) ≡ true → column_of (drop i cs) v ≡ 0
   unfolding column_of
-  column_hit t = ap (λ (c : List (List ℕ)). column_of c v) (split_step ks i a e l h q) ∙ rw t
+  column_hit h t = rw (drop-cons cs i [] h, t)
 
-  pub column_miss : elem v (take (e - a) (drop a l)) ≡ false → column_of (split (drop i ks) (drop a l)) v ≡ suc (column_of (split (drop (i + 1) ks) (drop e l)) v)
+  pub column_miss : i < length cs → elem v (get_or cs i []) ≡ false → column_of (drop i cs) v ≡ suc (column_of (drop (i + 1) cs) v)
   unfolding column_of
-  column_miss t = ap (λ (c : List (List ℕ)). column_of c v) (split_step ks i a e l h q) ∙ rw t
+  column_miss h t = rw (drop-cons cs i [] h, t, add-one)
 
-pub column_none : (v : ℕ) (ks : List ℕ) (i : ℕ) (l : List ℕ) → length ks ≤ i → column_of (split (drop i ks) l) v ≡ 0
-unfolding column_of split
-column_none v ks i l h = rw (drop_of_length-le ks h)
+  pub column_none : length cs ≤ i → column_of (drop i cs) v ≡ 0
+  unfolding column_of
+  column_none h = rw (drop_of_length-le cs h)
 
 -- ---- what is still to be read is as it was
 module _ {A : Type 0} (l l₀ : List A) (i : ℕ) where
@@ -40,7 +41,7 @@ module _ {A : Type 0} (l l₀ : List A) (i : ℕ) where
   rest-set x e = drop-set-lt (i + 1) l i x (omega arith) ∙ sym (drop-drop 1 i l) ∙ ap (drop 1) e ∙ drop-drop 1 i l₀
 
 -- ---- the centres, by what each step leaves
-module _ (n start : ℕ) (arrows : List EndPair) (cs : List (List ℕ)) (w : Float) (c : cs ≡ columns n arrows start) where
+module _ (n start : ℕ) (arrows : List Ends) (cs : List (List ℕ)) (w : Float) (c : cs ≡ columns n arrows start) where
   pub xs_are : (g : Float) (m : ℕ) (xs : List Float) → g ≡ column_gap w → m ≡ n → xs ≡ map (λ (v : ℕ). of_nat (column_of cs v) ⊗ g) (state_numbers m) → xs ≡ layered_xs n start arrows w
   unfolding layered_xs
   xs_are g m xs e f h = h ∙ ap₂ (λ (k : ℕ) (x : Float). map (λ (v : ℕ). of_nat (column_of cs v) ⊗ x) (state_numbers k)) f e ∙ ap (λ (d : List (List ℕ)). map (λ (v : ℕ). of_nat (column_of d v) ⊗ column_gap w) (state_numbers n)) c

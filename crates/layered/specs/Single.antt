@@ -3,7 +3,8 @@ use Rattle.std.specs.Prelude.{◌≡◌, List, [], ◌∷◌, ℕ, zero, suc, �
 use Rattle.std.proofs.Common.{ap, arith}
 use Rattle.laws.specs.Cases.{by_lt}
 use Rattle.laws.specs.Counting.{how_many}
-use Rattle.columns.specs.Columns.{EndPair, concat, columns}
+use Rattle.sheet.specs.declared.Ends.{Ends}
+use Rattle.columns.specs.Columns.{concat, columns}
 use Rattle.columns.specs.Elements.{times, times_join, concat-cons}
 use Rattle.columns.specs.Once.{column_once, nothing_else}
 
@@ -22,7 +23,7 @@ two_columns v (c ∷ cs) l zero h p q = absurd (omega arith)
 two_columns v (c ∷ cs) zero (suc r) h p q = omega (arith, times_column v cs r, ap (times v) (concat-cons c cs), times_join v c (concat cs))
 two_columns v (c ∷ cs) (suc l) (suc r) h p q = omega (arith, two_columns v cs l r (omega arith) p q, ap (times v) (concat-cons c cs), times_join v c (concat cs))
 
-module _ (n : ℕ) (arrows : List EndPair) (start : ℕ) (s : start < n) where
+module _ (n : ℕ) (arrows : List Ends) (start : ℕ) (s : start < n) where
   at_most_once : (v : ℕ) → times v (concat (columns n arrows start)) ≤ 1
   at_most_once v = by_lt v n (λ (h : v < n). omega (arith, column_once n arrows start v h)) (λ (h : n ≤ v). omega (arith, nothing_else n arrows start s v h))
 

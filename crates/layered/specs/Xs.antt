@@ -4,7 +4,7 @@ use Rattle.std.proofs.Math.Path.{refl, sym, ap}
 use Rattle.std.proofs.Common.{◌∙◌, arith}
 use Rattle.std.proofs.Math.Bool.{true}
 use mathlib.Core.List.{List, [], ◌∷◌, ◌++◌}
-use Prim.Native.Nat.{ℕ, zero, suc, ◌+◌, ◌≤◌, ◌<◌}
+use Prim.Native.Nat.{ℕ, zero, suc, ◌≤◌, ◌<◌}
 use Rattle.std.proofs.Math.Nat.{zero-add}
 use Rattle.std.proofs.Math.ListN.{get_or-append, get_or-eq_default}
 use Rattle.std.proofs.lemmas.List.{get_or_at}
@@ -15,7 +15,8 @@ use Rattle.laws.specs.Lists.{map_at}
 use Rattle.laws.specs.Tables.{table_at}
 use Rattle.float.specs.Constants.{f0}
 use Rattle.float.specs.Ops.{◌⊗◌, of_nat}
-use Rattle.columns.specs.Columns.{EndPair, elem, reached, concat, state_numbers, unreached, last_column, columns}
+use Rattle.sheet.specs.declared.Ends.{Ends}
+use Rattle.columns.specs.Columns.{elem, reached, concat, state_numbers, unreached, last_column, columns}
 use Rattle.columns.specs.Distance.{Walk, Distance, column_distance, distance_column, never-unreached}
 use Rattle.layered.specs.Layered.{column_gap, column_of, layered_xs}
 
@@ -31,7 +32,7 @@ within : (cs : List (List ℕ)) (k v : ℕ) → elem v (get_or cs k []) ≡ true
 unfolding elem
 within cs k v e = by_lt k (length cs) (λ (h : k < length cs). h) (λ (h : length cs ≤ k). absurd (clash e (ap (elem v) (get_or-eq_default cs [] h))))
 
-module _ (n start : ℕ) (arrows : List EndPair) (h : start < n) where
+module _ (n start : ℕ) (arrows : List Ends) (h : start < n) where
   distance_one : (j k v : ℕ) → Distance n arrows start j v → Distance n arrows start k v → j ≡ k
   distance_one j k v p q = by_lt j k (λ (i : j < k). absurd (q.1 j i p.0)) (λ (i : k ≤ j). by_lt k j (λ (l : k < j). absurd (p.1 k l q.0)) (λ (l : j ≤ k). omega arith))
 

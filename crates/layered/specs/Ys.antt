@@ -8,14 +8,15 @@ use Rattle.laws.specs.Counting.{table-length}
 use Rattle.laws.specs.Lists.{map_at}
 use Rattle.float.specs.Constants.{f0}
 use Rattle.float.specs.Ops.{◌⊖◌, ◌⊗◌, of_nat}
-use Rattle.columns.specs.Columns.{EndPair, columns, state_numbers}
+use Rattle.sheet.specs.declared.Ends.{Ends}
+use Rattle.columns.specs.Columns.{columns, state_numbers}
 use Rattle.layered.specs.Single.{column_single, one_column, column_in}
 use Rattle.sweep.specs.Sweeps.{middle_place, swept}
 use Rattle.sweep.specs.Centred.{swept-centred, placed_in}
 use Rattle.sweep.specs.Lengths.{swept-length}
 use Rattle.layered.specs.Layered.{row, column_gap, column_of, layered_xs, layered_ys}
 
-module _ (n start : ℕ) (arrows : List EndPair) where
+module _ (n start : ℕ) (arrows : List Ends) where
   pub xs_length : (w : Float) → length (layered_xs n start arrows w) ≡ n
   unfolding layered_xs
   xs_length w = length-map (state_numbers n) (λ (v : ℕ). of_nat (column_of (columns n arrows start) v) ⊗ column_gap w) ∙ table-length (λ (v : ℕ). v) 0 n

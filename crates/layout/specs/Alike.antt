@@ -12,7 +12,7 @@ use Rattle.routing_laws.proofs.Agree.{same-frame}
 use Rattle.circular.specs.Ring.{around_ring, ringed, cos_at, sin_at}
 use Rattle.fit.specs.Fit.{shifted}
 use Rattle.layered.specs.Ys.{xs_length, ys_length}
-use Rattle.layout.specs.Layout.{Plan, plan_of, many, plan_start, widest, tallest, Placing, end_pair_of, layers, ring, takes_ring, last_kind, chosen, fitted, layout_of}
+use Rattle.layout.specs.Layout.{Plan, plan_of, many, plan_start, widest, tallest, Placing, layers, ring, takes_ring, last_kind, chosen, fitted, layout_of}
 
 -- ---- the same states, arrow ends and sizes of labels: the same layout
 
@@ -44,7 +44,7 @@ ring-whole p = (ring-length cos_at (many p) (plan_start p) (widest p), ring-leng
 
 layers-whole : (p : Plan) → Whole p (layers p)
 unfolding layers
-layers-whole p = (xs_length (many p) (plan_start p) (map end_pair_of p.arrows) (widest p), ys_length (many p) (plan_start p) (map end_pair_of p.arrows) (tallest p))
+layers-whole p = (xs_length (many p) (plan_start p) p.arrows (widest p), ys_length (many p) (plan_start p) p.arrows (tallest p))
 
 chosen-whole : (kind : ℕ) (p : Plan) → kind ≤ last_kind → Whole p (chosen kind p)
 unfolding chosen

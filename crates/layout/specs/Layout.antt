@@ -11,7 +11,6 @@ use Rattle.routing.specs.Routing.{Ends, Frame, BlockSize, records}
 use Rattle.routing.specs.Sheets.{ends_by, sizes_by, ends_of, sizes_of, frame_with, centres_at}
 use Rattle.clutter.specs.Clutter.{clutter_of}
 use Rattle.circular.specs.Ring.{largest, circular_xs, circular_ys}
-use Rattle.columns.specs.Columns.{EndPair, end_pair}
 use Rattle.layered.specs.Layered.{layered_xs, layered_ys}
 use Rattle.layout.specs.declared.Placement.{Placement}
 use Rattle.layout.specs.declared.Placement.TheVariants.{Layers, Ring}
@@ -59,15 +58,12 @@ pub record Placing : Type 0 where
 abbrev pub placing : List Float → List Float → Placing
 placing xs ys = record { xs = xs; ys = ys }
 
-abbrev pub end_pair_of : Ends → EndPair
-end_pair_of e = end_pair e.source e.target
-
 -- "Layered: breadth-first from the first start state or 0"
-abbrev pub layers_by : ℕ → ℕ → List EndPair → Float → Float → Placing
+abbrev pub layers_by : ℕ → ℕ → List Ends → Float → Float → Placing
 layers_by n start arrows w h = placing (layered_xs n start arrows w) (layered_ys n start arrows h)
 
 unfoldable pub layers : Plan → Placing
-layers p = layers_by (many p) (plan_start p) (map end_pair_of p.arrows) (widest p) (tallest p)
+layers p = layers_by (many p) (plan_start p) p.arrows (widest p) (tallest p)
 
 -- "Circular"
 abbrev pub ring_by : ℕ → ℕ → Float → Placing

@@ -6,31 +6,29 @@ use mathlib.Core.List.{List, map}
 use Prim.Native.Nat.{ℕ, ◌≤◌}
 use Rattle.std.proofs.Math.ListN.{length}
 use Rattle.laws.specs.Put.{put}
-use Rattle.laws.specs.Zip.{zip_length, map_zip_first, map_zip_second, map_zip}
+use Rattle.laws.specs.Zip.{zip_by, zip_length, map_zip_first, map_zip_second}
 use Rattle.records.specs.Records.{decode_records}
 use Rattle.records.specs.Back.{Small}
 use Rattle.routing.specs.Routing.{Frame, BlockSize, records}
 use Rattle.routing.specs.Sheets.{ends_by, sizes_by, size_held}
 use Rattle.routing_laws.proofs.Decoded.{records_most, records-small, records_decoded}
 use Rattle.geometry.specs.Geometry.{record_count, numbers}
-use Rattle.columns.specs.Columns.{EndPair, end_pairs}
 use Rattle.layered.specs.Layered.{layered_xs, layered_ys}
 use Rattle.sheet.specs.Meaning.{start_index}
 use Rattle.circular.specs.Ring.{largest, circular_xs, circular_ys}
-use Rattle.layout.specs.Layout.{plan_by, placing, end_pair_of, layers_by, layers, ring_by, ring, is_more, is_dense}
+use Rattle.layout.specs.Layout.{plan_by, placing, layers_by, layers, ring_by, ring, is_more, is_dense}
 
 -- ---- the plan that slices hold
 
 module _ (flags sources targets : List ℕ) (widths heights : List Float) where
   pub layers-slices : length heights ≡ length widths
-      → layers_by (length flags) (start_index flags) (end_pairs sources targets) (largest widths) (largest heights) ≡ layers (plan_by flags sources targets widths heights)
+      → layers_by (length flags) (start_index flags) (zip_by ends_by sources targets) (largest widths) (largest heights) ≡ layers (plan_by flags sources targets widths heights)
   unfolding layers
   layers-slices h =
       let n : ℕ = length flags in
       let s : ℕ = start_index flags in
       sym
-      (ap (λ (es : List EndPair). layers_by n s es (largest (map (λ z. z.width) (sizes_by widths heights))) (largest (map (λ z. z.height) (sizes_by widths heights)))) (map_zip ends_by end_pair_of sources targets)
-      ∙ ap₂ (λ (ws hs : List Float). layers_by n s (end_pairs sources targets) (largest ws) (largest hs)) (map_zip_first size_held (λ z. z.width) (λ a b. refl) widths heights h) (map_zip_second size_held (λ z. z.height) (λ a b. refl) widths heights h))
+      (ap₂ (λ (ws hs : List Float). layers_by n s (zip_by ends_by sources targets) (largest ws) (largest hs)) (map_zip_first size_held (λ z. z.width) (λ a b. refl) widths heights h) (map_zip_second size_held (λ z. z.height) (λ a b. refl) widths heights h))
 
   pub ring-slices : length heights ≡ length widths → ring_by (length flags) (start_index flags) (largest widths) ≡ ring (plan_by flags sources targets widths heights)
   unfolding ring
@@ -42,7 +40,7 @@ module _ (flags sources targets : List ℕ) (widths heights : List Float) where
 
   -- as the centres are computed
   pub layers_done : (n s : ℕ) (w h : Float) (xs ys : List Float) → n ≡ length flags → s ≡ start_index flags → w ≡ largest widths → h ≡ largest heights → length heights ≡ length widths
-      → xs ≡ layered_xs n s (end_pairs sources targets) w → ys ≡ layered_ys n s (end_pairs sources targets) h → placing xs ys ≡ layers (plan_by flags sources targets widths heights)
+      → xs ≡ layered_xs n s (zip_by ends_by sources targets) w → ys ≡ layered_ys n s (zip_by ends_by sources targets) h → placing xs ys ≡ layers (plan_by flags sources targets widths heights)
   layers_done n s w h xs ys en es ew eh l ex ey = rw (ex, ey, en, es, ew, eh) (layers-slices l)
 
 pub ring_done : (flags : List ℕ) (widths : List Float) (n s : ℕ) (w : Float) (xs ys : List Float) → n ≡ length flags → s ≡ start_index flags → w ≡ largest widths

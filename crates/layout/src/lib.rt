@@ -2,6 +2,8 @@
 #![tactic(auto)]
 
 ghost use Rattle.std.specs.Prelude.{◌≡◌, ◌<◌, ◌≤◌, length};
+ghost use Rattle.laws.specs.Zip.{zip_by};
+ghost use Rattle.routing.specs.Sheets.{ends_by};
 ghost use Rattle.sheet.specs.Meaning.{start_index};
 ghost use Rattle.circular.specs.Ring.{largest};
 ghost use Rattle.layout.specs.Layout as S;
@@ -10,6 +12,7 @@ ghost use Rattle.layout.specs.Choice as C;
 use fit::{MARGIN, Size};
 use records::RECORD_NUMBERS;
 use refusal::Refusal;
+use sheet::Ends;
 
 // The layout kinds of document 01.
 #[derive(Clone, Copy, Debug, PartialEq, Eq)]
@@ -46,6 +49,19 @@ pub enum Placement {
 
 // ---- centres
 
+// Puts the ends of the arrows beside each other.
+fn put_ends(sources: &[usize], targets: &[usize], arrows: &mut [Ends])
+    requires { (length targets.now ≡ length sources.now) × (length arrows.old ≡ length sources.now) }
+    ensures { arrows.new ≡ zip_by ends_by sources.now targets.now }
+{
+    for (i, arrow) in arrows.iter_mut().enumerate() {
+        *arrow = Ends {
+            source: sources[i],
+            target: targets[i],
+        };
+    }
+}
+
 // The centres in layers.
 pub fn layers_at(
     flags: &[u8],
@@ -64,7 +80,13 @@ pub fn layers_at(
     let start = sheet::start_index(flags);
     let label_w = circular::largest(widths);
     let label_h = circular::largest(heights);
-    layered::layered(start, sources, targets, label_w, label_h, xs, ys);
+    let mut room = [Ends {
+        source: 0,
+        target: 0,
+    }; 256];
+    let arrows = &mut room[..sources.len()];
+    put_ends(sources, targets, arrows);
+    layered::layered(start, arrows, label_w, label_h, xs, ys);
 }
 
 // The centres on the ring.

@@ -14,7 +14,7 @@ use Rattle.laws.specs.Loops.{steps_from, up, over, up_keeps, down_keeps}
 use Rattle.laws.specs.Same.{Moved, empty, front, swap, then}
 use Rattle.float.specs.Constants.{f0}
 use Rattle.float.specs.Ops.{◌⊖◌, of_nat}
-use Rattle.columns.specs.Columns.{EndPair}
+use Rattle.sheet.specs.declared.Ends.{Ends}
 use Rattle.columns.specs.Elements.{times}
 use Rattle.sweep.specs.Sweeps.{slot, middle_place, centre_column, ordered_column, Arranged, arranged, arrange, sweep_down, sweep_up, swept}
 use Rattle.sweep.specs.Steps.{sweeps-keep}
@@ -125,7 +125,7 @@ all-centred (c ∷ cs) slots s d r (suc l) i h =
     less k j e = omega arith
 
 -- ---- and kept so by the sweeps
-module _ (n : ℕ) (arrows : List EndPair) (columns : List (List ℕ)) (single : (v l : ℕ) → times v (get_or columns l []) ≤ 1)
+module _ (n : ℕ) (arrows : List Ends) (columns : List (List ℕ)) (single : (v l : ℕ) → times v (get_or columns l []) ≤ 1)
     (apart : (v l r : ℕ) → 0 < times v (get_or columns l []) → 0 < times v (get_or columns r []) → l ≡ r) (inside : (v l : ℕ) → 0 < times v (get_or columns l []) → v < n)
   where
     abbrev Good : Arranged → Type 0

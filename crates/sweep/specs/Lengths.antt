@@ -6,7 +6,7 @@ use Rattle.std.proofs.Math.ListN.{length-replicate}
 use Rattle.laws.specs.Loops.{up_keeps, down_keeps, over_keeps, over}
 use Rattle.float.specs.Constants.{f0}
 use Rattle.float.specs.Ops.{◌⊖◌, of_nat}
-use Rattle.columns.specs.Columns.{EndPair}
+use Rattle.sheet.specs.declared.Ends.{Ends}
 use Rattle.sweep.specs.Sweeps.{middle_place, centre_column, ordered_column, Arranged, arranged, arrange, sweep_down, sweep_up, four_sweeps, swept}
 use Rattle.sweep.specs.Steps.{sweeps-keep}
 
@@ -22,7 +22,7 @@ over-length cs slots = over_keeps (λ (s : List Float). length s ≡ length slot
 abbrev slot_count : Arranged → ℕ
 slot_count s = length s.slots
 
-module _ (n : ℕ) (arrows : List EndPair) where
+module _ (n : ℕ) (arrows : List Ends) where
   arrange-length : (r l : ℕ) (s : Arranged) → slot_count (arrange n arrows r l s) ≡ slot_count s
   unfolding arrange
   arrange-length r l s = centre-length s.slots (ordered_column n arrows s.slots (get_or s.columns r []) (get_or s.columns l []))

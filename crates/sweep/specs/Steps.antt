@@ -1,46 +1,23 @@
--- What the code is lent, what it adds up, arrow by arrow, and a step of each of its loops. Assumes nothing.
-use Rattle.std.specs.Prelude.{◌≡◌, refl, Bool, ℕ, ◌+◌, ◌-◌, ◌%◌, ◌≤◌, ◌<◌, eqb, length, take, drop, Float}
+-- The columns that the code holds, what it adds up, arrow by arrow, and a step of each of its loops. Assumes nothing.
+use Rattle.std.specs.Prelude.{◌≡◌, refl, Bool, ℕ, ◌+◌, ◌%◌, ◌≤◌, ◌<◌, eqb, length, Float}
 use Rattle.std.proofs.Common.{sym, ap, ◌∙◌, not-suc-le-zero, add-zero, arith}
-use mathlib.Core.List.{List, [], ◌∷◌, ◌++◌, flat_map}
+use mathlib.Core.List.{List, [], ◌∷◌, flat_map}
 use Rattle.laws.specs.Cases.{by_bool}
 use Rattle.laws.specs.Filter.{filter_by, filter_join}
 use Rattle.laws.specs.Loops.{over, over_join, up_keeps}
 use Rattle.float.specs.Constants.{f0}
 use Rattle.float.specs.Ops.{◌⊕◌, ◌⊘◌, of_nat}
-use Rattle.columns.specs.Columns.{EndPair}
-use Rattle.laws.specs.Split.{split, sum_all}
+use Rattle.sheet.specs.declared.Ends.{Ends}
+use Rattle.columns.specs.declared.Columns.{Columns}
+use Rattle.columns.specs.Listed.{listed}
 use Rattle.sweep.specs.declared.Sum.{Sum}
-use Rattle.sweep.specs.Sweeps.{Arranged, arranged, slot, slot_total, other_end, neighbours, in_column, mean_or, ordered_column, sweep_down, sweep_up, sweep_at, sweeps, four_sweeps}
+use Rattle.sweep.specs.Sweeps.{Arranged, arranged, slot, slot_total, other_end, neighbours, in_column, mean_or, sweep_down, sweep_up, sweep_at, sweeps, four_sweeps}
 
--- ---- the lent slices
+-- ---- columns
 
--- two ends for each arrow
-abbrev pub EndSlices : List ℕ → List ℕ → Type 0
-EndSlices sources targets = (length targets ≡ length sources) × (length sources ≤ 256)
-
--- and the columns, which take up the whole order
-abbrev pub ColumnSlices : List ℕ → List ℕ → List ℕ → List ℕ → Type 0
-ColumnSlices sources targets order sizes = EndSlices sources targets × (sum_all sizes ≡ length order) × (length order ≤ 64)
-
--- and two runs of places in the order, from `low` to `high` and from a to e
-abbrev pub PartSlices : List ℕ → List ℕ → List ℕ → ℕ → ℕ → ℕ → ℕ → Type 0
-PartSlices sources targets order low high a e =
-    EndSlices sources targets × (low ≤ high) × (high ≤ length order) × (a ≤ e) × (e ≤ length order)
-
--- ---- columns in an order
-
--- the states at the places from a to e
-abbrev pub in_places : ℕ → ℕ → List ℕ → List ℕ
-in_places a e order = take (e - a) (drop a order)
-
--- the order with the column from a to e put in order, by the one from `low` to `high`
-abbrev pub ordered_part : ℕ → List EndPair → List Float → List ℕ → ℕ → ℕ → ℕ → ℕ → List ℕ
-ordered_part n arrows slots order low high a e =
-    take a order ++ (ordered_column n arrows slots (in_places low high order) (in_places a e order) ++ drop (e - a) (drop a order))
-
--- the columns that lie one after another in an order, by their sizes, and the slots
-abbrev pub arranged_by : List ℕ → List ℕ → List Float → Arranged
-arranged_by sizes order slots = arranged (split sizes order) slots
+-- the columns that the code holds, and the slots
+abbrev pub arranged_by : {SIZES : ℕ} → Columns SIZES → List Float → Arranged
+arranged_by columns slots = arranged (listed columns) slots
 
 -- ---- sums
 
@@ -54,11 +31,11 @@ add_slot slots s w = sum_of (s.total ⊕ slot slots w) (s.count + 1)
 unfoldable pub add_all : Bool → List ℕ → List Float → Sum → List ℕ → Sum
 add_all inside column slots s ws = over (add_slot slots) s (filter_by (in_column inside column) ws)
 
-unfoldable pub add_end : ℕ → ℕ → Bool → List ℕ → List Float → Sum → EndPair → Sum
+unfoldable pub add_end : ℕ → ℕ → Bool → List ℕ → List Float → Sum → Ends → Sum
 add_end n v inside column slots s a = add_all inside column slots s (other_end n v a)
 
 -- arrow by arrow, and all
-pub ends_all : (n v : ℕ) (inside : Bool) (column : List ℕ) (slots : List Float) (s : Sum) (arrows : List EndPair) → over (add_end n v inside column slots) s arrows ≡ add_all inside column slots s (neighbours n arrows v)
+pub ends_all : (n v : ℕ) (inside : Bool) (column : List ℕ) (slots : List Float) (s : Sum) (arrows : List Ends) → over (add_end n v inside column slots) s arrows ≡ add_all inside column slots s (neighbours n arrows v)
 unfolding over neighbours flat_map add_all add_end filter_by
 ends_all n v inside column slots s [] = refl
 ends_all n v inside column slots s (a ∷ l) =
@@ -86,7 +63,7 @@ mean_none slots [] other h = refl
 mean_none slots (w ∷ ws) other h = absurd (not-suc-le-zero h)
 
 -- ---- sweeps: what each keeps, all keep
-module _ (n : ℕ) (arrows : List EndPair) (P : Arranged → Type 0) (d : (s : Arranged) → P s → P (sweep_down n arrows s)) (u : (s : Arranged) → P s → P (sweep_up n arrows s)) where
+module _ (n : ℕ) (arrows : List Ends) (P : Arranged → Type 0) (d : (s : Arranged) → P s → P (sweep_down n arrows s)) (u : (s : Arranged) → P s → P (sweep_up n arrows s)) where
   sweep_keeps : (k : ℕ) (s : Arranged) → P s → P (sweep_at n arrows k s)
   sweep_keeps k s h = by_bool (eqb (k % 2) 0) (λ t. rw t (d s h)) (λ t. rw t (u s h))
 

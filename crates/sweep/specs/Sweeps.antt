@@ -8,7 +8,8 @@ use Rattle.float.specs.Constants.{f0, f1, f2}
 use Rattle.float.specs.Ops.{◌⊕◌, ◌⊖◌, ◌⊘◌, of_nat}
 use Rattle.float.specs.Standins.{precedes}
 use Rattle.sweep.specs.declared.Weighted.{Weighted}
-use Rattle.columns.specs.Columns.{EndPair, source, target, pair_between, elem}
+use Rattle.sheet.specs.declared.Ends.{Ends}
+use Rattle.columns.specs.Columns.{counts, elem}
 
 -- ---- slots: one a state, its position relative to the centre of its column
 
@@ -26,14 +27,14 @@ centre_column slots column = up (λ (i : ℕ) (s : List Float). set s (get_or co
 -- ---- barycentres
 
 -- the state at the other end of an arrow, where the arrow is one of v's
-unfoldable pub other_end : ℕ → ℕ → EndPair → List ℕ
+unfoldable pub other_end : ℕ → ℕ → Ends → List ℕ
 other_end n v a =
-    let to = cond (eqb (target a) v) (source a ∷ []) [] in
-    let ends = cond (eqb (source a) v) (target a ∷ []) to in
-    cond (pair_between n a) ends []
+    let to = cond (eqb a.target v) (a.source ∷ []) [] in
+    let ends = cond (eqb a.source v) (a.target ∷ []) to in
+    cond (counts n a) ends []
 
 -- the neighbours of v by arrows of either direction, in the order of the arrows, each as often as there are arrows
-unfoldable pub neighbours : ℕ → List EndPair → ℕ → List ℕ
+unfoldable pub neighbours : ℕ → List Ends → ℕ → List ℕ
 neighbours n arrows v = flat_map (other_end n v) arrows
 
 unfoldable pub slot_total : List Float → List ℕ → Float
@@ -49,7 +50,7 @@ abbrev pub in_column : Bool → List ℕ → ℕ → Bool
 in_column inside column w = cond inside (elem w column) (not (elem w column))
 
 -- the mean over the neighbouring column, else over other columns, else the slot itself
-unfoldable pub barycentre : ℕ → List EndPair → List Float → List ℕ → List ℕ → ℕ → Float
+unfoldable pub barycentre : ℕ → List Ends → List Float → List ℕ → List ℕ → ℕ → Float
 barycentre n arrows slots reference column v =
     mean_or slots (filter_by (in_column true reference) (neighbours n arrows v))
     (mean_or slots (filter_by (in_column false column) (neighbours n arrows v))
@@ -61,14 +62,14 @@ barycentre n arrows slots reference column v =
 abbrev pub by_barycentre : List Float → Weighted → Weighted → Bool
 by_barycentre slots v w = cond (precedes v.barycentre w.barycentre) true (cond (precedes w.barycentre v.barycentre) false (precedes (slot slots v.state) (slot slots w.state)))
 
-abbrev pub with_barycentre : ℕ → List EndPair → List Float → List ℕ → List ℕ → ℕ → Weighted
+abbrev pub with_barycentre : ℕ → List Ends → List Float → List ℕ → List ℕ → ℕ → Weighted
 with_barycentre n arrows slots reference column v = record { state = v; barycentre = barycentre n arrows slots reference column v }
 
 abbrev pub state_of : Weighted → ℕ
 state_of v = v.state
 
 -- the states of a column in order, stable sorts by total order
-unfoldable pub ordered_column : ℕ → List EndPair → List Float → List ℕ → List ℕ → List ℕ
+unfoldable pub ordered_column : ℕ → List Ends → List Float → List ℕ → List ℕ → List ℕ
 ordered_column n arrows slots reference column =
     map state_of (sorted (by_barycentre slots) (map (with_barycentre n arrows slots reference column) column))
 
@@ -82,21 +83,21 @@ abbrev pub arranged : List (List ℕ) → List Float → Arranged
 arranged columns slots = record { columns = columns; slots = slots }
 
 -- column l is put in order by a neighbouring column, and centred
-unfoldable pub arrange : ℕ → List EndPair → ℕ → ℕ → Arranged → Arranged
+unfoldable pub arrange : ℕ → List Ends → ℕ → ℕ → Arranged → Arranged
 arrange n arrows reference l s =
     let c = ordered_column n arrows s.slots (get_or s.columns reference []) (get_or s.columns l []) in
     arranged (set s.columns l c) (centre_column s.slots c)
 
 -- from the second column to the last, each by the column before it
-unfoldable pub sweep_down : ℕ → List EndPair → Arranged → Arranged
+unfoldable pub sweep_down : ℕ → List Ends → Arranged → Arranged
 sweep_down n arrows s = up (λ (l : ℕ). arrange n arrows (l - 1) l) 1 (length s.columns) s
 
 -- from the last column but one to the first, each by the column after it
-unfoldable pub sweep_up : ℕ → List EndPair → Arranged → Arranged
+unfoldable pub sweep_up : ℕ → List Ends → Arranged → Arranged
 sweep_up n arrows s = down (λ (l : ℕ). arrange n arrows l (l - 1)) (length s.columns - 1) s
 
 -- sweep k, counted from 0: down where k is even, else up
-abbrev pub sweep_at : ℕ → List EndPair → ℕ → Arranged → Arranged
+abbrev pub sweep_at : ℕ → List Ends → ℕ → Arranged → Arranged
 sweep_at n arrows k = cond (eqb (k % 2) 0) (sweep_down n arrows) (sweep_up n arrows)
 
 -- "four barycentre sweeps"
@@ -104,9 +105,9 @@ abbrev pub sweeps : ℕ
 sweeps = 4
 
 -- down, up, down, up
-unfoldable pub four_sweeps : ℕ → List EndPair → Arranged → Arranged
+unfoldable pub four_sweeps : ℕ → List Ends → Arranged → Arranged
 four_sweeps n arrows s = up (sweep_at n arrows) 0 sweeps s
 
 -- from columns that are centred
-unfoldable pub swept : ℕ → List EndPair → List (List ℕ) → Arranged
+unfoldable pub swept : ℕ → List Ends → List (List ℕ) → Arranged
 swept n arrows columns = four_sweeps n arrows (arranged columns (over centre_column (replicate n f0) columns))

@@ -1,22 +1,22 @@
 -- `columns::explore` meets its contract.
 use mathlib.Core.Path.{◌≡◌, refl, sym, ap, subst, ◌∙◌}
 use mathlib.Core.List.{List}
-use Prim.Native.Nat.{ℕ, ◌+◌, ◌-◌}
+use Prim.Native.Nat.{ℕ, ◌+◌}
 use native.Mathlib.Omega.{arith}
 use lib.ListN.{length, take, drop, get_or}
 use Rattle.laws.specs.Loops.{over}
-use Rattle.columns.specs.Columns.{end_pairs, discover, successors, explore}
+use Rattle.columns.specs.Columns.{discover, successors, explore}
 use Rattle.columns.specs.Found.{Fair, visit_fair, front_kept}
 use Rattle.columns.proofs.Laws.{explore-step, explore_stop}
 use borrow.Author.Rules.{rules}
 use Rattle.columns.proofs.explore.Goals as goal
 
 pub loop-i-init : goal.loop-i-init
-loop-i-init c = (refl, search rules, search rules, refl, c.requires.2, refl)
+loop-i-init c = (refl, search rules, search rules, refl, c.requires.1, refl)
 
 pub visit-p-requires : goal.visit-p-requires
 visit-p-requires c = let l = c.loop-i in
-    (c.requires.0, omega (arith, l.invariant.0, l.invariant.1), subst (λ (n : ℕ). Fair n (take l.p l.order)) (sym l.invariant.0) l.invariant.4)
+    (omega (arith, l.invariant.0, l.invariant.1), subst (λ (n : ℕ). Fair n (take l.p l.order)) (sym l.invariant.0) l.invariant.4)
 
 pub loop-i-preserved : goal.loop-i-preserved
 loop-i-preserved c = let a = c.args in
@@ -24,7 +24,7 @@ loop-i-preserved c = let a = c.args in
     let n = length a.order.now in
     let f = c.visit-p in
     let v : ℕ = get_or l.order l.i 0 in
-    let arrows = end_pairs a.sources.now a.targets.now in
+    let arrows = a.arrows.now in
     let e : take f.result f.new.order ≡ over discover (take l.p l.order) (successors n arrows v) = f.ensures.1 ∙ ap (λ (m : ℕ). over discover (take l.p l.order) (successors m arrows v)) l.invariant.0 in
     let k = front_kept a.high l.p f.result l.order f.new.order (successors n arrows v) l.invariant.2 (omega arith) (omega (arith, f.ensures.0, f.auto.order)) e in (
       f.auto.order ∙ l.invariant.0,
@@ -44,4 +44,4 @@ pub returns : goal.returns
 returns c = let a = c.args in
     let l = c.loop-i in
     let n = length a.order.now in
-    (l.invariant.1, explore_stop n (end_pairs a.sources.now a.targets.now) (take l.p l.order) a.order.now a.high l.i (omega arith) (omega arith) ∙ l.invariant.5)
+    (l.invariant.1, explore_stop n a.arrows.now (take l.p l.order) a.order.now a.high l.i (omega arith) (omega arith) ∙ l.invariant.5)

@@ -1,12 +1,8 @@
 -- `columns::reach` meets its contract.
-use mathlib.Core.Path.{◌≡◌}
-use Prim.Native.Nat.{◌-◌}
+use Rattle.std.proofs.Common.{◌≡◌, ◌-◌, ◌+◌, length}
 use lib.ListN.{length}
 use Rattle.columns.proofs.Laws.{Searching}
 use Rattle.columns.proofs.reach.Given as goal
 
-abbrev pub invariant-loop-left : goal.invariant-loop-left
-invariant-loop-left l = Searching l.sources l.targets l.start l.order l.sizes l.count l.low l.high l.left × (length l.order ≡ length l.initial.order) × (length l.sizes ≡ length l.initial.sizes)
-
-abbrev pub decreases-loop-left : goal.decreases-loop-left
-decreases-loop-left l = l.left
+abbrev pub invariant-loop-count : goal.invariant-loop-count
+invariant-loop-count l = Searching l.arrows l.start l.order l.sizes l.count l.low l.high (l.most - l.count) × (l.most ≡ length l.initial.order + 1)
