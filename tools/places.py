@@ -101,6 +101,8 @@ parameters('5 functions that take sources and targets', ['sources', 'targets'])
 parameters('5 functions that take widths and heights, or width and height', ['widths', 'heights'])
 parameters('5 functions that take a width and a height', ['width', 'height'])
 parameters('5 functions that take order and sizes', ['order', 'sizes'])
+parameters('5 functions that take a text\'s slice and the place in it', ['out', 'at'])
+found('5 clauses that say of a record number that it is below 65,536', r'\b\w+ < 65536\b')
 counts['5 functions with more than ten parameters'] = [
     f'{path}:{line}: {fn} {len(names)}' for path, line, fn, names, _ in functions() if len(names) > 10]
 
