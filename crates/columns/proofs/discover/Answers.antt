@@ -10,9 +10,6 @@ use Rattle.columns.specs.Found.{discover_old, fair_room}
 use Rattle.columns.proofs.Laws.{push}
 use Rattle.columns.proofs.discover.Goals as goal
 
-pub slice_bounds-contains-end-2 : goal.slice_bounds-contains-end-2
-slice_bounds-contains-end-2 c = sym (length-take-le _ _ (omega arith))
-
 pub returns-then-contains : goal.returns-then-contains
 returns-then-contains c = (omega arith, sym (discover_old (take c.args.p c.args.order.now) c.args.w (sym c.contains.ensures ∙ c.if-contains.true)))
 

@@ -1,5 +1,5 @@
 -- `columns::explore` meets its contract.
-use mathlib.Core.Path.{◌≡◌, refl, sym, ap, subst, ◌∙◌}
+use mathlib.Core.Path.{◌≡◌, sym, ap, subst, ◌∙◌}
 use mathlib.Core.List.{List}
 use Prim.Native.Nat.{ℕ, ◌+◌}
 use native.Mathlib.Omega.{arith}
@@ -8,15 +8,7 @@ use Rattle.laws.specs.Loops.{over}
 use Rattle.columns.specs.Columns.{discover, successors, explore}
 use Rattle.columns.specs.Found.{Fair, visit_fair, front_kept}
 use Rattle.columns.proofs.Laws.{explore-step, explore_stop}
-use borrow.Author.Rules.{rules}
 use Rattle.columns.proofs.explore.Goals as goal
-
-pub loop-i-init : goal.loop-i-init
-loop-i-init c = (refl, search rules, search rules, refl, c.requires.1, refl)
-
-pub visit-p-requires : goal.visit-p-requires
-visit-p-requires c = let l = c.loop-i in
-    (omega (arith, l.invariant.0, l.invariant.1), subst (λ (n : ℕ). Fair n (take l.p l.order)) (sym l.invariant.0) l.invariant.4)
 
 pub loop-i-preserved : goal.loop-i-preserved
 loop-i-preserved c = let a = c.args in
@@ -36,9 +28,6 @@ loop-i-preserved c = let a = c.args in
           ∙ explore-step n arrows (take l.p l.order) l.order a.order.now a.high l.i (omega arith) (omega arith) l.invariant.3
           ∙ l.invariant.5,
     )
-
-pub shape_of-order : goal.shape_of-order
-shape_of-order c = c.loop-i.invariant.0
 
 pub returns : goal.returns
 returns c = let a = c.args in

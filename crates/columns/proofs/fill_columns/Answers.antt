@@ -8,9 +8,6 @@ use Rattle.columns.specs.Columns.{columns}
 use Rattle.columns.proofs.Laws.{fill-all, fill-rest}
 use Rattle.columns.proofs.fill_columns.Goals as goal
 
-pub put_unreached-requires : goal.put_unreached-requires
-put_unreached-requires c = (c.reach-found.ensures.0, c.reach-found.ensures.2)
-
 pub returns-then-p-n : goal.returns-then-p-n
 returns-then-p-n c = let a = c.args in
     let f = c.reach-found in

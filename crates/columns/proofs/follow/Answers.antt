@@ -2,12 +2,8 @@
 use mathlib.Core.Path.{sym, ◌∙◌}
 use native.Mathlib.Omega.{arith}
 use lib.ListN.{length, take}
-use Rattle.columns.specs.Found.{target_in, follow_yes, follow_no}
+use Rattle.columns.specs.Found.{follow_yes, follow_no}
 use Rattle.columns.proofs.follow.Goals as goal
-
-pub discover-requires : goal.discover-requires
-discover-requires c = let n = length c.args.order.now in
-    (target_in n c.args.v c.args.arrow (sym c.leaves.ensures ∙ c.if-leaves.true), c.requires.0, c.requires.1)
 
 pub returns-then-leaves : goal.returns-then-leaves
 returns-then-leaves c = let n = length c.args.order.now in

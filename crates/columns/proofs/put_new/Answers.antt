@@ -4,19 +4,12 @@ use mathlib.Core.Bool.{false}
 use Prim.Native.Nat.{◌<◌}
 use native.Mathlib.Omega.{arith}
 use lib.ListN.{length, take}
-use lib.Seq.{length-take-le}
 use Rattle.columns.specs.Columns.{elem}
 use Rattle.columns.proofs.Laws.{kept_none, kept_one}
 use Rattle.columns.proofs.put_new.Goals as goal
 
-pub slice_bounds-contains-end-2 : goal.slice_bounds-contains-end-2
-slice_bounds-contains-end-2 c = sym (length-take-le _ _ (omega arith))
-
 pub returns-then-contains : goal.returns-then-contains
 returns-then-contains c = (omega arith, kept_none c.args.q c.args.v (take c.args.p c.args.order.now) c.args.order.now (sym c.contains.ensures ∙ c.if-contains.true))
-
-pub bounds-order-q : goal.bounds-order-q
-bounds-order-q c = c.requires.1 (sym c.contains.ensures ∙ c.if-contains.false)
 
 pub returns : goal.returns
 returns c = let e : elem c.args.v (take c.args.p c.args.order.now) ≡ false = sym c.contains.ensures ∙ c.if-contains.false in

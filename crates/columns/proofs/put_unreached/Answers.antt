@@ -28,9 +28,6 @@ loop-v-preserved c = let l = c.loop-v in
     (f.ensures.1 ∙ ap (λ (x : List ℕ). take l.q l.order ++ filter_by (is_new x) (l.v ∷ [])) l.invariant.5) l.invariant.6 l.invariant.7 in
     (search rules, search rules, f.auto.order ∙ l.invariant.2, omega (arith, f.ensures.0, l.invariant.2), s.0, s.1, s.2, s.3)
 
-pub shape_of-order : goal.shape_of-order
-shape_of-order c = c.loop-v.invariant.2
-
 pub returns : goal.returns
 returns c = let l = c.loop-v in
     let o = c.args.order.now in

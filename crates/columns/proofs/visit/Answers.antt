@@ -10,10 +10,6 @@ pub loop-arrow-init : goal.loop-arrow-init
 loop-arrow-init c = let a = c.args in
     (c.requires.0, c.requires.1, follows (length a.order.now) a.v (take a.p a.order.now) a.arrows.now)
 
-pub follow-q-requires : goal.follow-q-requires
-follow-q-requires c = let l = c.loop-arrow in
-    (omega (arith, l.invariant.0, l.auto.order), subst (λ n. Fair n (take l.q l.order)) (sym l.auto.order) l.invariant.1)
-
 pub loop-arrow-preserved : goal.loop-arrow-preserved
 loop-arrow-preserved c = let a = c.args in
     let l = c.loop-arrow in

@@ -1,6 +1,5 @@
 -- `columns::Columns::start_of` meets its contract.
 use Rattle.std.proofs.Common.{refl, ap, sym, ◌∙◌, arith, ℕ, ◌+◌, get_or, take}
-use Rattle.std.proofs.Math.Seq.{take_all}
 use Rattle.laws.specs.Split.{sum_all, sum_next, sum_fits}
 use Rattle.columns.proofs.Laws.{sum_front}
 use Rattle.columns.proofs.Columns.start_of.Goals as goal
@@ -17,6 +16,3 @@ overflow_add-start g c = let z = c.args.self.now in
 pub loop-size-preserved : goal.loop-size-preserved
 loop-size-preserved g c = let used = take c.args.l c.args.self.now.sizes in
     ap (λ (k : ℕ). k + get_or used c.loop-size.size-index 0) c.loop-size.invariant ∙ sym (sum_next used c.loop-size.size-index (omega arith))
-
-pub returns : goal.returns
-returns g c = c.loop-size.invariant ∙ ap sum_all (take_all c.loop-size.size-index (take c.args.l c.args.self.now.sizes) (omega arith))
