@@ -1,13 +1,8 @@
 -- `root::by_digits` meets its contract.
 use Prim.Native.Nat.{◌*◌, ◌^◌}
-use native.Mathlib.Omega.{arith}
-use Rattle.root.specs.Nearest.{whole_root_lt}
 use Rattle.root.specs.Digits.{digits_up, digits_stay}
 use Rattle.root.proofs.Laws.{nearest_fits}
 use Rattle.root.proofs.by_digits.Goals as goal
-
-pub overflow_add-result : goal.overflow_add-result
-overflow_add-result c = omega (arith, c.whole_root-d.ensures.0, whole_root_lt (c.args.a * 2 ^ 52) (omega arith))
 
 pub returns-then-d : goal.returns-then-d
 returns-then-d c = let e = digits_up (c.args.a * 2 ^ 52) c.whole_root-d.result.q c.whole_root-d.result.r c.whole_root-d.ensures.0 c.whole_root-d.ensures.1 c.if-d.true in

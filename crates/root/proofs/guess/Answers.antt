@@ -1,8 +1,6 @@
 -- `root::guess` meets its contract.
 use native.Mathlib.Omega.{arith}
-use lib.Ieee.{binary64, to_bits}
 use Rattle.laws.specs.Nan.{no_nan, no_nan_bits}
-use Rattle.root.proofs.Laws.{low_is}
 use Rattle.root.proofs.guess.Goals as goal
 
 pub float_from_bits-x : goal.float_from_bits-x
@@ -13,9 +11,3 @@ float_from_bits-y c = no_nan_bits _ (omega arith)
 
 pub float_to_bits-result : goal.float_to_bits-result
 float_to_bits-result c = no_nan c.near_root-g.result c.if-g.false
-
-pub overflow_add-result : goal.overflow_add-result
-overflow_add-result c = omega (arith, low_is (to_bits binary64 c.near_root-g.result))
-
-pub returns : goal.returns
-returns c = omega (arith, low_is (to_bits binary64 c.near_root-g.result))

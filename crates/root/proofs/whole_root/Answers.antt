@@ -2,12 +2,9 @@
 use mathlib.Core.Path.{sym, subst}
 use Prim.Native.Nat.{◌-◌, ◌+◌, ◌*◌}
 use native.Mathlib.Omega.{arith}
-use Rattle.root.specs.Digits.{Sound, begin_sound, root-lt}
+use Rattle.root.specs.Digits.{Sound, root-lt}
 use Rattle.root.proofs.Laws.{sound_step, sound_end}
 use Rattle.root.proofs.whole_root.Goals as goal
-
-pub loop-init : goal.loop-init
-loop-init c = begin_sound (c.args.a * 1024) (omega arith)
 
 pub digit-d-requires : goal.digit-d-requires
 digit-d-requires c = (root-lt (c.args.a * 1024) (53 - c.loop.counter) c.loop.d.q c.loop.d.r c.loop.d.x c.loop.invariant (omega (arith, c.requires)), c.loop.invariant.small)
