@@ -1,11 +1,9 @@
 -- `remainder::from_tau` meets its contract.
 use mathlib.Core.Path.{ap, ◌∙◌}
 use mathlib.Core.Bool.{false}
-use native.Mathlib.Omega.{arith}
 use lib.Bits.{and_mask}
 use Prim.Native.Nat.{ℕ, ◌+◌, ◌-◌, ◌*◌, ◌/◌, ◌%◌, ◌^◌}
-use lib.Dec.{le→leb}
-use lib.Ieee.{binary64, in_float, round}
+use lib.Ieee.{binary64, round}
 use Rattle.laws.specs.Nan.{no_nan_bits}
 use Rattle.remainder.specs.Tau.{significand, shifted_bits, rem_once, rem_from, quotient_is, small-enough}
 use Rattle.remainder.proofs.from_tau.Goals as goal
@@ -15,19 +13,6 @@ float_from_bits-result c = no_nan_bits c.args.size c.requires.1
 
 pub returns-then-size-lt-TWICE_BITS : goal.returns-then-size-lt-TWICE_BITS
 returns-then-size-lt-TWICE_BITS c = rem_once c.args.size c.requires.0 c.if-size-lt-TWICE_BITS.true
-
-pub overflow_add-size : goal.overflow_add-size
-overflow_add-size c = omega (arith, and_mask c.args.size 52)
-
-pub overflow_sub-size : goal.overflow_sub-size
-overflow_sub-size c = omega arith
-
-pub reduce-r-requires : goal.reduce-r-requires
-reduce-r-requires c = omega (arith, and_mask c.args.size 52)
-
-pub int_to_float-result : goal.int_to_float-result
-unfolding in_float
-int_to_float-result c = le→leb c.reduce-r.result (2 ^ 53) (omega arith)
 
 pub returns : goal.returns
 returns c = let b = c.args.size in

@@ -21,9 +21,6 @@ returns-then-size-lt-TAU_BITS c = let a = c.args.a in small_is a (holds c.well_f
 pub returns-then-size-ge-INFINITY_BITS : goal.returns-then-size-ge-INFINITY_BITS
 returns-then-size-ge-INFINITY_BITS c = let a = c.args.a in infinite_is a (holds c.well_formed.0.1) c.if-a.false (omega (arith, and_mask (to_bits binary64 a) 63))
 
-pub from_tau-v-requires : goal.from_tau-v-requires
-from_tau-v-requires c = (c.if-size-lt-TAU_BITS.false, c.if-size-ge-INFINITY_BITS.false)
-
 pub returns-then-b-size : goal.returns-then-b-size
 returns-then-b-size c = let a = c.args.a in
     c.from_tau-v.ensures ∙ plus_is a (bit_and (to_bits binary64 a) 9223372036854775807) (holds c.well_formed.0.1) c.if-b-size.true
