@@ -2,19 +2,12 @@
 use mathlib.Core.Path.{sym}
 use Prim.Native.Nat.{◌+◌, ◌-◌, ◌/◌, ◌%◌, ◌^◌, ◌≤◌, ◌<◌}
 use native.Mathlib.Omega.{arith}
-use lib.Bits.{bit_and, and_mask}
-use lib.Pow.{shr_le}
+use lib.Bits.{and_mask}
 use Rattle.float.specs.Rounding.{half_none, half_shifted, half_small}
 use Rattle.float.proofs.half_up.Goals as goal
 
 pub returns-then-field-lt1022 : goal.returns-then-field-lt1022
 returns-then-field-lt1022 c = (sym (half_none c.args.b c.if-field-lt1022.true), omega arith)
-
-pub overflow_add-s : goal.overflow_add-s
-overflow_add-s c = omega (arith, and_mask c.args.b 52)
-
-pub overflow_add-result : goal.overflow_add-result
-overflow_add-result c = let b = c.args.b in omega (arith, and_mask b 52, shr_le (4503599627370496 + bit_and b 4503599627370495) (1074 - b / 4503599627370496))
 
 pub returns : goal.returns
 returns c = let b = c.args.b in let l : b / 2 ^ 52 < 1075 = omega (arith, c.requires) in let g : 1022 ≤ b / 2 ^ 52 = omega arith in rw (and_mask b 52) (sym (half_shifted b (1074 - b / 2 ^ 52) (omega arith) (omega arith)), half_small (2 ^ 52 + b % 2 ^ 52) (1074 - b / 2 ^ 52) (omega arith))

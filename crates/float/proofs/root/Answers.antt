@@ -1,6 +1,5 @@
 -- `float::root` meets its contract.
 use mathlib.Core.Path.{ap}
-use native.Mathlib.Omega.{arith}
 use borrow.Author.Tests.{eq-eqb, ne_eqb, le-leb, lt-leb}
 use lib.Ieee.{binary64, of_bits, is_nan}
 use Rattle.float.specs.Standins.{root, root_of}
@@ -29,9 +28,6 @@ returns-then-b-ge-SIGN c = rw (is_num c.args.v c.if-v.false, ne_eqb _ _ c.if-b-e
 pub returns-then-b-ge-INFINITY_BITS : goal.returns-then-b-ge-INFINITY_BITS
 unfolding root root_of
 returns-then-b-ge-INFINITY_BITS c = rw (is_num c.args.v c.if-v.false, ne_eqb _ _ c.if-b-eq0.false, ne_eqb _ _ c.if-b.false, lt-leb _ _ c.if-b-ge-SIGN.false, le-leb _ _ c.if-b-ge-INFINITY_BITS.true)
-
-pub root_bits-requires : goal.root_bits-requires
-root_bits-requires c = omega arith
 
 pub float_from_bits-result : goal.float_from_bits-result
 float_from_bits-result c = no_nan_bits c.root_bits.result c.root_bits.ensures.1

@@ -1,9 +1,6 @@
 -- `float::round` meets its contract.
 use mathlib.Core.Path.{sym, ap, ◌∙◌}
-use native.Mathlib.Omega.{arith}
-use lib.Dec.{le→leb}
-use lib.Ieee.{binary64, to_bits, in_float}
-use Prim.Native.Nat.{◌^◌}
+use lib.Ieee.{binary64, to_bits}
 use Rattle.laws.specs.Cases.{holds}
 use Rattle.laws.specs.Nan.{is_nan_lem, no_nan}
 use Rattle.float.specs.Signs.{abs_num}
@@ -20,13 +17,6 @@ float_to_bits-b c = no_nan c.abs-b.result (abs_num c.args.v c.abs-b.result c.abs
 
 pub returns-then-b-ge-WHOLE_BITS : goal.returns-then-b-ge-WHOLE_BITS
 returns-then-b-ge-WHOLE_BITS c = round-itself c.args.v (to_bits binary64 c.abs-b.result) (holds c.well_formed.0.1) (ap (to_bits binary64) c.abs-b.ensures) c.if-b-ge-WHOLE_BITS.true
-
-pub half_up-size-requires : goal.half_up-size-requires
-half_up-size-requires c = omega arith
-
-pub int_to_float-size : goal.int_to_float-size
-unfolding in_float
-int_to_float-size c = le→leb c.half_up-size.result (2 ^ 53) c.half_up-size.ensures.1
 
 pub returns-then-negative : goal.returns-then-negative
 returns-then-negative c = round-minus c.args.v (to_bits binary64 c.abs-b.result) c.half_up-size.result (holds c.well_formed.0.1) c.if-v.false (ap (to_bits binary64) c.abs-b.ensures) c.if-b-ge-WHOLE_BITS.false c.half_up-size.ensures.0 (sym c.negative.ensures ∙ c.if-negative.true)
