@@ -5,7 +5,7 @@ use Rattle.std.proofs.Math.Path.{refl}
 use Rattle.std.proofs.Common.{ap, ◌∙◌, arith, length-append, leb-true, ne_eqb}
 use mathlib.Core.List.{List, [], ◌∷◌, ◌++◌, append_assoc, map, flat_map}
 use Rattle.std.proofs.Math.Option.{none, some, bind}
-use Prim.Native.Nat.{ℕ, zero, suc, ◌+◌, ◌≤◌, ◌<◌}
+use Prim.Native.Nat.{ℕ, zero, suc, ◌≤◌, ◌<◌}
 use Rattle.number.specs.Number.{hundredths, num_text}
 use Rattle.number.specs.Rounded.{writable_rounded}
 use Rattle.number.specs.Reading.{Begins, num_begins, leading, following}
