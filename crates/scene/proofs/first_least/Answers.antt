@@ -6,9 +6,6 @@ use Rattle.std.proofs.lemmas.Bool.{lt-ltb, le-ltb}
 use Rattle.scene.proofs.first_least.Goals.{then-c-least, else-c-least}
 use Rattle.scene.proofs.first_least.Goals as goal
 
-pub cost-c-requires : goal.cost-c-requires
-cost-c-requires g c = c.requires.callable c.loop-j.least c.loop-j.j c.loop-j.invariant.1 c.loop-j-test.true
-
 pub returns-then-c-eq0 : goal.returns-then-c-eq0
 returns-then-c-eq0 g c cut d = let l = c.loop-j in
     stop_at cut (c.args.places - l.j) l.j l.least l.place c.cost-c.result c.if-c-least.least c.if-c-least.place (omega (arith, c.loop-j-test.true))
