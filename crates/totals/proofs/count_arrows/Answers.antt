@@ -15,9 +15,6 @@ loop-k-init c =
       lines = omega arith;
     }
 
-pub with_arrow-t-requires : goal.with_arrow-t-requires
-with_arrow-t-requires c = let l = ap length c.in-Some.ensures.steps in let i = c.loop-k.invariant in (omega (arith, i.out), omega (arith, i.lines, l))
-
 pub loop-k-preserved : goal.loop-k-preserved
 loop-k-preserved c = let l = ap length c.in-Some.ensures.steps in let i = c.loop-k.invariant in record {
   rest = fold_step (with_arrow c.args.n) c.loop-k.t _ c.args.s.now _ _ c.in-Some.k c.in-Some.ensures.steps c.with_arrow-t.ensures.0 ∙ i.rest;
