@@ -1,5 +1,5 @@
 -- `drawing_text::put_paths` meets its contract.
-use Rattle.std.proofs.Common.{refl, sym, ◌∙◌, get_or, drop_of_length-le, arith}
+use Rattle.std.proofs.Common.{sym, get_or, drop_of_length-le, arith}
 use Rattle.text.specs.Continues.{continues_whole, texts_step, texts_end}
 use Rattle.laws.specs.Joined.{flat_map_lem}
 use Rattle.svg.specs.Paths.{curve_path}

@@ -1,5 +1,5 @@
 -- `drawing_text::put_paths` meets its contract.
-use Rattle.std.proofs.Common.{◌≡◌, length, drop}
+use Rattle.std.proofs.Common.{drop}
 use mathlib.Core.List.{flat_map}
 use Rattle.text.specs.Continues.{Continues}
 use Rattle.svg.specs.Paths.{curve_path}

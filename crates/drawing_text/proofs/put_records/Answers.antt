@@ -1,5 +1,5 @@
 -- `drawing_text::put_records` meets its contract.
-use Rattle.std.proofs.Common.{refl, sym, ◌∙◌, get_or, drop_of_length-le, arith}
+use Rattle.std.proofs.Common.{sym, get_or, drop_of_length-le, arith}
 use Rattle.text.specs.Continues.{continues_whole, texts_step, texts_end}
 use Rattle.laws.specs.Joined.{flat_flat}
 use Rattle.label_spots.specs.declared.Geometry.{Geometry}

@@ -1,8 +1,7 @@
 -- `drawing_text::put_starts` meets its contract. The invariant: what is written, with the lines of the starts still to come, is the whole text.
-use mathlib.Core.Path.{◌≡◌}
 use mathlib.Core.Bool.{cond}
 use mathlib.Core.List.{[], map, flat_map}
-use lib.ListN.{length, drop}
+use lib.ListN.{drop}
 use Rattle.text.specs.Continues.{Continues}
 use Rattle.sheet.specs.Meaning.{is_start}
 use Rattle.drawing_text.specs.Lines.{ListedState, flag_of, start_line, states_from, starts, line_text, lines_text}

@@ -1,7 +1,6 @@
 -- `drawing_text::put_states` meets its contract. The invariant: what is written, with the lines of the states still to come, is the whole text.
-use mathlib.Core.Path.{◌≡◌}
 use mathlib.Core.List.{map, flat_map}
-use lib.ListN.{length, drop}
+use lib.ListN.{drop}
 use Rattle.text.specs.Continues.{Continues}
 use Rattle.drawing_text.specs.Lines.{ListedState, state_line, states_from, line_text, lines_text}
 use Rattle.drawing_text.proofs.put_states.Given as goal

@@ -9,21 +9,8 @@ use Rattle.drawing_text.specs.Lines.{listed_state, start_line, field_writable, f
 use Rattle.drawing_text.proofs.Laws.{last}
 use Rattle.drawing_text.proofs.start_ok.Goals as goal
 
-pub is_start-requires : goal.is_start-requires
-is_start-requires c = tt
-
-pub start_tip-requires : goal.start_tip-requires
-start_tip-requires c = tt
-
-pub head_writable-requires : goal.head_writable-requires
-head_writable-requires c = tt
-
 pub returns-then-is_start : goal.returns-then-is_start
 unfolding line_writable fields_writable field_writable every
 returns-then-is_start c = last (c.head_writable.ensures ∙ ap (λ (p : «V»). path_writable (head_path (head_of p f0))) c.start_tip.ensures)
     ∙ sym (ap (λ (b : Bool). cond b (line_writable (start_line (listed_state c.args.k c.args.c))) true)
     (sym c.is_start.ensures ∙ c.if-is_start.true))
-
-pub returns : goal.returns
-returns c = sym (ap (λ (b : Bool). cond b (line_writable (start_line (listed_state c.args.k c.args.c))) true)
-    (sym c.is_start.ensures ∙ c.if-is_start.false))
