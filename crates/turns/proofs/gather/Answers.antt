@@ -1,13 +1,10 @@
 -- `turns::gather` meets its contract.
-use Rattle.std.proofs.Common.{refl, ap, ◌∙◌, arith, length}
+use Rattle.std.proofs.Common.{ap, ◌∙◌, arith, length}
 use Rattle.std.specs.Prelude.{get_or, None}
 use Rattle.laws.specs.Lists.{get_d_any}
 use Rattle.laws.specs.Put.{length-put}
 use Rattle.turns.proofs.Laws.{gathered_length, gathered_put, gathered_past, gathered_end}
 use Rattle.turns.proofs.gather.Goals as goal
-
-pub loop-shown-init : goal.loop-shown-init
-loop-shown-init c = (refl, omega arith, refl)
 
 pub put_shown-n-requires : goal.put_shown-n-requires
 put_shown-n-requires c = let l = c.loop-shown in

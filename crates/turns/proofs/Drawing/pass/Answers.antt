@@ -1,24 +1,14 @@
 -- `turns::Drawing::pass` meets its contract.
-use Rattle.std.proofs.Common.{arith, rules}
+use Rattle.std.proofs.Common.{arith}
 use Rattle.curves.specs.Lay.{frame_in}
-use Rattle.turns.specs.Steps.{drawn_in, pass_of, more}
-use Rattle.turns.proofs.Laws.{pass_more, pass_end, pass_all, more_next, more_most}
-use Rattle.std.specs.Prelude.{◌<◌, ◌≤◌, ◌+◌, length}
+use Rattle.turns.specs.Steps.{drawn_in, pass_of}
+use Rattle.turns.proofs.Laws.{pass_more, pass_end, pass_all, more_next}
 use Rattle.turns.proofs.Drawing.pass.Goals as goal
 
 pub loop-i-init : goal.loop-i-init
 loop-i-init g c = let a = c.args in
     let f = frame_in a.frame.now in
     (record { boxes = omega arith; traces = omega arith }, pass_all f a.sizes.now (pass_of a.sort) (drawn_in f a.self.now))
-
-pub turn_at-requires : goal.turn_at-requires
-turn_at-requires g c = let a = c.args in
-    let l = c.loop-i in
-    let h : l.i < length a.frame.now.arrows.now = omega (arith, c.loop-i-test.true) in
-    let m = more_most a.sort l.i (length a.frame.now.arrows.now) h in
-    let boxes : length l.self.boxes < g.row.BOXES = omega (arith, l.invariant.0.boxes, c.requires.room.0, h) in
-    let traces : length l.self.traces + more a.sort 1 ≤ g.row.TRACES = omega (arith, l.invariant.0.traces, c.requires.room.1, m) in
-    search rules
 
 pub loop-i-preserved : goal.loop-i-preserved
 loop-i-preserved g c = let a = c.args in
