@@ -1,10 +1,7 @@
-use Rattle.std.proofs.Common.{◌≡◌, ◌+◌, ◌-◌, ℕ, ap, ◌∙◌, false, arith}
+use Rattle.std.proofs.Common.{◌≡◌, ◌+◌, ◌-◌, ℕ, ap, ◌∙◌, arith}
 use Rattle.repair.specs.Marks.{mark_kept}
 use Rattle.repair.specs.Steps.{kept_step, kept_done}
 use Rattle.repair.proofs.keep_first_mark.Goals as goal
-
-pub loop-k-init : goal.loop-k-init
-loop-k-init c = ap (λ (n : ℕ). mark_kept false 1 n c.args.out.now) (omega arith)
 
 pub loop-k-preserved : goal.loop-k-preserved
 loop-k-preserved c = let l = c.loop-k in
