@@ -1,21 +1,20 @@
 -- `columns::Columns::column` meets its contract.
-use Rattle.std.proofs.Common.{arith, ◌+◌, ◌-◌, get_or}
-use Rattle.laws.specs.Lists.{part-le}
-use Rattle.columns.proofs.Laws.{column_ends, part_is}
+use Rattle.std.proofs.Common.{arith}
+use Rattle.columns.proofs.Laws.{room_for, part_is}
 use Rattle.columns.proofs.Columns.column.Goals as goal
 
 pub overflow_add-result : goal.overflow_add-result
-overflow_add-result g c = let z = c.args.self.now in
-    omega (arith, c.start_of-start.ensures, column_ends z.sizes z.order z.count c.args.l c.requires z.count_fits, z.states_fit)
+overflow_add-result c = let z = c.args.self.now in
+    omega (arith, room_for z c.args.l c.start_of-start.result _ c.requires (omega arith) z.states_fit c.start_of-start.ensures c.size.ensures)
 
 pub offset_bounds-self-start : goal.offset_bounds-self-start
-offset_bounds-self-start g c = let z = c.args.self.now in
-    omega (arith, c.start_of-start.ensures, column_ends z.sizes z.order z.count c.args.l c.requires z.count_fits, z.states_fit)
+offset_bounds-self-start c = let z = c.args.self.now in
+    omega (arith, room_for z c.args.l c.start_of-start.result _ c.requires (omega arith) z.states_fit c.start_of-start.ensures c.size.ensures)
 
 pub slice_bounds-result-end : goal.slice_bounds-result-end
-slice_bounds-result-end g c = let z = c.args.self.now in
-    omega (arith, c.start_of-start.ensures, column_ends z.sizes z.order z.count c.args.l c.requires z.count_fits, z.states_fit)
+slice_bounds-result-end c = let z = c.args.self.now in
+    omega (arith, room_for z c.args.l c.start_of-start.result _ c.requires (omega arith) z.states_fit c.start_of-start.ensures c.size.ensures)
 
-pub returns : goal.returns
-returns g c = let z = c.args.self.now in
-    (part_is z.sizes z.order z.count c.args.l c.requires z.count_fits _ c.start_of-start.ensures, let a = c.start_of-start.result in omega (arith, part-le a (a + get_or z.sizes c.args.l 0 - a) z.order))
+pub returns-clause-states : goal.returns-clause-states
+returns-clause-states c = let z = c.args.self.now in
+    part_is z c.args.l c.start_of-start.result _ c.requires (omega arith) z.states_fit c.start_of-start.ensures c.size.ensures

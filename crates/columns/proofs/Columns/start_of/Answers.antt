@@ -1,22 +1,16 @@
 -- `columns::Columns::start_of` meets its contract.
-use Rattle.std.proofs.Common.{refl, ap, sym, ◌∙◌, arith, ℕ, ◌+◌, get_or, take}
-use Rattle.std.proofs.Math.Seq.{take_all}
-use Rattle.laws.specs.Split.{sum_all, sum_next, sum_fits}
-use Rattle.columns.proofs.Laws.{sum_front}
+use Rattle.std.proofs.Common.{arith, sym, ap, ◌∙◌, ◌≡◌, take}
+use Rattle.std.proofs.lemmas.Iterator.{YieldsList-from_slice}
+use Rattle.std.proofs.lemmas.Iterator.Consumers.{sum_from_yields_List, fits_from_yields_list}
+use Rattle.laws.specs.Split.{sum_take}
+use Rattle.columns.proofs.Laws.{sum_list}
 use Rattle.columns.proofs.Columns.start_of.Goals as goal
 
-pub loop-size-init : goal.loop-size-init
-unfolding sum_all
-loop-size-init g c = refl
-
-pub overflow_add-start : goal.overflow_add-start
-overflow_add-start g c = let z = c.args.self.now in
-    let used = take c.args.l z.sizes in
-    omega (arith, c.loop-size.invariant, sum_fits used c.loop-size.size-index (omega arith), sum_front c.args.l z.count z.sizes c.requires, z.states_fit)
-
-pub loop-size-preserved : goal.loop-size-preserved
-loop-size-preserved g c = let used = take c.args.l c.args.self.now.sizes in
-    ap (λ (k : ℕ). k + get_or used c.loop-size.size-index 0) c.loop-size.invariant ∙ sym (sum_next used c.loop-size.size-index (omega arith))
+pub sum-requires-clause-fits : goal.sum-requires-clause-fits
+sum-requires-clause-fits c = let z = c.args.self.now in
+    let l = take c.args.l z.sizes in
+    fits_from_yields_list _ 18446744073709551616 (YieldsList-from_slice l (c.iter.ensures.rest ∙ ap (take c.args.l) c.as_slice.ensures.all)) (omega (arith, sum_list l, sum_take z.sizes c.args.l, z.states_fit))
 
 pub returns : goal.returns
-returns g c = c.loop-size.invariant ∙ ap sum_all (take_all c.loop-size.size-index (take c.args.l c.args.self.now.sizes) (omega arith))
+returns c = let l = take c.args.l c.args.self.now.sizes in
+    sum_from_yields_List _ _ c.sum.ensures.ran (YieldsList-from_slice l (c.iter.ensures.rest ∙ ap (take c.args.l) c.as_slice.ensures.all)) ∙ sym (sum_list l)
