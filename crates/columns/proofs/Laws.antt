@@ -19,8 +19,6 @@ use Rattle.laws.specs.Split.{split, split_snoc, split-take, flat_split, split_at
 use Rattle.laws.specs.Put.{put, put_front}
 use Rattle.sheet.specs.declared.Ends.{Ends}
 use Rattle.columns.specs.Columns.{successors, elem, discover, explore, columns_after, reached, is_new, unreached, concat, columns, last_column}
-use Rattle.columns.specs.declared.Columns.{Columns}
-use Rattle.columns.specs.Listed.{listed}
 use Rattle.columns.specs.Found.{Fair, Reached, discover_rest, fair_start, explore_one, explore-end, explore_fair, explore_front, explore_grows, after_none, after_more, after-end}
 
 -- whether a list has w, as the library says it
@@ -223,38 +221,38 @@ module _ (n : ℕ) (arrows : List Ends) (start : ℕ) where
           subst (λ (z : List ℕ). (sum_all z ≡ length all) × (split z all ≡ columns n arrows start)) (sym (g ∙ ap (λ (l : List ℕ). sizes ++ ((n - length l) ∷ [])) f))
           (rest (subst (λ (l : List ℕ). length l < n) f h))
 
--- ---- a column of the columns that the code holds
-pub listed-length : (c : Columns) → length (listed c) ≡ length c.sizes
-listed-length c = length-split c.sizes c.order
-
+-- ---- a column of the columns that the code holds, read and stored as its part of the order
 pub sum_front : (sizes : List ℕ) (l i : ℕ) → i < length (take l sizes) → sum_all (take i (take l sizes)) + get_or (take l sizes) i 0 ≤ sum_all sizes
 sum_front sizes l i h = omega (arith, sum_fits (take l sizes) i h, sum_take sizes l)
 
--- column l, read and stored as its part of the order
-module _ (c : Columns) (l a k : ℕ) (h : l < length c.sizes) (room : length c.order ≡ 64) (fit : sum_all c.sizes ≤ 64) (e : a ≡ sum_all (take l c.sizes)) (f : k ≡ get_or c.sizes l 0) where
-  pub room_for : a + k ≤ 64
-  room_for = omega (arith, e, f, sum_fits c.sizes l h, fit)
+module _ (sizes order : List ℕ) (l : ℕ) (cs : List (List ℕ)) (v : split sizes order ≡ cs) (h : l < length cs) where
+  pub inside : l < length sizes
+  inside = omega (arith, h, ap length v, length-split sizes order)
 
-  wide : a + k - a ≡ get_or c.sizes l 0
-  wide = omega (arith, f)
+  -- where it begins and how many states it has, as the code reads them
+  module _ (a k : ℕ) (seen : List ℕ) (s : seen ≡ sizes) (fit : sum_all sizes ≤ 64) (e : a ≡ sum_all (take l seen)) (f : k ≡ get_or seen l 0) where
+    start_is : a ≡ sum_all (take l sizes)
+    start_is = e ∙ ap (λ (x : List ℕ). sum_all (take l x)) s
 
-  pub part_is : take (a + k - a) (drop a c.order) ≡ get_or (listed c) l []
-  part_is = ap₂ (λ (j b : ℕ). take j (drop b c.order)) wide e ∙ sym (split_at_column c.sizes l c.order h)
+    size_is : k ≡ get_or sizes l 0
+    size_is = f ∙ ap (λ (x : List ℕ). get_or x l 0) s
 
-  pub part_long : length (take (a + k - a) (drop a c.order)) ≡ get_or c.sizes l 0
-  part_long = part_length a (a + k - a) c.order (omega (arith, room, room_for)) ∙ wide
+    pub room_for : a + k ≤ 64
+    room_for = omega (arith, start_is, size_is, sum_fits sizes l inside, fit)
 
-  -- another column of its size in its place
-  pub part_set : (d : List ℕ) → length d ≡ length (take (a + k - a) (drop a c.order)) → split c.sizes (take a c.order ++ (d ++ drop (a + k - a) (drop a c.order))) ≡ set (listed c) l d
-  part_set d g =
-      ap₂ (λ (j b : ℕ). split c.sizes (take b c.order ++ (d ++ drop j (drop b c.order)))) wide e
-      ∙ split-set c.sizes l c.order d h (g ∙ part_long) (omega (arith, fit, room))
+    wide : a + k - a ≡ get_or sizes l 0
+    wide = omega (arith, size_is)
 
-pub column_long : (c : Columns) (l : ℕ) → l < length c.sizes → length c.order ≡ 64 → sum_all c.sizes ≤ 64 → length (get_or (listed c) l []) ≡ get_or c.sizes l 0
-column_long c l h room fit =
-    let a = sum_all (take l c.sizes) in
-    let k = get_or c.sizes l 0 in
-    ap length (sym (part_is c l a k h room fit refl refl)) ∙ part_long c l a k h room fit refl refl
+    pub part_is : take (a + k - a) (drop a order) ≡ get_or cs l []
+    part_is = ap₂ (λ (j b : ℕ). take j (drop b order)) wide start_is ∙ sym (split_at_column sizes l order inside) ∙ ap (λ (x : List (List ℕ)). get_or x l []) v
 
-pub size_le : (c : Columns) (l : ℕ) → l < length c.sizes → sum_all c.sizes ≤ 64 → get_or c.sizes l 0 ≤ 64
-size_le c l h fit = omega (arith, sum_fits c.sizes l h, fit)
+    module _ (room : length order ≡ 64) where
+      pub column_long : k ≡ length (get_or cs l [])
+      column_long = sym (part_length a (a + k - a) order (omega (arith, room, room_for)) ∙ omega arith) ∙ ap length part_is
+
+      -- another column of its size in its place
+      pub part_set : (d : List ℕ) → length d ≡ k → split sizes (take a order ++ (d ++ drop (a + k - a) (drop a order))) ≡ set cs l d
+      part_set d g =
+          ap₂ (λ (j b : ℕ). split sizes (take b order ++ (d ++ drop j (drop b order)))) wide start_is
+          ∙ split-set sizes l order d inside (g ∙ size_is) (omega (arith, fit, room))
+          ∙ ap (λ (x : List (List ℕ)). set x l d) v

@@ -1,7 +1,7 @@
 // The columns of the layered layout: breadth-first from one state, the states that are not reached in one last column.
 #![tactic(auto)]
 
-ghost use Rattle.std.specs.Prelude.{◌≡◌, false, [], ◌++◌, ◌≤◌, ◌<◌, length, get_or, take, drop};
+ghost use Rattle.std.specs.Prelude.{◌≡◌, ℕ, false, List, [], ◌++◌, ◌≤◌, ◌<◌, length, get_or, set, take, drop};
 ghost use Rattle.laws.specs.Loops.{over};
 ghost use Rattle.laws.specs.Split.{split, sum_all};
 ghost use Rattle.columns.specs.Columns as D;
@@ -9,6 +9,7 @@ ghost use Rattle.columns.specs.Found.{Fair, Reached, follow};
 
 use sheet::Ends;
 use stack::Stack;
+use std::marker::Model;
 
 // The states, by how many there are, and the arrows.
 #[derive(Clone, Copy)]
@@ -146,22 +147,37 @@ impl<'a> Net<'a> {
 
 // ---- the columns
 
+// Where column l begins.
+fn start_of(sizes: &[usize], l: usize) -> usize
+    requires column { l ≤ length sizes.now }
+    requires fits { sum_all sizes.now ≤ 64 }
+    ensures { result ≡ sum_all (take l sizes.now) }
+{
+    sizes[..l].iter().sum()
+}
+
 // The columns one after another in `order`; `sizes` says how long each is.
 #[derive(Drop)]
 pub struct Columns {
-    pub order: [usize; 64],
-    pub sizes: Stack<usize, 64>,
-    pub ghost states_fit: { sum_all sizes ≤ 64 },
+    order: [usize; 64],
+    sizes: Stack<usize, 64>,
+}
+
+// Clauses see each column as the list of its states.
+impl Model for Columns {
+    ghost Value = { List (List ℕ) };
+
+    ghost view = { λ c. split c.sizes c.order };
+
+    ghost invariant = { λ c. sum_all c.sizes ≤ 64 };
 }
 
 impl Columns {
-    ghost use Rattle.columns.specs.Listed.{listed};
-
     // The columns of the layered layout.
     pub fn breadth_first(net: &Net, start: usize) -> Self
         requires room { net.now.states ≤ 64 }
         requires state { start < net.now.states }
-        ensures { listed result ≡ D.columns net.now.states net.now.arrows.now start }
+        ensures { result ≡ D.columns net.now.states net.now.arrows.now start }
     {
         let found = net.fill(start);
         let mut order = [0usize; 64];
@@ -174,35 +190,39 @@ impl Columns {
 
     // How many columns there are.
     pub fn count(&self) -> usize
-        ensures count { result ≡ length self.now.sizes }
+        ensures count { result ≡ length self.now }
         ensures within { result ≤ 64 }
     {
         self.sizes.as_slice().len()
     }
 
-    // Where column l begins.
-    pub fn start_of(&self, l: usize) -> usize
-        requires { l ≤ length self.now.sizes }
-        ensures { result ≡ sum_all (take l self.now.sizes) }
-    {
-        self.sizes.as_slice()[..l].iter().sum()
-    }
-
     // How many states column l has.
     pub fn size(&self, l: usize) -> usize
-        requires { l < length self.now.sizes }
-        ensures { result ≡ get_or self.now.sizes l 0 }
+        requires { l < length self.now }
+        ensures size { result ≡ length (get_or self.now l []) }
+        ensures within { result ≤ 64 }
     {
-        self.sizes.as_slice()[l]
+        self.column(l).len()
     }
 
     // The states of column l.
     pub fn column(&self, l: usize) -> &[usize]
-        requires { l < length self.now.sizes }
-        ensures states { result.now ≡ get_or (listed self.now) l [] }
+        requires { l < length self.now }
+        ensures states { result.now ≡ get_or self.now l [] }
         ensures within { length result.now ≤ 64 }
     {
-        let start = self.start_of(l);
-        &self.order[start..start + self.size(l)]
+        let sizes = self.sizes.as_slice();
+        let start = start_of(sizes, l);
+        &self.order[start..start + sizes[l]]
+    }
+
+    // Puts the states of column l in another order.
+    pub fn reorder(&mut self, l: usize, states: &[usize])
+        requires column { l < length self.old }
+        requires level { length states.now ≡ length (get_or self.old l []) }
+        ensures { self.new ≡ set self.old l states.now }
+    {
+        let start = start_of(self.sizes.as_slice(), l);
+        self.order[start..start + states.len()].copy_from_slice(states);
     }
 }
