@@ -93,6 +93,7 @@ fn tallest(sizes: &[Block]) -> f64
 
 impl<'a> Plan<'a> {
     // The centres in layers.
+    #[tactic(auto, unfolding(crate::specs::Layout::layers))]
     pub fn layers(&self, centres: &mut [V])
         requires whole { C.Whole self.now }
         requires some { 0 < length self.now.flags.now }
@@ -106,6 +107,7 @@ impl<'a> Plan<'a> {
     }
 
     // The centres on the ring.
+    #[tactic(auto, unfolding(crate::specs::Layout::ring))]
     pub fn ring(&self, centres: &mut [V])
         requires whole { C.Whole self.now }
         requires some { 0 < length self.now.flags.now }
