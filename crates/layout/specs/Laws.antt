@@ -59,30 +59,36 @@ placed_points q p cs e = ap placing_of e ∙ placing_back p (placed q p) (placed
 
 -- ---- the drawing at given centres, which are ns as they count
 
-module _ (p : Plan) (cs ns : List «V») (gs : List Geometry) (h : length cs ≡ many p) (e : ns ≡ map centre_zeroed cs) (g : gs ≡ records (frame_with p.flags ns p.arrows) p.sizes) where
+module _ (p : Plan) (cs ns : List «V») (h : length cs ≡ many p) (e : ns ≡ map centre_zeroed cs) where
   nodes_are : ns ≡ (plan_frame p (placing_of cs)).centres
   nodes_are = e ∙ zeroed_points cs ∙ ap (centres_at (map (λ c. c.x) cs) (map (λ c. c.y) cs)) h
 
-  drawn_are : gs ≡ records_at p (placing_of cs)
-  drawn_are = g ∙ ap (λ (l : List «V»). records (frame_with p.flags l p.arrows) p.sizes) nodes_are
+  -- the frame of a placement
+  pub frame_placed : (q : Placement) → cs ≡ centres_of (placed q p) → frame_with p.flags ns p.arrows ≡ plan_frame p (placed q p)
+  frame_placed q k =
+      ap (λ (l : List «V»). frame_with p.flags l p.arrows) nodes_are ∙ ap (plan_frame p) (placed_points q p cs k)
 
-  pub clutter_counted : (m : ℕ) → m ≡ clutter_of ns gs → m ≡ clutter_at p (placing_of cs)
-  unfolding clutter_at
-  clutter_counted m k = k ∙ ap₂ clutter_of nodes_are drawn_are
+  module _ (gs : List Geometry) (g : gs ≡ records (frame_with p.flags ns p.arrows) p.sizes) where
+    drawn_are : gs ≡ records_at p (placing_of cs)
+    drawn_are = g ∙ ap (λ (l : List «V»). records (frame_with p.flags l p.arrows) p.sizes) nodes_are
 
-  pub fitted-left : (s : Size) (qs : List «V») → s ≡ fit_size p.flags cs gs
-      → qs ≡ centres (fit_xs p.flags cs gs (map (λ c. c.x) cs)) (fit_ys p.flags cs gs (map (λ c. c.y) cs))
-      → Left (fitted p (placing_of cs)) s qs
-  unfolding fitted
-  fitted-left s qs z k =
-      let xs = map (λ (c : «V»). c.x) cs in
-      let ys = map (λ (c : «V»). c.y) cs in
-      let y : s ≡ fit_size p.flags (centres xs ys) (records_at p (placing_of cs)) = z ∙ ap₂ (fit_size p.flags) (sym (centres_back cs)) drawn_are in
-      record {
-        width = ap (λ (t : Size). t.width) y;
-        height = ap (λ (t : Size). t.height) y;
-        centres = k ∙ ap₂ (λ (l : List «V») (r : List Geometry). centres (fit_xs p.flags l r xs) (fit_ys p.flags l r ys)) (sym (centres_back cs)) drawn_are;
-      }
+    pub clutter_counted : (m : ℕ) → m ≡ clutter_of ns gs → m ≡ clutter_at p (placing_of cs)
+    unfolding clutter_at
+    clutter_counted m k = k ∙ ap₂ clutter_of nodes_are drawn_are
+
+    pub fitted-left : (s : Size) (qs : List «V») → s ≡ fit_size p.flags cs gs
+        → qs ≡ centres (fit_xs p.flags cs gs (map (λ c. c.x) cs)) (fit_ys p.flags cs gs (map (λ c. c.y) cs))
+        → Left (fitted p (placing_of cs)) s qs
+    unfolding fitted
+    fitted-left s qs z k =
+        let xs = map (λ (c : «V»). c.x) cs in
+        let ys = map (λ (c : «V»). c.y) cs in
+        let y : s ≡ fit_size p.flags (centres xs ys) (records_at p (placing_of cs)) = z ∙ ap₂ (fit_size p.flags) (sym (centres_back cs)) drawn_are in
+        record {
+          width = ap (λ (t : Size). t.width) y;
+          height = ap (λ (t : Size). t.height) y;
+          centres = k ∙ ap₂ (λ (l : List «V») (r : List Geometry). centres (fit_xs p.flags l r xs) (fit_ys p.flags l r ys)) (sym (centres_back cs)) drawn_are;
+        }
 
 -- a count is small
 pub clutter_most : (p : Plan) (c : Placing) → length p.arrows ≤ 256 → clutter_at p c ≤ 65792

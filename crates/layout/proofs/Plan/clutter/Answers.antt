@@ -13,4 +13,4 @@ clutter-requires c = let p = c.args.self.now in
     omega (arith, ap length c.draw-drawn.ensures, records_most f p.sizes.now, c.requires.whole.arrows)
 
 pub returns : goal.returns
-returns c = clutter_counted (plan_in c.args.self.now) c.args.centres.now c.zeroed.new.room c.draw-drawn.result.now c.requires.level c.zeroed.ensures c.draw-drawn.ensures c.clutter.result c.clutter.ensures
+returns c = clutter_counted (plan_in c.args.self.now) c.args.centres.now c.zeroed.new.room c.requires.level c.zeroed.ensures c.draw-drawn.result.now c.draw-drawn.ensures c.clutter.result c.clutter.ensures
