@@ -8,10 +8,9 @@ ghost use Rattle.float.specs.Ops.{◌⊗◌, of_nat};
 ghost use Rattle.shape.specs.Plane.{vec};
 ghost use Rattle.shape.specs.Centres as P;
 ghost use Rattle.columns.specs.Columns.{state_numbers};
-ghost use Rattle.columns.specs.Listed.{listed};
 ghost use Rattle.layered.specs.Layered as D;
 
-use columns::Columns;
+use columns::{Columns, Net};
 use shape::{NODE_RADIUS, V};
 use sheet::Ends;
 
@@ -19,9 +18,6 @@ use sheet::Ends;
 const LAYER_GAP: f64 = 140.0;
 
 const ROW_GAP: f64 = 90.0;
-
-// Room for the sizes of the columns: two more than there are states.
-const SIZES: usize = 66;
 
 // The distance between columns, from the width of the widest label.
 fn gap_for(width: f64) -> f64
@@ -46,20 +42,20 @@ fn row_for(height: f64) -> f64
 }
 
 // The number of the column that holds v.
-fn column_of(columns: &Columns<SIZES>, v: usize) -> usize
-    ensures { (result ≡ D.column_of (listed columns.now) v) × (result ≤ 66) }
+fn column_of(columns: &Columns, v: usize) -> usize
+    ensures { (result ≡ D.column_of columns.now v) × (result ≤ 64) }
 {
-    for l in 0..columns.count {
+    for l in 0..columns.count() {
         if columns::contains(columns.column(l), v) {
             return l;
         }
     }
-    columns.count
+    columns.count()
 }
 
 // The x of each state, with y 0.
-fn put_xs(columns: &Columns<SIZES>, gap: f64, centres: &mut [V])
-    ensures { let column_of = D.column_of (listed columns.now) in
+fn put_xs(columns: &Columns, gap: f64, centres: &mut [V])
+    ensures { let column_of = D.column_of columns.now in
         centres.new ≡ map (λ v. vec (of_nat (column_of v) ⊗ gap) f0) (state_numbers (length centres.old)) }
 {
     for (v, c) in centres.iter_mut().enumerate() {
@@ -87,11 +83,14 @@ pub fn layered(start: usize, arrows: &[Ends], width: f64, height: f64, centres: 
     ensures { let states = length centres.old in
         centres.new ≡ P.centres (D.layered_xs states start arrows.now width) (D.layered_ys states start arrows.now height) }
 {
-    let n = centres.len();
-    let mut columns = Columns::<SIZES>::breadth_first(start, n, arrows);
+    let net = Net {
+        states: centres.len(),
+        arrows,
+    };
+    let mut columns = Columns::breadth_first(&net, start);
     put_xs(&columns, gap_for(width), centres);
     let mut room = [0.0f64; 64];
-    let slots = &mut room[..n];
-    sweep::sweep(n, arrows, &mut columns, slots);
+    let slots = &mut room[..net.states];
+    sweep::sweep(&net, &mut columns, slots);
     put_ys(slots, row_for(height), centres);
 }

@@ -13,7 +13,6 @@ use Rattle.float.specs.Ops.{◌⊗◌, of_nat}
 use Rattle.shape.specs.declared.«V».{«V»}
 use Rattle.shape.specs.Plane.{vec}
 use Rattle.columns.specs.Columns.{state_numbers}
-use Rattle.columns.specs.Listed.{listed}
 use Rattle.layered.specs.Layered.{column_of}
 use Rattle.layered.proofs.put_xs.Goals as goal
 
@@ -28,7 +27,7 @@ pub loop-v-preserved : goal.loop-v-preserved
 loop-v-preserved c = let a = c.args in
     let l = c.loop-v in
     let n : ℕ = length a.centres.now in
-    let f : ℕ → «V» = λ (w : ℕ). vec (of_nat (column_of (listed a.columns.now) w) ⊗ a.gap) f0 in
+    let f : ℕ → «V» = λ (w : ℕ). vec (of_nat (column_of a.columns.now w) ⊗ a.gap) f0 in
     let k : length (map f (state_numbers n)) ≡ n = length-map (state_numbers n) f ∙ table-length (λ (w : ℕ). w) 0 n in
     let none : «V» = vec nan nan in
     fill_more none l.centres (map f (state_numbers n)) l.v c.new.result (omega arith) (omega (arith, k)) l.invariant
@@ -41,6 +40,6 @@ pub returns : goal.returns
 returns c = let a = c.args in
     let l = c.loop-v in
     let n : ℕ = length a.centres.now in
-    let f : ℕ → «V» = λ (w : ℕ). vec (of_nat (column_of (listed a.columns.now) w) ⊗ a.gap) f0 in
+    let f : ℕ → «V» = λ (w : ℕ). vec (of_nat (column_of a.columns.now w) ⊗ a.gap) f0 in
     let k : length (map f (state_numbers n)) ≡ n = length-map (state_numbers n) f ∙ table-length (λ (w : ℕ). w) 0 n in
     fill_end l.centres (map f (state_numbers n)) l.v (omega arith) (omega (arith, k)) l.invariant
