@@ -10,7 +10,7 @@ use Rattle.laws.specs.Loops.{over}
 use Rattle.laws.specs.Bools.{clash, or-first, or-second, or_assoc, or_false, or_cases}
 use Rattle.sheet.specs.declared.Ends.{Ends}
 use Rattle.columns.specs.Columns.{successors, elem, discover, explore, columns_after, concat}
-use Rattle.columns.specs.Found.{discover_old, discover-new, explore_front, after_none, after_more, after-end}
+use Rattle.columns.specs.Found.{discover_old, discover_new, explore_front, after_none, after_more, after-end}
 
 -- how often a list has v
 abbrev pub times : ℕ → List ℕ → ℕ
@@ -58,7 +58,7 @@ elem-discover : (v : ℕ) (found : List ℕ) (w : ℕ) → elem v (discover foun
 elem-discover v found w =
     by_bool (elem w found)
     (λ t. ap (elem v) (discover_old found w t) ∙ known v found w t (eqb w v) refl)
-    (λ t. ap (elem v) (discover-new found w t) ∙ elem_join v found (w ∷ []) ∙ ap (λ (b : Bool). elem v found || b) (elem_one v w))
+    (λ t. ap (elem v) (discover_new found w t) ∙ elem_join v found (w ∷ []) ∙ ap (λ (b : Bool). elem v found || b) (elem_one v w))
 
 elem-over : (v : ℕ) (found ws : List ℕ) → elem v (over discover found ws) ≡ elem v found || elem v ws
 unfolding over elem
@@ -99,7 +99,7 @@ single_discover : (found : List ℕ) (w : ℕ) → ((v : ℕ) → times v found 
 single_discover found w s v =
     by_bool (elem w found)
     (λ t. subst (λ (l : List ℕ). times v l ≤ 1) (sym (discover_old found w t)) (s v))
-    (λ t. subst (λ (l : List ℕ). times v l ≤ 1) (sym (discover-new found w t))
+    (λ t. subst (λ (l : List ℕ). times v l ≤ 1) (sym (discover_new found w t))
     (by_bool (eqb w v)
     (λ e. omega (arith, times_join v found (w ∷ []), times_one v w ∙ ap (λ (b : Bool). cond b 1 0) e, times_none v found (ap (λ (u : ℕ). elem u found) (sym (eqb-true w v e)) ∙ t)))
     (λ e. omega (arith, s v, times_join v found (w ∷ []), times_one v w ∙ ap (λ (b : Bool). cond b 1 0) e))))

@@ -2,13 +2,13 @@
 use Rattle.std.specs.Prelude.{◌≡◌, Bool, true, false, cond, not, ◌&&◌, ◌||◌, ltb, eqb, length, take, drop}
 use Rattle.std.proofs.Math.Path.{refl, sym}
 use Rattle.std.proofs.Common.{ap, subst, ◌∙◌, not-suc-le-zero, length-append, take-take, length-take-le}
-use mathlib.Core.List.{List, [], ◌∷◌, ◌++◌, flat_map}
+use mathlib.Core.List.{List, [], ◌∷◌, ◌++◌, flat_map, append-nil, append_assoc}
 use Prim.Native.Nat.{ℕ, zero, suc, ◌+◌, ◌-◌, ◌≤◌, ◌<◌}
 use native.Mathlib.Omega.{arith}
 use borrow.Author.Tests.{eq-eqb, ne_eqb, eqb-true, eqb-false, ltb-true}
 use Rattle.std.proofs.lemmas.List.{take-append-le}
 use Rattle.laws.specs.Cases.{by_bool}
-use Rattle.laws.specs.Filter.{filter_by}
+use Rattle.laws.specs.Filter.{filter_by, filter_yes, filter_no}
 use Rattle.laws.specs.Flat.{table}
 use Rattle.laws.specs.Loops.{over, over_join, less_one}
 use Rattle.laws.specs.Split.{split, sum_all}
@@ -24,10 +24,10 @@ Fair n found = length found + length (unreached n found) ≡ n
 unfoldable pub follow : ℕ → ℕ → List ℕ → Ends → List ℕ
 follow n v found a = let more = discover found a.target in cond (leaves n v a) more found
 
--- k columns of p states are all that are reached
-abbrev pub Reached : List Ends → ℕ → List ℕ → List ℕ → ℕ → ℕ → Type 0
-Reached arrows start order sizes k p =
-    (p ≤ length order) × (k ≤ length order + 1) × Fair (length order) (take p order) × (sum_all (take k sizes) ≡ p) × (split (take k sizes) (take p order) ≡ reached (length order) arrows start)
+-- the columns of these sizes, one after another in the order, are all that are reached
+abbrev pub Reached : ℕ → List Ends → ℕ → List ℕ → List ℕ → Type 0
+Reached n arrows start order sizes =
+    Fair n order × (length sizes ≤ length order) × (sum_all sizes ≡ length order) × (split sizes order ≡ reached n arrows start)
 
 -- ---- one state more
 
@@ -79,13 +79,13 @@ pub discover_old : (found : List ℕ) (w : ℕ) → elem w found ≡ true → di
 unfolding discover
 discover_old found w e = rw e
 
-pub discover-new : (found : List ℕ) (w : ℕ) → elem w found ≡ false → discover found w ≡ found ++ (w ∷ [])
+pub discover_new : (found : List ℕ) (w : ℕ) → elem w found ≡ false → discover found w ≡ found ++ (w ∷ [])
 unfolding discover
-discover-new found w e = rw e
+discover_new found w e = rw e
 
-discover_fair : (n : ℕ) (found : List ℕ) (w : ℕ) → Fair n found → w < n → Fair n (discover found w)
+pub discover_fair : (n : ℕ) (found : List ℕ) (w : ℕ) → Fair n found → w < n → Fair n (discover found w)
 discover_fair n found w f h =
-    by_bool (elem w found) (λ e. rw (discover_old found w e) f) (λ e. rw (discover-new found w e) (fair_more n found w f h e))
+    by_bool (elem w found) (λ e. rw (discover_old found w e) f) (λ e. rw (discover_new found w e) (fair_more n found w f h e))
 
 all_new : (k m : ℕ) → length (filter_by (is_new []) (table (λ (v : ℕ). v) k m)) ≡ m
 unfolding table filter_by elem
@@ -95,6 +95,22 @@ all_new k (suc m) = ap suc (all_new (suc k) m)
 pub fair_start : (n start : ℕ) → start < n → Fair n (start ∷ [])
 unfolding unreached discover elem
 fair_start n start h = discover_fair n [] start (omega (arith, all_new 0 n)) h
+
+-- states discovered one after another are those that are not found, behind those that are
+pub discover_rest : (k m : ℕ) (found : List ℕ) → over discover found (table (λ (v : ℕ). v) k m) ≡ found ++ filter_by (is_new found) (table (λ (v : ℕ). v) k m)
+unfolding over table filter_by
+discover_rest k zero found = sym (append-nil found)
+discover_rest k (suc m) found =
+    let rest = table (λ (v : ℕ). v) (suc k) m in
+    by_bool (elem k found)
+    (λ e.
+    ap (λ (f : List ℕ). over discover f rest) (discover_old found k e) ∙ discover_rest (suc k) m found
+    ∙ ap (λ (l : List ℕ). found ++ l) (sym (filter_no (is_new found) k rest (ap not e))))
+    (λ e.
+    ap (λ (f : List ℕ). over discover f rest) (discover_new found k e) ∙ discover_rest (suc k) m (found ++ (k ∷ []))
+    ∙ ap (λ (l : List ℕ). (found ++ (k ∷ [])) ++ l) (above found k (suc k) m (omega arith))
+    ∙ append_assoc found (k ∷ []) (filter_by (is_new found) rest)
+    ∙ ap (λ (l : List ℕ). found ++ l) (sym (filter_yes (is_new found) k rest (ap not e))))
 
 -- ---- arrow by arrow
 
@@ -156,11 +172,11 @@ module _ (n : ℕ) (arrows : List Ends) where
 
 discover_front : (k : ℕ) (found : List ℕ) (w : ℕ) → k ≤ length found → take k (discover found w) ≡ take k found
 discover_front k found w h =
-    by_bool (elem w found) (λ e. rw (discover_old found w e)) (λ e. rw (discover-new found w e) (take-append-le k found (w ∷ []) h))
+    by_bool (elem w found) (λ e. rw (discover_old found w e)) (λ e. rw (discover_new found w e) (take-append-le k found (w ∷ []) h))
 
 discover_grows : (found : List ℕ) (w : ℕ) → length found ≤ length (discover found w)
 discover_grows found w =
-    by_bool (elem w found) (λ e. rw (discover_old found w e) (omega arith)) (λ e. rw (discover-new found w e) (omega (arith, length-append found (w ∷ []))))
+    by_bool (elem w found) (λ e. rw (discover_old found w e) (omega arith)) (λ e. rw (discover_new found w e) (omega (arith, length-append found (w ∷ []))))
 
 pub over_grows : (found l : List ℕ) → length found ≤ length (over discover found l)
 unfolding over
@@ -171,14 +187,6 @@ pub over_front : (k : ℕ) (found l : List ℕ) → k ≤ length found → take 
 unfolding over
 over_front k found [] h = refl
 over_front k found (w ∷ l) h = over_front k (discover found w) l (omega (arith, discover_grows found w)) ∙ discover_front k found w h
-
--- The first p of a list became the first q by a search; the first k of them stand.
-pub front_kept : (k p q : ℕ) (l m ws : List ℕ) → k ≤ p → p ≤ length l → q ≤ length m → take q m ≡ over discover (take p l) ws → (p ≤ q) × (take k m ≡ take k l)
-front_kept k p q l m ws h i j e =
-    let a : length (take p l) ≡ p = length-take-le p l i in
-    let b : length (take q m) ≡ q = length-take-le q m j in
-    let g : p ≤ q = omega (arith, over_grows (take p l) ws, sym a, sym b, ap length e) in
-    (g, sym (take-take k q m (omega arith)) ∙ ap (take k) e ∙ over_front k (take p l) ws (omega arith) ∙ take-take k p l h)
 
 -- ---- the columns after a column, by what is found
 

@@ -2,5 +2,4 @@ pub mod Columns
 pub mod Distance
 pub mod Elements
 pub mod Found
-pub mod Listed
 pub mod Once

@@ -1,255 +1,228 @@
 // The columns of the layered layout: breadth-first from one state, the states that are not reached in one last column.
-// The columns stand one after another in `order`, which has one place a state; `sizes` says how long each is.
 #![tactic(auto)]
 
-ghost use Rattle.std.specs.Prelude.{◌≡◌, false, [], ◌∷◌, ◌++◌, ◌+◌, ◌≤◌, ◌<◌, length, get_or, take, drop};
-ghost use Rattle.laws.specs.Filter.{filter_by};
+ghost use Rattle.std.specs.Prelude.{◌≡◌, ℕ, false, List, [], ◌++◌, ◌≤◌, ◌<◌, length, get_or, set, take, drop};
 ghost use Rattle.laws.specs.Loops.{over};
 ghost use Rattle.laws.specs.Split.{split, sum_all};
 ghost use Rattle.columns.specs.Columns as D;
 ghost use Rattle.columns.specs.Found.{Fair, Reached, follow};
 
 use sheet::Ends;
+use stack::Stack;
+use std::marker::Model;
 
-// How many columns there are, and how many states they hold.
+// The states, by how many there are, and the arrows.
 #[derive(Clone, Copy)]
-pub struct Filled {
-    pub columns: usize,
+pub struct Net<'a> {
     pub states: usize,
+    pub arrows: &'a [Ends],
 }
 
 // Whether w is one of a list.
+#[tactic(auto, using(crate::proofs::Laws::elem_list))]
 pub fn contains(list: &[usize], w: usize) -> bool
     ensures { result ≡ D.elem w list.now }
 {
     list.contains(&w)
 }
 
-// Whether an arrow leads from v to another state of n.
-fn leaves(n: usize, v: usize, arrow: Ends) -> bool
-    ensures { result ≡ D.leaves n v arrow }
-{
-    directions::is_between(n, arrow.source, arrow.target) && arrow.source == v
-}
+// ---- the search
 
-// Puts w behind the first p states, where it is none of them; how many there are then.
-fn discover(order: &mut [usize], p: usize, w: usize) -> usize
-    requires { let states = length order.old in
-        (w < states)
-        × (p ≤ states)
-        × Fair states (take p order.old) }
-    ensures { (result ≤ length order.old)
-        × (take result order.new ≡ D.discover (take p order.old) w) }
+// Puts w behind those found, where it is none of them.
+#[tactic(auto, using(crate::specs::Found::discover_new, crate::specs::Found::discover_old))]
+fn discover(found: &mut Stack<usize, 64>, w: usize)
+    requires room { D.elem w found.old ≡ false → length found.old < 64 }
+    ensures { found.new ≡ D.discover found.old w }
 {
-    if contains(&order[..p], w) {
-        return p;
+    if !contains(found.as_slice(), w) {
+        found.push(w);
     }
-    order[p] = w;
-    p + 1
 }
 
-// Follows one arrow from v.
-fn follow(order: &mut [usize], p: usize, v: usize, arrow: Ends) -> usize
-    requires { (p ≤ length order.old) × Fair (length order.old) (take p order.old) }
-    ensures { let states = length order.old in
-        (result ≤ states)
-        × (take result order.new ≡ follow states v (take p order.old) arrow) }
-{
-    let n = order.len();
-    if leaves(n, v, arrow) {
-        return discover(order, p, arrow.target);
+// The states found, in order of discovery, and the sizes of the columns that they make.
+#[derive(Drop)]
+struct Found {
+    order: Stack<usize, 64>,
+    sizes: Stack<usize, 64>,
+}
+
+impl<'a> Net<'a> {
+    // Whether an arrow leads from v to another state.
+    fn leaves(&self, v: usize, arrow: Ends) -> bool
+        ensures { result ≡ D.leaves self.now.states v arrow }
+    {
+        directions::is_between(self.states, arrow.source, arrow.target) && arrow.source == v
     }
-    p
-}
 
-// Follows the arrows that leave v.
-fn visit(arrows: &[Ends], order: &mut [usize], p: usize, v: usize) -> usize
-    requires { (p ≤ length order.old) × Fair (length order.old) (take p order.old) }
-    ensures { let states = length order.old in
-        (result ≤ states)
-        × (take result order.new
-        ≡ over D.discover (take p order.old) (D.successors states arrows.now v)) }
-{
-    let mut q = p;
-    for arrow in arrows {
-        q = follow(order, q, v, *arrow);
-    }
-    q
-}
-
-// Follows the arrows that leave the states from place `low` to `high`, the last of those found.
-fn explore(arrows: &[Ends], order: &mut [usize], low: usize, high: usize) -> usize
-    requires { (high ≤ length order.old) × Fair (length order.old) (take high order.old) }
-    ensures { let states = length order.old in
-        let known = take high order.old in
-        (result ≤ states)
-        × (take result order.new ≡ D.explore states arrows.now known (drop low known)) }
-{
-    let mut p = high;
-    // By place: the loop stores in `order` while it reads it.
-    for i in low..high {
-        let v = order[i];
-        p = visit(arrows, order, p, v);
-    }
-    p
-}
-
-// The columns that are reached from `start`.
-fn reach(start: usize, arrows: &[Ends], order: &mut [usize], sizes: &mut [usize]) -> Filled
-    requires { (start < length order.old)
-        × (length order.old < length sizes.old) }
-    ensures { Reached arrows.now start order.new sizes.new
-        result.columns result.states }
-{
-    order[0] = start;
-    sizes[0] = 1;
-    let most = order.len() + 1;
-    let mut low: usize = 0;
-    let mut high: usize = 1;
-    for count in 1..most {
-        let p = explore(arrows, order, low, high);
-        if p == high {
-            return Filled {
-                columns: count,
-                states: high,
-            };
+    // Follows one arrow from v.
+    #[tactic(auto, using(crate::specs::Found::follow_yes, crate::specs::Found::follow_no))]
+    fn follow(&self, found: &mut Stack<usize, 64>, v: usize, arrow: Ends)
+        requires room { self.now.states ≤ 64 }
+        requires fair { Fair self.now.states found.old }
+        ensures { found.new ≡ follow self.now.states v found.old arrow }
+    {
+        if self.leaves(v, arrow) {
+            discover(found, arrow.target);
         }
-        sizes[count] = p - high;
-        low = high;
-        high = p;
     }
-    Filled {
-        columns: most,
-        states: high,
+
+    // Follows the arrows that leave v.
+    fn visit(&self, found: &mut Stack<usize, 64>, v: usize)
+        requires room { self.now.states ≤ 64 }
+        requires fair { Fair self.now.states found.old }
+        ensures { let successors = D.successors self.now.states self.now.arrows.now v in
+            found.new ≡ over D.discover found.old successors }
+    {
+        for arrow in self.arrows {
+            self.follow(found, v, *arrow);
+        }
+    }
+
+    // Follows the arrows that leave the states found, from place `low` on.
+    fn explore(&self, found: &mut Stack<usize, 64>, low: usize)
+        requires room { self.now.states ≤ 64 }
+        requires fair { Fair self.now.states found.old }
+        requires some { low ≤ length found.old }
+        ensures { found.new ≡ D.explore self.now.states self.now.arrows.now found.old (drop low found.old) }
+    {
+        // By place: the loop adds to `found` while it reads it.
+        for i in low..found.as_slice().len() {
+            let v = found.as_slice()[i];
+            self.visit(found, v);
+        }
+    }
+
+    // The columns that are reached from `start`.
+    fn reach(&self, start: usize) -> Found
+        requires room { self.now.states ≤ 64 }
+        requires state { start < self.now.states }
+        ensures { Reached self.now.states self.now.arrows.now start result.order result.sizes }
+    {
+        let mut order = Stack::new(0);
+        let mut sizes = Stack::new(0);
+        order.push(start);
+        sizes.push(1);
+        let mut low: usize = 0;
+        for _ in 0..self.states {
+            let high = order.as_slice().len();
+            self.explore(&mut order, low);
+            let new = order.as_slice().len() - high;
+            if new == 0 {
+                break;
+            }
+            sizes.push(new);
+            low = high;
+        }
+        Found { order, sizes }
+    }
+
+    // Puts the states that are not found behind those that are.
+    fn put_unreached(&self, found: &mut Stack<usize, 64>)
+        requires room { self.now.states ≤ 64 }
+        requires fair { Fair self.now.states found.old }
+        ensures { found.new ≡ found.old ++ D.unreached self.now.states found.old }
+    {
+        for v in 0..self.states {
+            discover(found, v);
+        }
+    }
+
+    // All states in the order of the columns, and the columns' sizes.
+    fn fill(&self, start: usize) -> Found
+        requires room { self.now.states ≤ 64 }
+        requires state { start < self.now.states }
+        ensures all { sum_all result.sizes ≡ length result.order }
+        ensures within { length result.order ≤ 64 }
+        ensures columns { split result.sizes result.order ≡ D.columns self.now.states self.now.arrows.now start }
+    {
+        let mut found = self.reach(start);
+        let reached = found.order.as_slice().len();
+        self.put_unreached(&mut found.order);
+        if reached < self.states {
+            found.sizes.push(self.states - reached);
+        }
+        found
     }
 }
 
-// Puts v at place q, where it is none of the first p; the place after.
-fn put_new(order: &mut [usize], p: usize, q: usize, v: usize) -> usize
-    requires { (p ≤ q)
-        × (D.elem v (take p order.old) ≡ false → q < length order.old)
-        × (q ≤ length order.old) }
-    ensures { (result ≤ length order.old)
-        × (take result order.new
-        ≡ take q order.old ++ filter_by (D.is_new (take p order.old)) (v ∷ [])) }
-{
-    if contains(&order[..p], v) {
-        return q;
-    }
-    order[q] = v;
-    q + 1
-}
+// ---- the columns
 
-// Puts the states that are not among the first p behind them.
-fn put_unreached(order: &mut [usize], p: usize)
-    requires { (p ≤ length order.old) × Fair (length order.old) (take p order.old) }
-    ensures { let reached = take p order.old in
-        order.new ≡ reached ++ D.unreached (length order.old) reached }
+// Where column l begins.
+fn start_of(sizes: &[usize], l: usize) -> usize
+    requires column { l ≤ length sizes.now }
+    requires fits { sum_all sizes.now ≤ 64 }
+    ensures { result ≡ sum_all (take l sizes.now) }
 {
-    let mut q = p;
-    for v in 0..order.len() {
-        q = put_new(order, p, q, v);
-    }
-}
-
-// The columns; how many. `sizes` has two places more than there are states.
-pub fn fill_columns(
-    start: usize,
-    arrows: &[Ends],
-    order: &mut [usize],
-    sizes: &mut [usize],
-) -> usize
-    requires { (start < length order.old)
-        × (length order.old + 1 < length sizes.old) }
-    ensures { let used = take result sizes.new in
-        let states = length order.old in
-        (result ≤ length sizes.old)
-        × (sum_all used ≡ states)
-        × (split used order.new ≡ D.columns states arrows.now start) }
-{
-    let found = reach(start, arrows, order, sizes);
-    let n = order.len();
-    let p = found.states;
-    let k = found.columns;
-    put_unreached(order, p);
-    if p == n {
-        return k;
-    }
-    sizes[k] = n - p;
-    k + 1
-}
-
-// The columns of some states, in the first places.
-fn fill_first(
-    start: usize,
-    states: usize,
-    arrows: &[Ends],
-    order: &mut [usize; 64],
-    sizes: &mut [usize],
-) -> usize
-    requires { (start < states) × (states ≤ 64) × (states + 1 < length sizes.old) }
-    ensures { let used = take result sizes.new in
-        (result ≤ length sizes.old)
-        × (sum_all used ≡ states)
-        × (split used order.new ≡ D.columns states arrows.now start) }
-{
-    fill_columns(start, arrows, &mut order[..states], sizes)
+    sizes[..l].iter().sum()
 }
 
 // The columns one after another in `order`; `sizes` says how long each is.
 #[derive(Drop)]
-pub struct Columns<const SIZES: usize> {
-    pub order: [usize; 64],
-    pub sizes: [usize; SIZES],
-    pub count: usize,
-    pub ghost count_fits: { count ≤ length sizes },
-    pub ghost states_fit: { sum_all (take count sizes) ≤ 64 },
+pub struct Columns {
+    order: [usize; 64],
+    sizes: Stack<usize, 64>,
 }
 
-impl<const SIZES: usize> Columns<SIZES> {
-    ghost use Rattle.columns.specs.Listed.{listed};
+// Clauses see each column as the list of its states.
+impl Model for Columns {
+    ghost Value = { List (List ℕ) };
 
+    ghost view = { λ c. split c.sizes c.order };
+
+    ghost invariant = { λ c. sum_all c.sizes ≤ 64 };
+}
+
+impl Columns {
     // The columns of the layered layout.
-    pub fn breadth_first(start: usize, states: usize, arrows: &[Ends]) -> Self
-        requires { (start < states) × (states ≤ 64) × (states + 1 < SIZES) }
-        ensures { listed result ≡ D.columns states arrows.now start }
+    pub fn breadth_first(net: &Net, start: usize) -> Self
+        requires room { net.now.states ≤ 64 }
+        requires state { start < net.now.states }
+        ensures { result ≡ D.columns net.now.states net.now.arrows.now start }
     {
+        let found = net.fill(start);
         let mut order = [0usize; 64];
-        let mut sizes = [0usize; SIZES];
-        let count = fill_first(start, states, arrows, &mut order, &mut sizes);
+        slices::copy(found.order.as_slice(), &mut order);
         Columns {
             order,
-            sizes,
-            count,
+            sizes: found.sizes,
         }
     }
 
-    // Where column l begins.
-    pub fn start_of(&self, l: usize) -> usize
-        requires { l ≤ self.now.count }
-        ensures { result ≡ sum_all (take l self.now.sizes) }
+    // How many columns there are.
+    pub fn count(&self) -> usize
+        ensures count { result ≡ length self.now }
+        ensures within { result ≤ 64 }
     {
-        let mut start = 0;
-        for size in &self.sizes[..l] {
-            start += *size;
-        }
-        start
+        self.sizes.as_slice().len()
     }
 
     // How many states column l has.
     pub fn size(&self, l: usize) -> usize
-        requires { l < self.now.count }
-        ensures { result ≡ get_or self.now.sizes l 0 }
+        requires { l < length self.now }
+        ensures size { result ≡ length (get_or self.now l []) }
+        ensures within { result ≤ 64 }
     {
-        self.sizes[l]
+        self.column(l).len()
     }
 
     // The states of column l.
     pub fn column(&self, l: usize) -> &[usize]
-        requires { l < self.now.count }
-        ensures { (result.now ≡ get_or (listed self.now) l []) × (length result.now ≤ 64) }
+        requires { l < length self.now }
+        ensures states { result.now ≡ get_or self.now l [] }
+        ensures within { length result.now ≤ 64 }
     {
-        let start = self.start_of(l);
-        &self.order[start..start + self.sizes[l]]
+        let sizes = self.sizes.as_slice();
+        let start = start_of(sizes, l);
+        &self.order[start..start + sizes[l]]
+    }
+
+    // Puts the states of column l in another order.
+    pub fn reorder(&mut self, l: usize, states: &[usize])
+        requires column { l < length self.old }
+        requires level { length states.now ≡ length (get_or self.old l []) }
+        ensures { self.new ≡ set self.old l states.now }
+    {
+        let start = start_of(self.sizes.as_slice(), l);
+        self.order[start..start + states.len()].copy_from_slice(states);
     }
 }
