@@ -15,7 +15,6 @@ use Rattle.shape.specs.Centres.{centre}
 use Rattle.sheet.specs.Meaning.{is_start, ends_below}
 use Rattle.bend.specs.declared.Routed.{Routed}
 use Rattle.bend.specs.declared.Shape.{Shape}
-use Rattle.bend.specs.declared.Shape.TheVariants as Shape
 use Rattle.bend.specs.Leads.{leads}
 use Rattle.bend.specs.Between.{between}
 use Rattle.label_spots.specs.declared.Turn.{Turn}

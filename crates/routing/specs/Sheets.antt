@@ -2,7 +2,6 @@
 use Rattle.std.specs.Prelude.{◌≡◌, List, map, ℕ, ◌<◌, length, get_or, Float}
 use Rattle.std.specs.Float.{nan, inf, fin}
 use Rattle.laws.specs.Flat.{table}
-use Rattle.laws.specs.Zip.{zip_by}
 use Rattle.float.specs.Constants.{f0}
 use Rattle.shape.specs.declared.«V».{«V»}
 use Rattle.shape.specs.Plane.{vec}
@@ -10,7 +9,6 @@ use Rattle.sheet.specs.Sheet.{State, Arrow, Graph, flags_of}
 use Rattle.sheet.specs.Meaning.{no_arrow}
 use Rattle.label.specs.Label.{block_width, block_height}
 use Rattle.label_spots.specs.declared.Geometry.{Geometry}
-use Rattle.bend.specs.Leads.{arrows_by}
 use Rattle.routing.specs.Routing.{Ends, Frame, BlockSize, records}
 pub use Rattle.bend.specs.Leads.{ends_by}
 
@@ -61,14 +59,3 @@ pub record SameFrame (g h : Graph) : Type 0 where
   pub many : length g.arrows ≡ length h.arrows
   pub sources : (k : ℕ) → k < length g.arrows → (get_or g.arrows k no_arrow).source ≡ (get_or h.arrows k no_arrow).source
   pub targets : (k : ℕ) → k < length g.arrows → (get_or g.arrows k no_arrow).target ≡ (get_or h.arrows k no_arrow).target
-
--- ---- from slices
-
-abbrev pub frame_by : List ℕ → List «V» → List ℕ → List ℕ → Frame
-frame_by flags cs sources targets = frame_with flags cs (arrows_by sources targets)
-
-abbrev pub size_held : Float → Float → BlockSize
-size_held w h = record { width = w; height = h }
-
-abbrev pub sizes_by : List Float → List Float → List BlockSize
-sizes_by widths heights = zip_by size_held widths heights

@@ -6,4 +6,3 @@ pub mod Demand
 pub mod Turns
 pub mod Rim
 pub mod Agree
-pub mod Frames
