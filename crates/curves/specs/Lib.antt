@@ -1,2 +1,3 @@
 pub mod Lay
 pub mod Traces
+pub mod Zeroed

@@ -8,6 +8,7 @@ ghost use Rattle.trace.specs.Form.{trace_in};
 ghost use Rattle.routing.specs.Routing.{start_curve, start_traces, rim};
 ghost use Rattle.routing.specs.Sheets.{or_zero};
 ghost use Rattle.curves.specs.Lay as S;
+ghost use Rattle.curves.specs.Zeroed.{centre_zeroed};
 
 use bend::Routed;
 use shape::{Curve, NODE_RADIUS, START_ARROW_LENGTH, V};
@@ -26,6 +27,24 @@ pub fn or_zero(v: f64) -> f64
         return v;
     }
     0.0
+}
+
+// A centre as it counts.
+pub fn centre_or_zero(c: V) -> V
+    ensures { result ≡ centre_zeroed c }
+{
+    V::new(or_zero(c.x), or_zero(c.y))
+}
+
+// The centres as they count, in the room lent for them. By index, since a proof knows nothing of a slice that an
+// adapter of `iter_mut` writes.
+pub fn zeroed(centres: &[V], room: &mut [V])
+    requires { length room.old ≡ length centres.now }
+    ensures { room.new ≡ map centre_zeroed centres.now }
+{
+    for (k, c) in centres.iter().enumerate() {
+        room[k] = centre_or_zero(*c);
+    }
 }
 
 // ---- what is routed
