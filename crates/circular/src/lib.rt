@@ -2,20 +2,14 @@
 #![tactic(auto)]
 
 ghost use Rattle.std.specs.Prelude.{◌≡◌, ◌<◌, ◌≤◌, length};
+ghost use Rattle.shape.specs.Centres as P;
 ghost use Rattle.circular.specs.Ring as S;
 
 use float::{PI, TAU};
-use shape::NODE_RADIUS;
+use shape::{NODE_RADIUS, V};
 
 // The smallest distance between neighbours on the ring.
 const CIRCLE_GAP: f64 = 150.0;
-
-// The largest of the widths, or of the heights, of the label blocks.
-pub fn largest(sizes: &[f64]) -> f64
-    ensures { result ≡ S.largest sizes.now }
-{
-    sizes.iter().fold(0.0, |most, size| float::max(most, *size))
-}
 
 // The radius of the circle for n states, the widest label `label` wide.
 fn radius(n: usize, label: f64) -> f64
@@ -47,32 +41,28 @@ fn place_angle(n: usize, k: usize) -> f64
 }
 
 // The states on the circle with radius r.
-fn fill(start: usize, r: f64, xs: &mut [f64], ys: &mut [f64])
-    requires { (length ys.old ≡ length xs.old) × (length xs.old ≤ 64) × (start < length xs.old) }
-    ensures { let states = length xs.old in
-        (xs.new ≡ S.around_ring S.cos_at states start r)
-        × (ys.new ≡ S.around_ring S.sin_at states start r) }
+fn fill(start: usize, r: f64, centres: &mut [V])
+    requires { (length centres.old ≤ 64) × (start < length centres.old) }
+    ensures { let states = length centres.old in
+        centres.new ≡ P.centres (S.around_ring S.cos_at states start r) (S.around_ring S.sin_at states start r) }
 {
-    let n = xs.len();
-    for i in 0..n {
+    let n = centres.len();
+    for (i, c) in centres.iter_mut().enumerate() {
         let a = place_angle(n, ring_place(n, start, i));
-        xs[i] = r * float::cos(a);
-        ys[i] = r * float::sin(a);
+        *c = V::new(r * float::cos(a), r * float::sin(a));
     }
 }
 
 // The centres on the ring; one state at 0, 0.
-pub fn circular(start: usize, label: f64, xs: &mut [f64], ys: &mut [f64])
-    requires { (length ys.old ≡ length xs.old) × (length xs.old ≤ 64) × (start < length xs.old) }
-    ensures { let states = length xs.old in
-        (xs.new ≡ S.circular_xs states start label)
-        × (ys.new ≡ S.circular_ys states start label) }
+pub fn circular(start: usize, label: f64, centres: &mut [V])
+    requires { (length centres.old ≤ 64) × (start < length centres.old) }
+    ensures { let states = length centres.old in
+        centres.new ≡ P.centres (S.circular_xs states start label) (S.circular_ys states start label) }
 {
-    let n = xs.len();
+    let n = centres.len();
     if n == 1 {
-        xs[0] = 0.0;
-        ys[0] = 0.0;
+        centres[0] = V::new(0.0, 0.0);
         return;
     }
-    fill(start, radius(n, label), xs, ys);
+    fill(start, radius(n, label), centres);
 }

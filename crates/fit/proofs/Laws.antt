@@ -1,25 +1,24 @@
 -- Steps and ends of the loops that cover and that shift, and how what they cover joins. Assumes nothing.
 use mathlib.Core.Path.{◌≡◌, refl, sym, ap, ap₂, ◌∙◌}
 use mathlib.Core.Bool.{true, false}
-use mathlib.Core.List.{List, [], ◌∷◌, flat_map}
+use mathlib.Core.List.{List, [], ◌∷◌, map, flat_map}
 use Prim.Native.Nat.{ℕ, suc, ◌+◌, ◌-◌, ◌≤◌, ◌<◌}
 use native.Mathlib.Numerals.{add-one}
 use native.Mathlib.Omega.{arith}
 use lib.ListN.{length, get_or, drop, drop_of_length-le}
 use lib.Seq.{drop-cons}
-use lib.Ieee.{Float}
 use Rattle.laws.specs.Flat.{table}
-use Rattle.float.specs.Constants.{node_radius, start_arrow_length}
+use Rattle.laws.specs.Zip.{zip_by}
+use Rattle.float.specs.Constants.{margin, node_radius, start_arrow_length}
 use Rattle.float.specs.Ops.{◌⊕◌, ◌⊖◌}
 use Rattle.shape.specs.declared.«V».{«V»}
 use Rattle.shape.specs.declared.Rect.{Rect}
-use Rattle.shape.specs.Plane.{vec, no_bounds, extended}
+use Rattle.shape.specs.Plane.{vec, add, no_bounds, extended}
 use Rattle.trace.specs.Traces.{sample, bounds_of}
-use Rattle.shape.specs.Centres.{centres, centre}
-use Rattle.shape.specs.CentresFrom.{centres_from}
+use Rattle.shape.specs.Centres.{centres}
 use Rattle.label_spots.specs.declared.Geometry.{Geometry}
 use Rattle.sheet.specs.Meaning.{is_start}
-use Rattle.fit.specs.Fit.{state_points, states_points, drawn_points, covered, drawing_bounds}
+use Rattle.fit.specs.Fit.{state_points, states_points, drawn_points, covered, drawing_bounds, shifted, fit_xs, fit_ys}
 use Rattle.std.specs.List.{fold}
 use Rattle.std.proofs.lemmas.List.Sums.{fold-append}
 use Rattle.laws.specs.Tables.{table_front, table-past}
@@ -41,17 +40,18 @@ module _ (b low around r : Rect) (flag : ℕ) (c p q : «V») (ep : p ≡ vec (c
   unfolding state_points
   state_other s = rw (s, f, e, eq, ep)
 
-module _ (flags : List ℕ) (xs ys : List Float) (i : ℕ) (b : Rect) (h : length xs ≡ length flags) (k : length ys ≡ length flags) where
-  pub states-step : (v : «V») (b' : Rect) → v ≡ centre (centres xs ys) i → i < length flags → b' ≡ fold extended b (state_points (get_or flags i 0) v)
-      → fold extended b' (states_points (drop (i + 1) flags) (drop (i + 1) (centres xs ys))) ≡ fold extended b (states_points (drop i flags) (drop i (centres xs ys)))
+module _ (flags : List ℕ) (cs : List «V») (i : ℕ) (b : Rect) (h : length cs ≡ length flags) where
+  pub states-step : (b' : Rect) → i < length cs → b' ≡ fold extended b (state_points (get_or flags i 0) (get_or cs i (vec nan nan)))
+      → fold extended b' (states_points (drop (i + 1) flags) (drop (i + 1) cs)) ≡ fold extended b (states_points (drop i flags) (drop i cs))
   unfolding states_points
-  states-step v b' w l e =
-      rw (centres_from xs ys i v w (omega arith) (omega arith), drop-cons flags i 0 l, add-one, e)
-      (sym (fold-append extended b (state_points (get_or flags i 0) v) (states_points (drop (suc i) flags) (drop (suc i) (centres xs ys)))))
+  states-step b' l e =
+      let k : i < length flags = omega arith in
+      rw (drop-cons cs i (vec nan nan) l, drop-cons flags i 0 k, add-one, e)
+      (sym (fold-append extended b (state_points (get_or flags i 0) (get_or cs i (vec nan nan))) (states_points (drop (suc i) flags) (drop (suc i) cs))))
 
-  pub states-end : length flags ≤ i → b ≡ fold extended b (states_points (drop i flags) (drop i (centres xs ys)))
+  pub states-end : length cs ≤ i → b ≡ fold extended b (states_points (drop i flags) (drop i cs))
   unfolding states_points
-  states-end l = rw (drop_of_length-le flags l)
+  states-end l = let k : length flags ≤ i = omega arith in rw (drop_of_length-le flags k)
 
 -- ---- an arrow, and all
 
@@ -75,6 +75,19 @@ unfolding drawing_bounds bounds_of covered
 all-covered flags cs gs n states b z e f =
     f ∙ ap (λ (s : Rect). fold extended s (flat_map drawn_points gs)) (e ∙ ap (λ (s : Rect). fold extended s (states_points flags cs)) z)
     ∙ sym (fold-append extended no_bounds (states_points flags cs) (flat_map drawn_points gs))
+
+-- ---- the shift
+
+moved : (low : «V») (cs : List «V») → map (λ c. add c (vec (margin ⊖ low.x) (margin ⊖ low.y))) cs ≡ centres (shifted low.x (map (λ c. c.x) cs)) (shifted low.y (map (λ c. c.y) cs))
+unfolding shifted zip_by
+moved low [] = refl
+moved low (c ∷ cs) = ap (λ (l : List «V»). add c (vec (margin ⊖ low.x) (margin ⊖ low.y)) ∷ l) (moved low cs)
+
+pub fitted : (flags : List ℕ) (cs : List «V») (gs : List Geometry) (b : Rect) (v : «V») (l : List «V») → b ≡ drawing_bounds flags cs gs → v ≡ vec (margin ⊖ b.x0) (margin ⊖ b.y0)
+    → l ≡ map (λ c. add c v) cs → l ≡ centres (fit_xs flags cs gs (map (λ c. c.x) cs)) (fit_ys flags cs gs (map (λ c. c.y) cs))
+fitted flags cs gs b v l eb ev el =
+    el ∙ ap (λ (w : «V»). map (λ c. add c w) cs) ev ∙ moved (vec b.x0 b.y0) cs
+    ∙ ap (λ (r : Rect). centres (shifted r.x0 (map (λ c. c.x) cs)) (shifted r.y0 (map (λ c. c.y) cs))) eb
 
 -- ---- a point of a curve more, an arrow more
 

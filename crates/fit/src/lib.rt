@@ -1,13 +1,13 @@
 // Fitting a drawing: what it covers, the shift to the margin, and its size.
 #![tactic(auto)]
 
-ghost use Rattle.std.specs.Prelude.{◌≡◌, ◌*◌, ◌≤◌, length};
+ghost use Rattle.std.specs.Prelude.{◌≡◌, map, length};
 ghost use mathlib.Core.List.{flat_map};
 ghost use Rattle.std.specs.List.{fold};
 ghost use Rattle.laws.specs.Flat.{table};
-ghost use Rattle.shape.specs.Plane.{extended};
+ghost use Rattle.shape.specs.Plane.{add, extended};
 ghost use Rattle.trace.specs.Traces.{sample};
-ghost use Rattle.shape.specs.Centres.{centres};
+ghost use Rattle.shape.specs.Centres as P;
 ghost use Rattle.fit.specs.Fit as S;
 
 use label_spots::Geometry;
@@ -37,14 +37,13 @@ fn cover_state(b: Rect, flag: u8, c: V) -> Rect
     round
 }
 
-fn cover_states(from: Rect, flags: &[u8], xs: &[f64], ys: &[f64]) -> Rect
-    requires { (length xs.now ≡ length flags.now) × (length ys.now ≡ length flags.now) }
-    ensures { let nodes = centres xs.now ys.now in
-        result ≡ fold extended from (S.states_points flags.now nodes) }
+fn cover_states(from: Rect, flags: &[u8], nodes: &[V]) -> Rect
+    requires { length nodes.now ≡ length flags.now }
+    ensures { result ≡ fold extended from (S.states_points flags.now nodes.now) }
 {
     let mut b = from;
-    for i in 0..flags.len() {
-        b = cover_state(b, flags[i], shape::centre(xs, ys, i));
+    for (i, c) in nodes.iter().enumerate() {
+        b = cover_state(b, flags[i], *c);
     }
     b
 }
@@ -82,29 +81,26 @@ fn cover_all(from: Rect, drawn: &[Geometry]) -> Rect
 
 // ---- the shift
 
-// Moves the centres so that what is at `low` comes to the margin.
-fn to_margin(l: &mut [f64], low: f64)
-    ensures { l.new ≡ S.shifted low l.old }
+fn shift(centres: &mut [V], by: V)
+    ensures { centres.new ≡ map (λ c. add c by) centres.old }
 {
-    let d = MARGIN - low;
-    for i in 0..l.len() {
-        l[i] = l[i] + d;
+    for c in centres.iter_mut() {
+        *c = *c + by;
     }
 }
 
 // Shifts the centres so that the drawing begins at the margin, and measures it.
-pub fn fit(flags: &[u8], drawn: &[Geometry], xs: &mut [f64], ys: &mut [f64]) -> Size
-    requires { (length xs.old ≡ length flags.now)
-        × (length ys.old ≡ length flags.now) }
-    ensures { let nodes = centres xs.old ys.old in
+pub fn fit(flags: &[u8], drawn: &[Geometry], centres: &mut [V]) -> Size
+    requires { length centres.old ≡ length flags.now }
+    ensures { let nodes = centres.old in
+        let xs = map (λ c. c.x) nodes in
+        let ys = map (λ c. c.y) nodes in
         (result ≡ S.fit_size flags.now nodes drawn.now)
-        × (xs.new ≡ S.fit_xs flags.now nodes drawn.now xs.old)
-        × (ys.new ≡ S.fit_ys flags.now nodes drawn.now ys.old) }
+        × (centres.new ≡ P.centres (S.fit_xs flags.now nodes drawn.now xs) (S.fit_ys flags.now nodes drawn.now ys)) }
 {
-    let states = cover_states(Rect::empty(), flags, xs, ys);
+    let states = cover_states(Rect::empty(), flags, centres);
     let b = cover_all(states, drawn);
-    to_margin(xs, b.x0);
-    to_margin(ys, b.y0);
+    shift(centres, V::new(MARGIN - b.x0, MARGIN - b.y0));
     Size {
         width: b.x1 - b.x0 + 2.0 * MARGIN,
         height: b.y1 - b.y0 + 2.0 * MARGIN,

@@ -1,78 +1,46 @@
 // A sheet's graph in slices, one place a state and one an arrow.
 #![tactic(auto)]
 
-ghost use Rattle.std.specs.Prelude.{◌≡◌, map, ◌≤◌, length};
+ghost use Rattle.std.specs.Prelude.{◌≡◌, map, length};
 ghost use Rattle.sheet.specs.Sheet as S;
-ghost use Rattle.meaning.specs.Read as M;
-ghost use Rattle.graph.specs.Sizes as Z;
+ghost use Rattle.routing.specs.Sheets as G;
 
-// The size of each arrow's label, from the first line record of each arrow. By index, since a proof knows nothing of a slice that an adapter of `iter_mut` writes.
-fn sizes_from(s: &[u8], heads: &[u16], widths: &mut [f64], heights: &mut [f64])
-    requires { (length widths.old ≡ length heads.now) × (length heights.old ≡ length heads.now) }
-    ensures { (widths.new ≡ map (Z.width_from s.now) heads.now)
-        × (heights.new ≡ map (Z.height_from s.now) heads.now) }
+use label::Block;
+use reader::Chain;
+use sheet::Ends;
+
+// The states that arrow record k joins.
+#[tactic(auto, unfolding(sheet::specs::Sheet::arrow_of))]
+fn ends_at(s: &[u8], k: u16) -> Ends
+    ensures { result ≡ G.ends_of (S.arrow_of s.now k) }
 {
-    for (k, head) in heads.iter().enumerate() {
-        let b = label::block_at(s, *head);
-        widths[k] = b.width;
-        heights[k] = b.height;
+    let arrow = reader::record_at(s, k);
+    Ends {
+        source: usize::from(arrow.word4),
+        target: usize::from(arrow.word6),
     }
 }
 
-// The size of each arrow's label; `heads` is left with the first line record of each.
-fn sizes_by(s: &[u8], heads: &mut [u16], widths: &mut [f64], heights: &mut [f64])
-    requires { let arrows = length (S.arrows_of s.now) in
-        (length heads.old ≡ arrows)
-        × (length widths.old ≡ arrows)
-        × (length heights.old ≡ arrows) }
-    ensures { let graph = S.meaning s.now in
-        (heads.new ≡ M.first_lines s.now)
-        × (widths.new ≡ Z.widths graph)
-        × (heights.new ≡ Z.heights graph) }
+// The size of the label of arrow record k.
+#[tactic(auto, unfolding(sheet::specs::Sheet::arrow_of))]
+fn size_at(s: &[u8], k: u16) -> Block
+    ensures { result ≡ G.size_of (S.arrow_of s.now k) }
 {
-    meaning::heads_into(s, heads);
-    sizes_from(s, heads, widths, heights);
-}
-
-// The size of each arrow's label.
-fn sizes_into(s: &[u8], widths: &mut [f64], heights: &mut [f64])
-    requires { let arrows = length (S.arrows_of s.now) in
-        (length widths.old ≡ arrows)
-        × (length heights.old ≡ arrows)
-        × (arrows ≤ 256) }
-    ensures { let graph = S.meaning s.now in
-        (widths.new ≡ Z.widths graph) × (heights.new ≡ Z.heights graph) }
-{
-    let mut heads = [0u16; 256];
-    let m = widths.len();
-    sizes_by(s, &mut heads[..m], widths, heights);
+    label::block_at(s, sheet::first_line_at(s, k))
 }
 
 // The states' flag bytes, the arrows' ends and the sizes of their labels.
-pub fn read_graph(
-    s: &[u8],
-    flags: &mut [u8],
-    sources: &mut [usize],
-    targets: &mut [usize],
-    widths: &mut [f64],
-    heights: &mut [f64],
-)
-    requires flags_len { length flags.old ≡ length (S.states_of s.now) }
-    requires fact { let arrows = length (S.arrows_of s.now) in
-        (length sources.old ≡ arrows)
-        × (length targets.old ≡ arrows)
-        × (length widths.old ≡ arrows)
-        × (length heights.old ≡ arrows)
-        × (arrows ≤ 256) }
+pub fn read_graph(s: &[u8], flags: &mut [u8], arrows: &mut [Ends], sizes: &mut [Block])
+    requires a_state_each { length flags.old ≡ length (S.states_of s.now) }
+    requires an_arrow_each { let many = length (S.arrows_of s.now) in
+        (length arrows.old ≡ many) × (length sizes.old ≡ many) }
     ensures { let graph = S.meaning s.now in
         (flags.new ≡ S.flags_of graph)
-        × (sources.new ≡ M.sources graph)
-        × (targets.new ≡ M.targets graph)
-        × (widths.new ≡ Z.widths graph)
-        × (heights.new ≡ Z.heights graph) }
+        × (arrows.new ≡ map G.ends_of graph.arrows)
+        × (sizes.new ≡ G.sizes_of graph) }
 {
+    let first = sheet::word_at(s, 6);
     meaning::flags_into(s, flags);
-    meaning::sources_into(s, sources);
-    meaning::targets_into(s, targets);
-    sizes_into(s, widths, heights);
+    meaning::each_into(Chain::new(s, first), arrows, |k| ends_at(s, k));
+    meaning::each_into(Chain::new(s, first), sizes, |k| size_at(s, k));
 }

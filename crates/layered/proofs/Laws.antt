@@ -1,7 +1,7 @@
 -- A step of each loop over slices, and its end. Assumes nothing.
-use mathlib.Core.Path.{◌≡◌, sym, ap, ap₂, ◌∙◌}
+use mathlib.Core.Path.{◌≡◌, refl, sym, ap, ap₂, ◌∙◌}
 use mathlib.Core.Bool.{true, false}
-use mathlib.Core.List.{List, [], map}
+use mathlib.Core.List.{List, [], ◌∷◌, map}
 use Prim.Native.Nat.{ℕ, suc, ◌+◌, ◌≤◌, ◌<◌}
 use native.Mathlib.Omega.{arith}
 use lib.ListN.{length, get_or, drop, set, replicate, drop_of_length-le}
@@ -9,8 +9,12 @@ use lib.Seq.{drop-cons, drop-drop, get_or-drop, drop-set-lt}
 use native.Mathlib.Numerals.{add-one}
 use lib.Ieee.{Float}
 use Rattle.laws.specs.Loops.{over}
+use Rattle.laws.specs.Zip.{zip_by}
 use Rattle.float.specs.Constants.{f0}
 use Rattle.float.specs.Ops.{◌⊗◌, of_nat}
+use Rattle.shape.specs.declared.«V».{«V»}
+use Rattle.shape.specs.Plane.{vec}
+use Rattle.shape.specs.Centres.{centres}
 use Rattle.sheet.specs.declared.Ends.{Ends}
 use Rattle.columns.specs.Columns.{elem, state_numbers, columns}
 use Rattle.sweep.specs.Sweeps.{Arranged, arranged, centre_column, four_sweeps, swept}
@@ -41,16 +45,22 @@ module _ {A : Type 0} (l l₀ : List A) (i : ℕ) where
   rest-set x e = drop-set-lt (i + 1) l i x (omega arith) ∙ sym (drop-drop 1 i l) ∙ ap (drop 1) e ∙ drop-drop 1 i l₀
 
 -- ---- the centres, by what each step leaves
-module _ (n start : ℕ) (arrows : List Ends) (cs : List (List ℕ)) (w : Float) (c : cs ≡ columns n arrows start) where
-  pub xs_are : (g : Float) (m : ℕ) (xs : List Float) → g ≡ column_gap w → m ≡ n → xs ≡ map (λ (v : ℕ). of_nat (column_of cs v) ⊗ g) (state_numbers m) → xs ≡ layered_xs n start arrows w
-  unfolding layered_xs
-  xs_are g m xs e f h = h ∙ ap₂ (λ (k : ℕ) (x : Float). map (λ (v : ℕ). of_nat (column_of cs v) ⊗ x) (state_numbers k)) f e ∙ ap (λ (d : List (List ℕ)). map (λ (v : ℕ). of_nat (column_of d v) ⊗ column_gap w) (state_numbers n)) c
 
-  pub ys_are : (r : Float) (m : ℕ) (ds : List (List ℕ)) (y₀ y₁ y₂ : List Float) → r ≡ row w → m ≡ n → y₀ ≡ replicate m f0 → arranged ds y₁ ≡ four_sweeps n arrows (arranged cs (over centre_column y₀ cs))
-      → y₂ ≡ map (λ (s : Float). s ⊗ r) y₁ → y₂ ≡ layered_ys n start arrows w
-  unfolding layered_ys swept
-  ys_are r m ds y₀ y₁ y₂ e f z s h =
-      let q : y₁ ≡ (four_sweeps n arrows (arranged (columns n arrows start) (over centre_column (replicate n f0) (columns n arrows start)))).slots =
-      ap (λ (a : Arranged). a.slots) s
-      ∙ ap₂ (λ (d : List (List ℕ)) (y : List Float). (four_sweeps n arrows (arranged d (over centre_column y d))).slots) c (z ∙ ap (λ (k : ℕ). replicate k f0) f) in
-      h ∙ ap₂ (λ (x : Float) (y : List Float). map (λ (s : Float). s ⊗ x) y) e q
+-- x from f and y 0, then y from the slots
+placed : (f : ℕ → Float) (r : Float) (vs : List ℕ) (ss : List Float) → zip_by (λ p s. vec p.x (s ⊗ r)) (map (λ v. vec (f v) f0) vs) ss ≡ centres (map f vs) (map (λ s. s ⊗ r) ss)
+unfolding zip_by
+placed f r [] ss = refl
+placed f r (v ∷ vs) [] = refl
+placed f r (v ∷ vs) (s ∷ ss) = ap (λ (l : List «V»). vec (f v) (s ⊗ r) ∷ l) (placed f r vs ss)
+
+module _ (n start : ℕ) (arrows : List Ends) (cs : List (List ℕ)) (w h : Float) (c : cs ≡ columns n arrows start) where
+  pub centres_are : (g r : Float) (ds : List (List ℕ)) (p q : List «V») (y : List Float) → g ≡ column_gap w → r ≡ row h
+      → p ≡ map (λ v. vec (of_nat (column_of cs v) ⊗ g) f0) (state_numbers n) → arranged ds y ≡ four_sweeps n arrows (arranged cs (over centre_column (replicate n f0) cs))
+      → q ≡ zip_by (λ a s. vec a.x (s ⊗ r)) p y → q ≡ centres (layered_xs n start arrows w) (layered_ys n start arrows h)
+  unfolding layered_xs layered_ys swept
+  centres_are g r ds p q y eg er ep ey eq =
+      let z : y ≡ (four_sweeps n arrows (arranged (columns n arrows start) (over centre_column (replicate n f0) (columns n arrows start)))).slots =
+      ap (λ (a : Arranged). a.slots) ey ∙ ap (λ (d : List (List ℕ)). (four_sweeps n arrows (arranged d (over centre_column (replicate n f0) d))).slots) c in
+      eq ∙ ap (λ (l : List «V»). zip_by (λ a s. vec a.x (s ⊗ r)) l y) ep
+      ∙ placed (λ v. of_nat (column_of cs v) ⊗ g) r (state_numbers n) y
+      ∙ ap₂ centres (ap₂ (λ (d : List (List ℕ)) (x : Float). map (λ v. of_nat (column_of d v) ⊗ x) (state_numbers n)) c eg) (ap₂ (λ (x : Float) (l : List Float). map (λ s. s ⊗ x) l) er z)

@@ -2,14 +2,17 @@
 #![tactic(auto)]
 
 ghost use Rattle.std.specs.Prelude.{◌≡◌, map, ◌≤◌, ◌<◌, length};
+ghost use Rattle.laws.specs.Zip.{zip_by};
 ghost use Rattle.float.specs.Constants.{f0};
 ghost use Rattle.float.specs.Ops.{◌⊗◌, of_nat};
+ghost use Rattle.shape.specs.Plane.{vec};
+ghost use Rattle.shape.specs.Centres as P;
 ghost use Rattle.columns.specs.Columns.{state_numbers};
 ghost use Rattle.columns.specs.Listed.{listed};
 ghost use Rattle.layered.specs.Layered as D;
 
 use columns::Columns;
-use shape::NODE_RADIUS;
+use shape::{NODE_RADIUS, V};
 use sheet::Ends;
 
 // The smallest distances between columns, and between the rows of a column.
@@ -54,46 +57,41 @@ fn column_of(columns: &Columns<SIZES>, v: usize) -> usize
     columns.count
 }
 
-fn put_xs(columns: &Columns<SIZES>, gap: f64, xs: &mut [f64])
+// The x of each state, with y 0.
+fn put_xs(columns: &Columns<SIZES>, gap: f64, centres: &mut [V])
     ensures { let column_of = D.column_of (listed columns.now) in
-        xs.new ≡ map (λ v. of_nat (column_of v) ⊗ gap) (state_numbers (length xs.old)) }
+        centres.new ≡ map (λ v. vec (of_nat (column_of v) ⊗ gap) f0) (state_numbers (length centres.old)) }
 {
-    for (v, x) in xs.iter_mut().enumerate() {
-        *x = column_of(columns, v) as f64 * gap;
+    for (v, c) in centres.iter_mut().enumerate() {
+        *c = V::new(column_of(columns, v) as f64 * gap, 0.0);
     }
 }
 
-fn scale(ys: &mut [f64], row: f64)
-    ensures { ys.new ≡ map (λ s. s ⊗ row) ys.old }
+// The y of each state, from its slot.
+fn put_ys(slots: &[f64], row: f64, centres: &mut [V])
+    requires { length slots.now ≡ length centres.old }
+    ensures { centres.new ≡ zip_by (λ c s. vec c.x (s ⊗ row)) centres.old slots.now }
 {
-    for y in ys.iter_mut() {
-        *y *= row;
+    for (v, c) in centres.iter_mut().enumerate() {
+        c.y = slots[v] * row;
     }
 }
 
 // The centres of the layered layout. `start` is the first start state or 0, `width` and `height` are those of the
 // largest label.
-pub fn layered(
-    start: usize,
-    arrows: &[Ends],
-    width: f64,
-    height: f64,
-    xs: &mut [f64],
-    ys: &mut [f64],
-)
-    requires { let states = length xs.old in
-        (length ys.old ≡ states)
-        × (states ≤ 64)
+pub fn layered(start: usize, arrows: &[Ends], width: f64, height: f64, centres: &mut [V])
+    requires { let states = length centres.old in
+        (states ≤ 64)
         × (start < states)
         × (length arrows.now ≤ 256) }
-    ensures { let states = length xs.old in
-        (xs.new ≡ D.layered_xs states start arrows.now width)
-        × (ys.new ≡ D.layered_ys states start arrows.now height) }
+    ensures { let states = length centres.old in
+        centres.new ≡ P.centres (D.layered_xs states start arrows.now width) (D.layered_ys states start arrows.now height) }
 {
-    let n = xs.len();
+    let n = centres.len();
     let mut columns = Columns::<SIZES>::breadth_first(start, n, arrows);
-    put_xs(&columns, gap_for(width), xs);
-    ys.fill(0.0);
-    sweep::sweep(n, arrows, &mut columns, ys);
-    scale(ys, row_for(height));
+    put_xs(&columns, gap_for(width), centres);
+    let mut room = [0.0f64; 64];
+    let slots = &mut room[..n];
+    sweep::sweep(n, arrows, &mut columns, slots);
+    put_ys(slots, row_for(height), centres);
 }

@@ -1,5 +1,5 @@
 -- Labels enter a layout only by their sizes; every state has a centre; the start state is the sheet's. Assumes nothing.
-use Rattle.std.specs.Prelude.{◌≡◌, refl, List, [], map, ℕ, zero, suc, ◌≤◌, eqb, length, Float}
+use Rattle.std.specs.Prelude.{◌≡◌, refl, List, [], ℕ, zero, suc, ◌≤◌, eqb, length, Float}
 use Rattle.std.proofs.Common.{sym, ap, ap₂, ◌∙◌, arith, eqb-true}
 use Rattle.std.proofs.lemmas.List.{length-map}
 use Rattle.laws.specs.Cases.{by_bool}
@@ -35,25 +35,25 @@ ring-length part n start w =
     by_bool (eqb n 1) (λ t. rw t (sym (eqb-true n 1 t))) (λ t. rw t (table-length _ 0 n))
 
 -- centres as many as states
-abbrev Whole : Plan → Placing → Type 0
-Whole p c = (length c.xs ≡ many p) × (length c.ys ≡ many p)
+abbrev pub OneEach : Plan → Placing → Type 0
+OneEach p c = (length c.xs ≡ many p) × (length c.ys ≡ many p)
 
-ring-whole : (p : Plan) → Whole p (ring p)
+pub ring-whole : (p : Plan) → OneEach p (ring p)
 unfolding ring
 ring-whole p = (ring-length cos_at (many p) (plan_start p) (widest p), ring-length sin_at (many p) (plan_start p) (widest p))
 
-layers-whole : (p : Plan) → Whole p (layers p)
+pub layers-whole : (p : Plan) → OneEach p (layers p)
 unfolding layers
 layers-whole p = (xs_length (many p) (plan_start p) p.arrows (widest p), ys_length (many p) (plan_start p) p.arrows (tallest p))
 
-chosen-whole : (kind : ℕ) (p : Plan) → kind ≤ last_kind → Whole p (chosen kind p)
+chosen-whole : (kind : ℕ) (p : Plan) → kind ≤ last_kind → OneEach p (chosen kind p)
 unfolding chosen
 chosen-whole zero p h = by_bool (takes_ring p) (λ t. rw t (ring-whole p)) (λ t. rw t (layers-whole p))
 chosen-whole (suc zero) p h = layers-whole p
 chosen-whole (suc (suc zero)) p h = ring-whole p
 chosen-whole (suc (suc (suc k))) p h = absurd (omega arith)
 
-fitted-whole : (p : Plan) (c : Placing) → Whole p c → (length (fitted p c).xs ≡ many p) × (length (fitted p c).ys ≡ many p)
+fitted-whole : (p : Plan) (c : Placing) → OneEach p c → (length (fitted p c).xs ≡ many p) × (length (fitted p c).ys ≡ many p)
 unfolding fitted shifted
 fitted-whole p c w = (length-map c.xs _ ∙ w.0, length-map c.ys _ ∙ w.1)
 

@@ -1,14 +1,14 @@
 -- The layout of a graph by kind: layers or ring, the choice between them, and the fit. Document 01: "layout.rs".
 use Rattle.std.specs.Prelude.{◌≡◌, ◌<◌, Result, MatchResult, Bool, cond, ◌||◌, List, [], map, ℕ, zero, suc, ◌+◌, ltb, eqb, length, Float}
-use Rattle.laws.specs.Zip.{zip_by}
 use Rattle.float.specs.Constants.{f2, f2_5, margin}
 use Rattle.float.specs.Ops.{◌⊗◌, lt, of_nat}
 use Rattle.sheet.specs.Sheet.{Graph, flags_of}
 use Rattle.sheet.specs.Meaning.{start_index}
+use Rattle.shape.specs.declared.«V».{«V»}
 use Rattle.shape.specs.Centres.{centres}
 use Rattle.label_spots.specs.declared.Geometry.{Geometry}
 use Rattle.routing.specs.Routing.{Ends, Frame, BlockSize, records}
-use Rattle.routing.specs.Sheets.{ends_by, sizes_by, ends_of, sizes_of, frame_with, centres_at}
+use Rattle.routing.specs.Sheets.{ends_of, sizes_of, frame_with, centres_at}
 use Rattle.clutter.specs.Clutter.{clutter_of}
 use Rattle.circular.specs.Ring.{largest, circular_xs, circular_ys}
 use Rattle.layered.specs.Layered.{layered_xs, layered_ys}
@@ -29,10 +29,6 @@ pub record Plan : Type 0 where
 
 abbrev pub plan_of : Graph → Plan
 plan_of g = record { flags = flags_of g; arrows = map ends_of g.arrows; sizes = sizes_of g }
-
--- the plan that slices hold
-abbrev pub plan_by : List ℕ → List ℕ → List ℕ → List Float → List Float → Plan
-plan_by flags sources targets widths heights = record { flags = flags; arrows = zip_by ends_by sources targets; sizes = sizes_by widths heights }
 
 -- how many states
 abbrev pub many : Plan → ℕ
@@ -57,6 +53,10 @@ pub record Placing : Type 0 where
 
 abbrev pub placing : List Float → List Float → Placing
 placing xs ys = record { xs = xs; ys = ys }
+
+-- as points
+abbrev pub centres_of : Placing → List «V»
+centres_of c = centres c.xs c.ys
 
 -- "Layered: breadth-first from the first start state or 0"
 abbrev pub layers_by : ℕ → ℕ → List Ends → Float → Float → Placing

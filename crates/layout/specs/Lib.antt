@@ -1,5 +1,4 @@
 pub mod Layout
-pub mod Choice
-pub mod Slices
+pub mod Lent
 pub mod Laws
 pub mod Alike

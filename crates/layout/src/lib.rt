@@ -1,17 +1,19 @@
 // The layout of a graph by kind: layers or ring, the choice between them, and the fit.
 #![tactic(auto)]
 
-ghost use Rattle.std.specs.Prelude.{◌≡◌, ◌<◌, ◌≤◌, length};
-ghost use Rattle.laws.specs.Zip.{zip_by};
-ghost use Rattle.routing.specs.Sheets.{ends_by};
-ghost use Rattle.sheet.specs.Meaning.{start_index};
+ghost use Rattle.std.specs.Prelude.{◌≡◌, map, ◌<◌, ◌≤◌, length};
+ghost use Rattle.routing.specs.Routing.{records};
+ghost use Rattle.routing.specs.Sheets.{frame_with};
 ghost use Rattle.circular.specs.Ring.{largest};
 ghost use Rattle.layout.specs.Layout as S;
-ghost use Rattle.layout.specs.Choice as C;
+ghost use Rattle.layout.specs.Lent as C;
 
+use curves::Frame;
 use fit::{MARGIN, Size};
-use records::RECORD_NUMBERS;
+use label::Block;
+use label_spots::{Anchor, Geometry};
 use refusal::Refusal;
+use shape::{Curve, Rect, V};
 use sheet::Ends;
 
 // The layout kinds of document 01.
@@ -47,300 +49,214 @@ pub enum Placement {
     Ring,
 }
 
+// What is laid out: the states' flag bytes, the arrows' ends, and the sizes of their labels.
+#[derive(Clone, Copy)]
+pub struct Plan<'a> {
+    pub flags: &'a [u8],
+    pub arrows: &'a [Ends],
+    pub sizes: &'a [Block],
+}
+
+// What fills the room for centres, and the room for what is drawn.
+const ORIGIN: V = V { x: 0.0, y: 0.0 };
+
+const NO_GEOMETRY: Geometry = Geometry {
+    edge: 0,
+    curve: Curve::Line(ORIGIN, ORIGIN),
+    tip: ORIGIN,
+    tip_angle: 0.0,
+    label: ORIGIN,
+    anchor: Anchor::Start,
+    label_box: Rect {
+        x0: 0.0,
+        y0: 0.0,
+        x1: 0.0,
+        y1: 0.0,
+    },
+};
+
 // ---- centres
 
-// Puts the ends of the arrows beside each other.
-fn put_ends(sources: &[usize], targets: &[usize], arrows: &mut [Ends])
-    requires { (length targets.now ≡ length sources.now) × (length arrows.old ≡ length sources.now) }
-    ensures { arrows.new ≡ zip_by ends_by sources.now targets.now }
+// The width of the widest label.
+fn widest(sizes: &[Block]) -> f64
+    ensures { result ≡ largest (map (λ z. z.width) sizes.now) }
 {
-    for (i, arrow) in arrows.iter_mut().enumerate() {
-        *arrow = Ends {
-            source: sources[i],
-            target: targets[i],
-        };
+    sizes.iter().fold(0.0, |most, z| float::max(most, z.width))
+}
+
+// The height of the tallest label.
+fn tallest(sizes: &[Block]) -> f64
+    ensures { result ≡ largest (map (λ z. z.height) sizes.now) }
+{
+    sizes.iter().fold(0.0, |most, z| float::max(most, z.height))
+}
+
+impl<'a> Plan<'a> {
+    // The centres in layers.
+    #[tactic(auto, unfolding(crate::specs::Layout::layers))]
+    pub fn layers(&self, centres: &mut [V])
+        requires whole { C.Whole self.now }
+        requires some { 0 < length self.now.flags.now }
+        requires level { length centres.old ≡ length self.now.flags.now }
+        ensures { centres.new ≡ S.centres_of (S.layers (C.plan_in self.now)) }
+    {
+        let start = sheet::start_index(self.flags);
+        let width = widest(self.sizes);
+        let height = tallest(self.sizes);
+        layered::layered(start, self.arrows, width, height, centres);
     }
-}
 
-// The centres in layers.
-pub fn layers_at(
-    flags: &[u8],
-    sources: &[usize],
-    targets: &[usize],
-    widths: &[f64],
-    heights: &[f64],
-    xs: &mut [f64],
-    ys: &mut [f64],
-)
-    requires { C.GraphSlices flags.now sources.now targets.now widths.now heights.now xs.old ys.old }
-    ensures { let plan = S.plan_by flags.now sources.now targets.now
-        widths.now heights.now in
-        S.placing xs.new ys.new ≡ S.layers plan }
-{
-    let start = sheet::start_index(flags);
-    let label_w = circular::largest(widths);
-    let label_h = circular::largest(heights);
-    let mut room = [Ends {
-        source: 0,
-        target: 0,
-    }; 256];
-    let arrows = &mut room[..sources.len()];
-    put_ends(sources, targets, arrows);
-    layered::layered(start, arrows, label_w, label_h, xs, ys);
-}
+    // The centres on the ring.
+    #[tactic(auto, unfolding(crate::specs::Layout::ring))]
+    pub fn ring(&self, centres: &mut [V])
+        requires whole { C.Whole self.now }
+        requires some { 0 < length self.now.flags.now }
+        requires level { length centres.old ≡ length self.now.flags.now }
+        ensures { centres.new ≡ S.centres_of (S.ring (C.plan_in self.now)) }
+    {
+        let start = sheet::start_index(self.flags);
+        circular::circular(start, widest(self.sizes), centres);
+    }
 
-// The centres on the ring.
-pub fn ring_at(flags: &[u8], widths: &[f64], xs: &mut [f64], ys: &mut [f64])
-    requires { C.StateSlices flags.now xs.old ys.old }
-    ensures { S.placing xs.new ys.new
-        ≡ S.ring_by (length flags.now) (start_index flags.now) (largest widths.now) }
-{
-    circular::circular(sheet::start_index(flags), circular::largest(widths), xs, ys);
-}
-
-// The centres of a placement.
-pub fn place(
-    placement: Placement,
-    flags: &[u8],
-    sources: &[usize],
-    targets: &[usize],
-    widths: &[f64],
-    heights: &[f64],
-    xs: &mut [f64],
-    ys: &mut [f64],
-)
-    requires { C.GraphSlices flags.now sources.now targets.now widths.now heights.now xs.old ys.old }
-    ensures { let plan = S.plan_by flags.now sources.now targets.now
-        widths.now heights.now in
-        S.placing xs.new ys.new ≡ S.placed placement plan }
-{
-    match placement {
-        Placement::Layers => layers_at(flags, sources, targets, widths, heights, xs, ys),
-        Placement::Ring => ring_at(flags, widths, xs, ys),
+    // The centres of a placement.
+    pub fn place(&self, placement: Placement, centres: &mut [V])
+        requires whole { C.Whole self.now }
+        requires some { 0 < length self.now.flags.now }
+        requires level { length centres.old ≡ length self.now.flags.now }
+        ensures { centres.new ≡ S.centres_of (S.placed placement (C.plan_in self.now)) }
+    {
+        match placement {
+            Placement::Layers => self.layers(centres),
+            Placement::Ring => self.ring(centres),
+        }
     }
 }
 
 // ---- what is measured
 
-// The clutter at these centres, with room for centres that count as 0 where they are not finite.
-fn clutter_by(
-    flags: &[u8],
-    sources: &[usize],
-    targets: &[usize],
-    widths: &[f64],
-    heights: &[f64],
-    xs: &[f64],
-    ys: &[f64],
-    px: &mut [f64],
-    py: &mut [f64],
-) -> usize
-    requires { C.GraphSlices flags.now sources.now targets.now widths.now heights.now px.old py.old }
-    ensures { let plan = S.plan_by flags.now sources.now targets.now
-        widths.now heights.now in
-        result ≡ S.clutter_at plan (S.placing xs.now ys.now) }
-{
-    let mut records = [0.0f64; RECORD_NUMBERS * 256];
-    let count = geometry::geometry(
-        flags,
-        sources,
-        targets,
-        widths,
-        heights,
-        xs,
-        ys,
-        &mut records,
-    );
-    curves::centred(xs, px);
-    curves::centred(ys, py);
-    clutter::clutter(px, py, &records, count)
-}
+impl<'a> Plan<'a> {
+    // The drawing at these centres, in the room lent for it.
+    fn draw<'b>(&self, nodes: &[V], room: &'b mut [Geometry]) -> &'b [Geometry]
+        requires whole { C.Whole self.now }
+        requires level { length nodes.now ≡ length self.now.flags.now }
+        requires room { 256 ≤ length room.old }
+        ensures { let plan = C.plan_in self.now in
+            result.now ≡ records (frame_with plan.flags nodes.now plan.arrows) plan.sizes }
+    {
+        let frame = Frame {
+            flags: self.flags,
+            centres: nodes,
+            arrows: self.arrows,
+        };
+        let count = geometry::geometry(&frame, self.sizes, room);
+        &room[..count]
+    }
 
-// The clutter at these centres.
-fn clutter_at(
-    flags: &[u8],
-    sources: &[usize],
-    targets: &[usize],
-    widths: &[f64],
-    heights: &[f64],
-    xs: &[f64],
-    ys: &[f64],
-) -> usize
-    requires { (0 < length flags.now)
-        × (length flags.now ≤ 64)
-        × C.ArrowSlices sources.now targets.now widths.now heights.now }
-    ensures { let plan = S.plan_by flags.now sources.now targets.now
-        widths.now heights.now in
-        result ≡ S.clutter_at plan (S.placing xs.now ys.now) }
-{
-    let mut px = [0.0f64; 64];
-    let mut py = [0.0f64; 64];
-    let n = flags.len();
-    clutter_by(
-        flags,
-        sources,
-        targets,
-        widths,
-        heights,
-        xs,
-        ys,
-        &mut px[..n],
-        &mut py[..n],
-    )
-}
+    // The clutter at these centres.
+    fn clutter(&self, centres: &[V]) -> usize
+        requires whole { C.Whole self.now }
+        requires level { length centres.now ≡ length self.now.flags.now }
+        ensures { result ≡ S.clutter_at (C.plan_in self.now) (C.placing_of centres.now) }
+    {
+        let mut space = [ORIGIN; 64];
+        let nodes = &mut space[..centres.len()];
+        curves::zeroed(centres, nodes);
+        let mut room = [NO_GEOMETRY; 256];
+        let drawn = self.draw(nodes, &mut room);
+        clutter::clutter(nodes, drawn)
+    }
 
-// The clutter of a placement, whose centres are left in the slices.
-fn placed_clutter(
-    placement: Placement,
-    flags: &[u8],
-    sources: &[usize],
-    targets: &[usize],
-    widths: &[f64],
-    heights: &[f64],
-    xs: &mut [f64],
-    ys: &mut [f64],
-) -> usize
-    requires { C.GraphSlices flags.now sources.now targets.now widths.now heights.now xs.old ys.old }
-    ensures { let plan = S.plan_by flags.now sources.now targets.now
-        widths.now heights.now in
-        result ≡ S.clutter_at plan (S.placed placement plan) }
-{
-    place(placement, flags, sources, targets, widths, heights, xs, ys);
-    clutter_at(flags, sources, targets, widths, heights, xs, ys)
+    // The clutter of a placement.
+    fn placed_clutter(&self, placement: Placement) -> usize
+        requires whole { C.Whole self.now }
+        requires some { 0 < length self.now.flags.now }
+        ensures { let plan = C.plan_in self.now in
+            result ≡ S.clutter_at plan (S.placed placement plan) }
+    {
+        let mut space = [ORIGIN; 64];
+        let centres = &mut space[..self.flags.len()];
+        self.place(placement, centres);
+        self.clutter(centres)
+    }
 }
 
 // ---- the choice
 
-// Whether m arrows are more than 2.5 for each of n states.
-pub fn dense(n: usize, m: usize) -> bool
-    requires { (n ≤ 64) × (m ≤ 256) }
-    ensures { result ≡ S.is_more n m }
-{
-    2.5 * (n as f64) < (m as f64)
-}
-
-// Whether Auto takes the ring; the slices are room for centres.
-fn takes_ring(
-    flags: &[u8],
-    sources: &[usize],
-    targets: &[usize],
-    widths: &[f64],
-    heights: &[f64],
-    xs: &mut [f64],
-    ys: &mut [f64],
-) -> bool
-    requires { C.GraphSlices flags.now sources.now targets.now widths.now heights.now xs.old ys.old }
-    ensures { let plan = S.plan_by flags.now sources.now targets.now
-        widths.now heights.now in
-        result ≡ S.takes_ring plan }
-{
-    if dense(flags.len(), sources.len()) {
-        return true;
+impl<'a> Plan<'a> {
+    // Whether there are more than 2.5 arrows for each state.
+    #[tactic(auto, unfolding(crate::specs::Layout::is_dense))]
+    pub fn dense(&self) -> bool
+        requires whole { C.Whole self.now }
+        ensures { result ≡ S.is_dense (C.plan_in self.now) }
+    {
+        2.5 * (self.flags.len() as f64) < (self.arrows.len() as f64)
     }
-    let layers = placed_clutter(
-        Placement::Layers,
-        flags,
-        sources,
-        targets,
-        widths,
-        heights,
-        xs,
-        ys,
-    );
-    let ring = placed_clutter(
-        Placement::Ring,
-        flags,
-        sources,
-        targets,
-        widths,
-        heights,
-        xs,
-        ys,
-    );
-    ring + AUTO_TOLERANCE < layers
-}
 
-// The placement by kind; the slices are room for centres.
-fn choose(
-    kind: Kind,
-    flags: &[u8],
-    sources: &[usize],
-    targets: &[usize],
-    widths: &[f64],
-    heights: &[f64],
-    xs: &mut [f64],
-    ys: &mut [f64],
-) -> Placement
-    requires { C.GraphSlices flags.now sources.now targets.now widths.now heights.now xs.old ys.old }
-    ensures { let plan = S.plan_by flags.now sources.now targets.now
-        widths.now heights.now in
-        S.placed result plan ≡ S.chosen (S.kind_number kind) plan }
-{
-    match kind {
-        Kind::Layered => Placement::Layers,
-        Kind::Circular => Placement::Ring,
-        Kind::Auto => {
-            if takes_ring(flags, sources, targets, widths, heights, xs, ys) {
-                return Placement::Ring;
+    // Whether Auto takes the ring.
+    fn takes_ring(&self) -> bool
+        requires whole { C.Whole self.now }
+        requires some { 0 < length self.now.flags.now }
+        ensures { result ≡ S.takes_ring (C.plan_in self.now) }
+    {
+        if self.dense() {
+            return true;
+        }
+        let layers = self.placed_clutter(Placement::Layers);
+        let ring = self.placed_clutter(Placement::Ring);
+        ring + AUTO_TOLERANCE < layers
+    }
+
+    // The placement by kind.
+    fn choose(&self, kind: Kind) -> Placement
+        requires whole { C.Whole self.now }
+        requires some { 0 < length self.now.flags.now }
+        ensures { let plan = C.plan_in self.now in
+            S.placed result plan ≡ S.chosen (S.kind_number kind) plan }
+    {
+        match kind {
+            Kind::Layered => Placement::Layers,
+            Kind::Circular => Placement::Ring,
+            Kind::Auto => {
+                if self.takes_ring() {
+                    return Placement::Ring;
+                }
+                Placement::Layers
             }
-            Placement::Layers
         }
     }
 }
 
 // ---- the fit
 
-// Fits the drawing at these centres.
-fn fit_at(
-    flags: &[u8],
-    sources: &[usize],
-    targets: &[usize],
-    widths: &[f64],
-    heights: &[f64],
-    xs: &mut [f64],
-    ys: &mut [f64],
-) -> Size
-    requires { C.GraphSlices flags.now sources.now targets.now widths.now heights.now xs.old ys.old }
-    ensures { let plan = S.plan_by flags.now sources.now targets.now
-        widths.now heights.now in
-        C.Left (S.fitted plan (S.placing xs.old ys.old)) result xs.new ys.new }
-{
-    let mut records = [0.0f64; RECORD_NUMBERS * 256];
-    let count = geometry::geometry(
-        flags,
-        sources,
-        targets,
-        widths,
-        heights,
-        xs,
-        ys,
-        &mut records,
-    );
-    fit::fit(flags, &records, count, xs, ys)
-}
-
-// The layout by kind: the centres, and the size of the drawing.
-pub fn layout(
-    kind: Kind,
-    flags: &[u8],
-    sources: &[usize],
-    targets: &[usize],
-    widths: &[f64],
-    heights: &[f64],
-    xs: &mut [f64],
-    ys: &mut [f64],
-) -> Size
-    requires { C.LayoutSlices flags.now sources.now targets.now widths.now heights.now xs.old ys.old }
-    ensures { let plan = S.plan_by flags.now sources.now targets.now
-        widths.now heights.now in
-        C.Left (S.layout_of (S.kind_number kind) plan) result xs.new ys.new }
-{
-    if flags.len() == 0 {
-        return Size {
-            width: 2.0 * MARGIN,
-            height: 2.0 * MARGIN,
-        };
+impl<'a> Plan<'a> {
+    // Fits the drawing at these centres.
+    fn fit(&self, centres: &mut [V]) -> Size
+        requires whole { C.Whole self.now }
+        requires level { length centres.old ≡ length self.now.flags.now }
+        ensures { C.Left (S.fitted (C.plan_in self.now) (C.placing_of centres.old)) result centres.new }
+    {
+        let mut space = [ORIGIN; 64];
+        let nodes = &mut space[..centres.len()];
+        curves::zeroed(centres, nodes);
+        let mut room = [NO_GEOMETRY; 256];
+        let drawn = self.draw(nodes, &mut room);
+        fit::fit(self.flags, drawn, centres)
     }
-    let placement = choose(kind, flags, sources, targets, widths, heights, xs, ys);
-    place(placement, flags, sources, targets, widths, heights, xs, ys);
-    fit_at(flags, sources, targets, widths, heights, xs, ys)
+
+    // The layout by kind: the centres, and the size of the drawing.
+    pub fn layout(&self, kind: Kind, centres: &mut [V]) -> Size
+        requires whole { C.Whole self.now }
+        requires level { length centres.old ≡ length self.now.flags.now }
+        ensures { C.Left (S.layout_of (S.kind_number kind) (C.plan_in self.now)) result centres.new }
+    {
+        if self.flags.is_empty() {
+            return Size {
+                width: 2.0 * MARGIN,
+                height: 2.0 * MARGIN,
+            };
+        }
+        let placement = self.choose(kind);
+        self.place(placement, centres);
+        self.fit(centres)
+    }
 }

@@ -120,7 +120,7 @@ pub fn arrow_count(s: &[u8]) -> usize
 }
 
 // The value of each record of a chain, into `out` as far as it reaches.
-fn each_into<T: Copy + Drop, F: Fn(u16) -> T>(mut chain: Chain, out: &mut [T], value: F)
+pub fn each_into<T: Copy + Drop, F: Fn(u16) -> T>(mut chain: Chain, out: &mut [T], value: F)
     requires { F.IsAlwaysCallable value }
     ensures { (f : _) → M.Computes (F.post value) f → out.new ≡ put out.old 0 (map f (chain_rest chain.entry)) }
 {
