@@ -1,6 +1,5 @@
 pub mod Directions
 pub mod Loop
-pub mod Steps
 pub mod Lengths
 pub mod Sorted
 pub mod Rims

@@ -1,6 +1,6 @@
 -- A sheet checked and routed at given centres: what refuses it, what is answered, and what the lent slice then holds.
 use Rattle.std.specs.Prelude.{Bool, ◌&&◌, ◌||◌, ℕ, length, take, Float}
-use mathlib.Core.List.{List, [], ◌∷◌, ◌++◌, flat_map}
+use mathlib.Core.List.{List, [], ◌∷◌, ◌++◌, map}
 use Rattle.std.specs.Float.Ieee.Scale.{finite}
 use Rattle.laws.specs.Put.{put}
 use Rattle.laws.specs.Refusals.{Refusal, refusal, decide}
@@ -8,13 +8,21 @@ use Rattle.laws.specs.Any.{any_of}
 use Rattle.float.specs.Ops.{lt}
 use Rattle.float.specs.Constants.{f2e20}
 use Rattle.float.specs.Standins.{abs}
+use Rattle.shape.specs.declared.«V».{«V»}
 use Rattle.sheet.specs.Sheet.{Graph, meaning}
 use Rattle.sheet.specs.Refusals.{refusals}
 use Rattle.sheet.specs.declared.Limits.{Limits}
-use Rattle.records.specs.Records.{fields}
+use Rattle.label_spots.specs.declared.Geometry.{Geometry}
 use Rattle.routing.specs.Sheets.{frame_of, records_of}
 use Rattle.beyond.specs.Beyond.{beyond}
 use Rattle.refusal.specs.Refused.{Outcome, values, number}
+
+-- the x and the y of each centre
+abbrev pub xs_of : List «V» → List Float
+xs_of cs = map (λ c. c.x) cs
+
+abbrev pub ys_of : List «V» → List Float
+ys_of cs = map (λ c. c.y) cs
 
 -- ---- 8: 'a finite x or y of an existing state's centre beyond 2^20 in size'
 
@@ -46,12 +54,12 @@ draw_refusals m s xs ys = refusals m s ++ centre_refusals (meaning s) xs ys
 abbrev pub draw_answer : List Refusal → Graph → List Float → List Float → Outcome ℕ
 draw_answer rs g xs ys = decide rs number (values (length (records_of g xs ys)))
 
--- the records from the front on, twenty numbers each, and behind them what stood there; a refused call leaves all as before
-abbrev pub left_by : List Refusal → Graph → List Float → List Float → List Float → List Float
-left_by rs g xs ys l = decide rs (λ n. l) (put l 0 (flat_map fields (records_of g xs ys)))
+-- the records from the front on, and behind them what stood there; a refused call leaves all as before
+abbrev pub left_by : List Refusal → Graph → List Float → List Float → List Geometry → List Geometry
+left_by rs g xs ys l = decide rs (λ n. l) (put l 0 (records_of g xs ys))
 
 abbrev pub draw_of : Limits → List ℕ → List Float → List Float → Outcome ℕ
 draw_of m s xs ys = draw_answer (draw_refusals m s xs ys) (meaning s) xs ys
 
-abbrev pub draw_after : Limits → List ℕ → List Float → List Float → List Float → List Float
+abbrev pub draw_after : Limits → List ℕ → List Float → List Float → List Geometry → List Geometry
 draw_after m s xs ys l = left_by (draw_refusals m s xs ys) (meaning s) xs ys l

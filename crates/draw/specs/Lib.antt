@@ -1,3 +1,3 @@
 pub mod Drawn
-pub mod Read
+pub mod Given
 pub mod Worked

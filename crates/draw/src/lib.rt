@@ -1,13 +1,32 @@
-// A sheet checked and routed at given centres.
+// A sheet checked and drawn at given centres.
 #![tactic(auto)]
 
-ghost use Rattle.std.specs.Prelude.{◌≡◌, ◌≤◌, length};
+ghost use Rattle.std.specs.Prelude.{◌≡◌, ◌||◌, ◌≤◌, length};
 ghost use Rattle.refusal.specs.Refused.{outcome};
+ghost use Rattle.float.specs.Constants.{f0};
 ghost use Rattle.sheet.specs.Sheet as G;
 ghost use Rattle.draw.specs.Drawn as S;
+ghost use Rattle.draw.specs.Given.{given, number_given};
 
+use curves::Frame;
+use label::Block;
+use label_spots::Geometry;
 use refusal::Refusal;
-use sheet::Limits;
+use shape::V;
+use sheet::{Ends, Limits};
+
+// What fills the space for centres, ends and sizes.
+const ORIGIN: V = V { x: 0.0, y: 0.0 };
+
+const NO_ENDS: Ends = Ends {
+    source: 0,
+    target: 0,
+};
+
+const NO_SIZE: Block = Block {
+    width: 0.0,
+    height: 0.0,
+};
 
 // ---- 8
 
@@ -18,131 +37,102 @@ const FARTHEST: f64 = 1048576.0;
 fn far(v: f64) -> bool
     ensures { result ≡ S.far v }
 {
-    if float::is_finite(v) {
-        return FARTHEST < float::abs(v);
-    }
-    false
+    float::is_finite(v) && FARTHEST < float::abs(v)
 }
 
-// Whether one of the first n is.
-fn some_far(l: &[f64], n: usize) -> bool
-    ensures { result ≡ S.some_far n l.now }
+// Whether x or y of one of the first n centres is.
+fn far_centre(centres: &[V], n: usize) -> bool
+    ensures { result ≡ S.far_centre n (S.xs_of centres.now) (S.ys_of centres.now) }
 {
-    let mut i: usize = 0;
-    let mut left = n;
-    while 0 < left {
-        if l.len() <= i {
-            return false;
-        }
-        if far(l[i]) {
-            return true;
-        }
-        i += 1;
-        left -= 1;
-    }
-    false
-}
-
-// Whether one of the first n centres is refused.
-fn far_centre(xs: &[f64], ys: &[f64], n: usize) -> bool
-    ensures { result ≡ S.far_centre n xs.now ys.now }
-{
-    if some_far(xs, n) {
-        return true;
-    }
-    some_far(ys, n)
+    centres.iter().take(n).any(|c| far(c.x) || far(c.y))
 }
 
 // ---- the call
 
-// Routes a sheet, what is read of it in the slices lent for that.
-fn draw_read(
+// Draws a sheet of n states and m arrows whose centres are not far.
+fn draw_near(
     s: &[u8],
-    flags: &mut [u8],
-    sources: &mut [usize],
-    targets: &mut [usize],
-    widths: &mut [f64],
-    heights: &mut [f64],
-    xs: &[f64],
-    ys: &[f64],
-    buf: &mut [f64],
+    n: usize,
+    m: usize,
+    centres: &[V],
+    out: &mut [Geometry],
 ) -> Result<usize, Refusal>
-    requires fact { let states = length (G.states_of s.now) in
-        (length flags.old ≡ states)
-        × (states ≤ 64)
-        × (5120 ≤ length buf.old) }
-    requires fact_2 { let arrows = length (G.arrows_of s.now) in
-        (length sources.old ≡ arrows)
-        × (length targets.old ≡ arrows)
-        × (length widths.old ≡ arrows)
-        × (length heights.old ≡ arrows)
-        × (arrows ≤ 256) }
+    requires states { (n ≡ length (G.states_of s.now)) × (n ≤ 64) }
+    requires arrows { (m ≡ length (G.arrows_of s.now)) × (m ≤ 256) }
+    requires room { m ≤ length out.old }
     ensures { let graph = G.meaning s.now in
-        let refusals = S.bow_refusals graph xs.now ys.now in
-        (outcome result ≡ S.draw_answer refusals graph xs.now ys.now)
-        × (buf.new ≡ S.left_by refusals graph xs.now ys.now buf.old) }
-{
-    graph::read_graph(s, flags, sources, targets, widths, heights);
-    if beyond::beyond(flags, sources, targets, xs, ys) {
-        return Err(Refusal::Bow);
-    }
-    Ok(geometry::geometry(flags, sources, targets, widths, heights, xs, ys, buf))
-}
-
-// Routes a sheet of n states whose centres are not far.
-fn draw_near(s: &[u8], n: usize, xs: &[f64], ys: &[f64], buf: &mut [f64]) -> Result<usize, Refusal>
-    requires { (n ≡ length (G.states_of s.now))
-        × (n ≤ 64)
-        × (length (G.arrows_of s.now) ≤ 256)
-        × (5120 ≤ length buf.old) }
-    ensures { let graph = G.meaning s.now in
-        let refusals = S.bow_refusals graph xs.now ys.now in
-        (outcome result ≡ S.draw_answer refusals graph xs.now ys.now)
-        × (buf.new ≡ S.left_by refusals graph xs.now ys.now buf.old) }
+        let xs = S.xs_of centres.now in
+        let ys = S.ys_of centres.now in
+        let refusals = S.bow_refusals graph xs ys in
+        (outcome result ≡ S.draw_answer refusals graph xs ys)
+        × (out.new ≡ S.left_by refusals graph xs ys out.old) }
 {
     let mut flags = [0u8; 64];
-    let mut sources = [0usize; 256];
-    let mut targets = [0usize; 256];
-    let mut widths = [0.0f64; 256];
-    let mut heights = [0.0f64; 256];
-    let m = meaning::arrow_count(s);
-    draw_read(
-        s,
-        &mut flags[..n],
-        &mut sources[..m],
-        &mut targets[..m],
-        &mut widths[..m],
-        &mut heights[..m],
-        xs,
-        ys,
-        buf,
-    )
+    let mut arrows = [NO_ENDS; 256];
+    let mut sizes = [NO_SIZE; 256];
+    graph::read_graph(s, &mut flags[..n], &mut arrows[..m], &mut sizes[..m]);
+    let mut counted = [ORIGIN; 64];
+    let there = n.min(centres.len());
+    curves::zeroed(&centres[..there], &mut counted[..there]);
+    let frame = Frame {
+        flags: &flags[..n],
+        centres: &counted[..n],
+        arrows: &arrows[..m],
+    };
+    if beyond::beyond(&frame) {
+        return Err(Refusal::Bow);
+    }
+    Ok(geometry::geometry(&frame, &sizes[..m], out))
 }
 
-// Routes a sheet of at most 64 states and 256 arrows.
-fn draw_accepted(s: &[u8], xs: &[f64], ys: &[f64], buf: &mut [f64]) -> Result<usize, Refusal>
-    requires { (length (G.states_of s.now) ≤ 64)
-        × (length (G.arrows_of s.now) ≤ 256)
-        × (5120 ≤ length buf.old) }
+// Draws a sheet of at most 64 states and 256 arrows.
+fn draw_accepted(s: &[u8], centres: &[V], out: &mut [Geometry]) -> Result<usize, Refusal>
+    requires small { (length (G.states_of s.now) ≤ 64) × (length (G.arrows_of s.now) ≤ 256) }
+    requires room { 256 ≤ length out.old }
     ensures { let graph = G.meaning s.now in
-        let refusals = S.centre_refusals graph xs.now ys.now in
-        (outcome result ≡ S.draw_answer refusals graph xs.now ys.now)
-        × (buf.new ≡ S.left_by refusals graph xs.now ys.now buf.old) }
+        let xs = S.xs_of centres.now in
+        let ys = S.ys_of centres.now in
+        let refusals = S.centre_refusals graph xs ys in
+        (outcome result ≡ S.draw_answer refusals graph xs ys)
+        × (out.new ≡ S.left_by refusals graph xs ys out.old) }
 {
     let n = meaning::state_count(s);
-    if far_centre(xs, ys, n) {
+    if far_centre(centres, n) {
         return Err(Refusal::Centre);
     }
-    draw_near(s, n, xs, ys, buf)
+    draw_near(s, n, meaning::arrow_count(s), centres, out)
 }
 
-// Checks a sheet under the limits and routes it at the given centres: the records, twenty numbers each, from the front
-// of `buf` on, or a refusal. There is room for 64 states and 256 arrows.
-pub fn draw(s: &[u8], m: Limits, xs: &[f64], ys: &[f64], buf: &mut [f64]) -> Result<usize, Refusal>
-    requires { (m.states ≤ 64) × (m.arrows ≤ 256) × (5120 ≤ length buf.old) }
-    ensures { (outcome result ≡ S.draw_of m s.now xs.now ys.now)
-        × (buf.new ≡ S.draw_after m s.now xs.now ys.now buf.old) }
+// Checks a sheet under the limits and draws it at the given centres: the records, from the front of `out` on, or a
+// refusal; how many records. There is room for 64 states and 256 arrows.
+pub fn draw(s: &[u8], m: Limits, centres: &[V], out: &mut [Geometry]) -> Result<usize, Refusal>
+    requires small { (m.states ≤ 64) × (m.arrows ≤ 256) }
+    requires room { 256 ≤ length out.old }
+    ensures { let xs = S.xs_of centres.now in
+        let ys = S.ys_of centres.now in
+        (outcome result ≡ S.draw_of m s.now xs ys)
+        × (out.new ≡ S.draw_after m s.now xs ys out.old) }
 {
     sheet_check::check_within(s, m)?;
-    draw_accepted(s, xs, ys, buf)
+    draw_accepted(s, centres, out)
+}
+
+// ---- for callers to whom x and y are given apart
+
+// Number k of those given, 0 for one that is missing.
+fn number_given(l: &[f64], k: usize) -> f64
+    ensures { result ≡ number_given l.now k }
+{
+    l.get(k).copied().unwrap_or(0.0)
+}
+
+// The centres given, 0 for what is missing.
+pub fn given(xs: &[f64], ys: &[f64]) -> [V; 64]
+    ensures { result ≡ given xs.now ys.now }
+{
+    let mut centres = [ORIGIN; 64];
+    for k in 0..64 {
+        centres[k] = V::new(number_given(xs, k), number_given(ys, k));
+    }
+    centres
 }

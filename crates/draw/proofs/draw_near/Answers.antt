@@ -1,28 +1,26 @@
--- `draw::draw_near` meets its contract.
-use mathlib.Core.Path.{◌≡◌, sym, ◌∙◌}
-use lib.ListN.{length}
-use Rattle.sheet.specs.Sheet.{arrows_of}
-use native.Mathlib.Omega.{arith}
-use lib.Seq.{length-take-le}
+use Rattle.std.proofs.Common.{sym, ◌∙◌}
+use Rattle.sheet.specs.Sheet.{Graph, meaning}
+use Rattle.draw.specs.Drawn.{xs_of, ys_of}
+use Rattle.draw.proofs.Laws.{frame_read, sizes_read, draw_refused, draw_drawn}
 use Rattle.draw.proofs.draw_near.Goals as goal
 
-pub slice_bounds-draw_read-end : goal.slice_bounds-draw_read-end
-slice_bounds-draw_read-end c = sym (length-take-le _ _ (omega arith))
+pub returns-then-beyond : goal.returns-then-beyond
+returns-then-beyond c =
+    let a = c.args in
+    let g : Graph = meaning a.s.now in
+    let r = c.read_graph.ensures in
+    let q = c.requires in
+    draw_refused g (xs_of a.centres.now) (ys_of a.centres.now)
+    (frame_read g a.centres.now _ _ r.0 r.1 c.zeroed.ensures q.states.0 q.arrows.0 q.states.1 c.min-there.ensures)
+    a.out.now (sym c.beyond.ensures ∙ c.if-beyond.true)
 
-pub slice_bounds-draw_read-end-2 : goal.slice_bounds-draw_read-end-2
-slice_bounds-draw_read-end-2 c = sym (length-take-le _ _ (omega arith))
-
-pub slice_bounds-draw_read-end-3 : goal.slice_bounds-draw_read-end-3
-slice_bounds-draw_read-end-3 c = sym (length-take-le _ _ (omega arith))
-
-pub slice_bounds-draw_read-end-4 : goal.slice_bounds-draw_read-end-4
-slice_bounds-draw_read-end-4 c = sym (length-take-le _ _ (omega arith))
-
-pub slice_bounds-draw_read-end-5 : goal.slice_bounds-draw_read-end-5
-slice_bounds-draw_read-end-5 c = sym (length-take-le _ _ (omega arith))
-
-pub draw_read-requires : goal.draw_read-requires
-draw_read-requires c = let m : c.arrow_count-m.result ≡ length (arrows_of c.args.s.now) = c.arrow_count-m.ensures in record {
-  fact = (length-take-le _ _ (omega arith) ∙ c.requires.0, omega arith, omega arith);
-  fact_2 = (length-take-le _ _ (omega arith) ∙ m, length-take-le _ _ (omega arith) ∙ m, length-take-le _ _ (omega arith) ∙ m, length-take-le _ _ (omega arith) ∙ m, c.requires.2);
-}
+pub returns : goal.returns
+returns c =
+    let a = c.args in
+    let g : Graph = meaning a.s.now in
+    let r = c.read_graph.ensures in
+    let q = c.requires in
+    draw_drawn g (xs_of a.centres.now) (ys_of a.centres.now)
+    (frame_read g a.centres.now _ _ r.0 r.1 c.zeroed.ensures q.states.0 q.arrows.0 q.states.1 c.min-there.ensures)
+    (sizes_read g _ r.2 q.arrows.0)
+    c.geometry.result a.out.now _ (sym c.beyond.ensures ∙ c.if-beyond.false) c.geometry.ensures.0 c.geometry.ensures.1

@@ -1,13 +1,13 @@
--- `draw::far_centre` meets its contract.
-use mathlib.Core.Path.{sym, ◌∙◌}
-use Rattle.laws.specs.Bools.{or-first}
-use Rattle.draw.specs.Drawn.{some_far, far_centre}
+use Rattle.std.proofs.Common.{rules, tests, sym, ◌∙◌, ◌||◌}
+use Rattle.std.proofs.lemmas.Iterator.{YieldsList-from_slice, YieldsList-from_take}
+use Rattle.std.proofs.lemmas.Iterator.Search.{any_from_yields_List}
+use Rattle.draw.specs.Drawn.{far}
+use Rattle.draw.proofs.Laws.{far_either}
 use Rattle.draw.proofs.far_centre.Goals as goal
 
-pub returns-then-some_far : goal.returns-then-some_far
-unfolding far_centre
-returns-then-some_far c = sym (or-first (some_far c.args.n c.args.xs.now) (some_far c.args.n c.args.ys.now) (sym c.some_far.ensures ∙ c.if-some_far.true))
-
 pub returns : goal.returns
-unfolding far_centre
-returns c = rw (sym c.some_far.ensures ∙ c.if-some_far.false) c.some_far-2.ensures
+returns c =
+    let a = c.args in
+    any_from_yields_List (λ v. far v.x || far v.y) _ _ _ c.any.ensures.ran
+    (YieldsList-from_take a.n (YieldsList-from_slice a.centres.now (cc)) (cc)) (λ x b q k. search (rules, tests))
+    ∙ sym (far_either a.n a.centres.now)
