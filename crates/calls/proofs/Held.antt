@@ -44,7 +44,8 @@ module _ (s : List ℕ) (k : Limits) (xs ys : List Float) (few_states : k.states
       let e : values (length gs) ≡ draw_of k s us vs = sym (draw_given k s xs ys few_states ∙ clear_decides number _ _ c) in
       let w = answered-clear (draw_refusals k s us vs) (length (drawn_of s us vs)) (length gs) e in
       let q : draw_after k s us vs gs ≡ draw_after k s xs ys gs = after_given k s xs ys few_states gs in
-      let d : drawn_of s us vs ≡ gs = sym (put_whole gs (drawn_of s us vs) w.1) ∙ sym (clear_decides (λ n. gs) _ _ w.0) ∙ q ∙ clear_decides (λ n. gs) _ _ c ∙ put_whole gs gs refl in
+      let d : drawn_of s us vs ≡ gs = sym (put_whole gs (drawn_of s us vs) w.1) ∙ sym (clear_decides (λ n. gs) _ _ w.0)
+                                      ∙ q ∙ clear_decides (λ n. gs) _ _ c ∙ put_whole gs gs refl in
       clear_decides number _ _ w.0 ∙ ap (λ (hs : List Geometry). values hs) d ∙ sym (clear_decides number _ _ c)
 
   pub drawing_given : (cs : List «V») → cs ≡ given xs ys → drawing_at k s (xs_of cs) (ys_of cs) ≡ drawing_at k s xs ys
@@ -82,8 +83,8 @@ module _ (s : List ℕ) (k : Limits) (xs ys : List Float) where
         }
 
     -- so many are drawn, at the front of what was lent
-    pub drawing_left : (count : ℕ) (before after : List Geometry) → 256 ≤ length before → values count ≡ draw_of k s xs ys → after ≡ draw_after k s xs ys before
-        → (count ≤ 256) × (values (take count after) ≡ drawing_at k s xs ys)
+    pub drawing_left : (count : ℕ) (before after : List Geometry) → 256 ≤ length before → values count ≡ draw_of k s xs ys
+        → after ≡ draw_after k s xs ys before → (count ≤ 256) × (values (take count after) ≡ drawing_at k s xs ys)
     drawing_left count before after h e q =
         let rs = draw_refusals k s xs ys in
         let w = answered-clear rs (length (drawn_of s xs ys)) count e in

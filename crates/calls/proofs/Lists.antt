@@ -4,7 +4,8 @@ use Rattle.std.proofs.Common.{refl, sym, ap, ◌∙◌, arith, ltb-false}
 use Rattle.std.proofs.lemmas.List.{length-map}
 use Rattle.laws.specs.Cases.{by_bool}
 use Rattle.laws.specs.Filled.{front_is}
-use Rattle.laws.specs.Zip.{zip_length, map_zip_first, map_zip_second}
+use Rattle.laws.specs.Put.{put}
+use Rattle.laws.specs.Zip.{zip_length}
 use Rattle.laws.specs.Refusals.{Refusal, refusal, decide, Clear, First, FirstOrClear, stops, goes, first_or_clear, clear_none, clear_from, first_decides, clear_decides, first-joined, clear-joined}
 use Rattle.sheet.specs.Sheet.{meaning, flags_of}
 use Rattle.sheet.specs.Refusals.{refusals}
@@ -20,6 +21,7 @@ use Rattle.totals.specs.declared.Totals.{Totals}
 use Rattle.totals.specs.Totals.{totals_of}
 use Rattle.drawing_text.specs.Lines.{list_text, list_writable}
 use Rattle.draw.specs.Drawn.{xs_of, ys_of, far_centre, draw_refusals}
+use Rattle.draw.specs.Given.{xs_centres, ys_centres}
 use Rattle.layout.specs.Layout.{plan_of, last_kind}
 use Rattle.plan.specs.Measured.{layout_beyond}
 use Rattle.layout.specs.Alike.{layout-whole}
@@ -68,8 +70,8 @@ module _ (s : List ℕ) (m : Limits) (kind : ℕ) where
       let i : n ≡ length (meaning s).states = ap (λ (t : ℕ × Float × Float). t.0) p.1 in
       omega (arith, (shown_by p.0).states)
 
-  pub laid : {k : Limits} → k ≡ capped_limits m → (n : ℕ) (w h : Float) (before after : List «V») → 64 ≤ length before → values (n, w, h) ≡ planned k kind s
-      → after ≡ centres_planned k kind s before → Laid s m kind n w h (take n after)
+  pub laid : {k : Limits} → k ≡ capped_limits m → (n : ℕ) (w h : Float) (before after : List «V») → 64 ≤ length before
+      → values (n, w, h) ≡ planned k kind s → after ≡ centres_planned k kind s before → Laid s m kind n w h (take n after)
   laid {k} o n w h before after i e f =
       let p = plan-clear o n w h e in
       let c : Clear planning = p.0 in
@@ -79,8 +81,8 @@ module _ (s : List ℕ) (m : Limits) (kind : ℕ) where
       let z = layout-whole kind (meaning s) (ltb-false last_kind kind (c.none 11)) in
       let same : length l.ys ≡ length l.xs = z.1 ∙ sym z.0 in
       let j : length (centres l.xs l.ys) ≡ length (meaning s).states = zip_length vec l.xs l.ys same ∙ z.0 in
-      let x : take n after ≡ centres l.xs l.ys = front_is before (centres l.xs l.ys) n after (r ∙ sym j) (omega (arith, q.states))
-                                                 (f ∙ ap (λ (l : Limits). centres_planned l kind s before) o ∙ clear_decides (λ j. before) _ planning c) in
+      let y : after ≡ put before 0 (centres l.xs l.ys) = f ∙ ap (λ (l : Limits). centres_planned l kind s before) o ∙ clear_decides (λ j. before) _ planning c in
+      let x : take n after ≡ centres l.xs l.ys = front_is before (centres l.xs l.ys) n after (r ∙ sym j) (omega (arith, q.states)) y in
       record {
         clear = c;
         many = r;
@@ -88,8 +90,8 @@ module _ (s : List ℕ) (m : Limits) (kind : ℕ) where
         wide = ap (λ (t : ℕ × Float × Float). t.1) p.1;
         high = ap (λ (t : ℕ × Float × Float). t.2) p.1;
         placed = x;
-        xs_are = ap xs_of x ∙ map_zip_first vec (λ c. c.x) (λ a b. refl) l.xs l.ys same;
-        ys_are = ap ys_of x ∙ map_zip_second vec (λ c. c.y) (λ a b. refl) l.xs l.ys same;
+        xs_are = ap xs_of x ∙ xs_centres l.xs l.ys same;
+        ys_are = ap ys_of x ∙ ys_centres l.xs l.ys same;
         centres_many = ap length x ∙ j ∙ sym r;
       }
 
@@ -116,13 +118,14 @@ module _ (s : List ℕ) (m : Limits) (kind : ℕ) where
         → PlacedInto (xs_of cs) (ys_of cs) w h xs ys r a b → Layouts r a b
     unfolding layout xs_after ys_after
     layout_laid n w h cs l r a b f =
-        let q : length (layout_for s kind).xs ≡ length (meaning s).states = sym (ap length l.xs_are) ∙ length-map cs (λ c. c.x) ∙ l.centres_many ∙ l.many in
-        let g : PlacedInto (layout_for s kind).xs (layout_for s kind).ys (layout_for s kind).width (layout_for s kind).height xs ys r a b = rw (l.xs_are, l.ys_are, l.wide, l.high) at f in (
+        let p = layout_for s kind in
+        let q : length p.xs ≡ length (meaning s).states = sym (ap length l.xs_are) ∙ length-map cs (λ c. c.x) ∙ l.centres_many ∙ l.many in
+        let g : PlacedInto p.xs p.ys p.width p.height xs ys r a b = rw (l.xs_are, l.ys_are, l.wide, l.high) at f in (
           g.0
-              ∙ ap (λ (k : ℕ). decide placing number (values (k, (layout_for s kind).width, (layout_for s kind).height))) q
+              ∙ ap (λ (k : ℕ). decide placing number (values (k, p.width, p.height))) q
               ∙ sym (clear-joined number _ planning placing l.clear),
-          g.1 ∙ sym (clear-joined (λ j. xs) (onto (layout_for s kind).xs xs) planning placing l.clear),
-          g.2 ∙ sym (clear-joined (λ j. ys) (onto (layout_for s kind).ys ys) planning placing l.clear),
+          g.1 ∙ sym (clear-joined (λ j. xs) (onto p.xs xs) planning placing l.clear),
+          g.2 ∙ sym (clear-joined (λ j. ys) (onto p.ys ys) planning placing l.clear),
         )
 
   -- ---- listing
@@ -186,8 +189,7 @@ module _ (s : List ℕ) (m : Limits) (kind : ℕ) where
     pub list_laid : {k : Limits} → k ≡ capped_limits m → (n : ℕ) (w h : Float) (cs : List «V») → Laid s m kind n w h cs → (r : Outcome ℕ) (b : List ℕ)
         → r ≡ listing_at k s w h cs (length out) → b ≡ listed_after k s w h cs out → Lists r b
     unfolding list list_after
-    list_laid c n w h cs l r b e f =
-        (
+    list_laid c n w h cs l r b e f = (
           rw (c, l.xs_are, l.ys_are, l.placed, l.wide, l.high) at e
               ∙ sym (list-met (length out) number (values (length (listing s kind))) ∙ clear_decides number _ planning l.clear),
           rw (c, l.xs_are, l.ys_are, l.placed, l.wide, l.high) at f

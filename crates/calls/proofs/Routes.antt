@@ -54,7 +54,11 @@ module _ (s : List ℕ) (m : Limits) (xs ys : List Float) {k : Limits} (c : k �
     unfolding route records_after text_after
     call_refused n e =
         let f : First drawing n = refusing n e in
-        (sym (first-joined number _ drawing filling n f), sym (first-joined (λ j. records) _ drawing filling n f), sym (first-joined (λ j. text) _ drawing filling n f))
+        (
+          sym (first-joined number _ drawing filling n f),
+          sym (first-joined (λ j. records) _ drawing filling n f),
+          sym (first-joined (λ j. text) _ drawing filling n f),
+        )
 
     pub call_drawn : (drawn : List Geometry) → DrawingHeld s k xs ys drawn → (r : Outcome (ℕ × ℕ)) (a : List Float) (b : List ℕ)
         → FilledInto drawn records text r a b → RouteLeaves r a b
@@ -71,9 +75,9 @@ module _ (s : List ℕ) (m : Limits) (xs ys : List Float) {k : Limits} (c : k �
   unfolding clutter
   clutter-refused n e = sym (first_decides number _ drawing n (refusing n e))
 
-  pub clutter-drawn : (drawn : List Geometry) → DrawingHeld s k xs ys drawn → (n : ℕ) (nodes : List «V») (j : ℕ) → n ≡ length (meaning s).states → nodes ≡ centres_at xs ys n
-      → j ≡ clutter_of nodes drawn → values j ≡ clutter s m xs ys
+  pub clutter-drawn : (drawn : List Geometry) → DrawingHeld s k xs ys drawn → (n : ℕ) (nodes : List «V») (j : ℕ)
+      → n ≡ length (meaning s).states → nodes ≡ centres_at xs ys n → j ≡ clutter_of nodes drawn → values j ≡ clutter s m xs ys
   unfolding clutter frame_of
   clutter-drawn drawn h n nodes j i e f =
       ap (λ (i : ℕ). values i) (f ∙ ap₂ clutter_of (e ∙ ap (centres_at xs ys) i) h.whole)
-      ∙ sym (clear_decides number (values (clutter_of (centres_at xs ys (length (meaning s).states)) (drawn_of s xs ys))) drawing (counting h.clear))
+      ∙ sym (clear_decides number _ drawing (counting h.clear))

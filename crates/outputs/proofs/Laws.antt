@@ -20,8 +20,9 @@ use Rattle.outputs.specs.Answers.{short, onto, numbers_of}
 -- ---- records
 
 -- record k in its place, after those before it
-pub record_step : (gs : List Geometry) (k j : ℕ) (d : Geometry) (l out r part : List Float) → k < length gs → out ≡ put l 0 (numbers_of (take k gs)) → r ≡ fields (get_or gs k d)
-    → 20 ≤ j → part ≡ put (take j (drop (20 * k) out)) 0 r → take (20 * k) out ++ (part ++ drop j (drop (20 * k) out)) ≡ put l 0 (numbers_of (take (k + 1) gs))
+pub record_step : (gs : List Geometry) (k j : ℕ) (d : Geometry) (l out r part : List Float) → k < length gs
+    → out ≡ put l 0 (numbers_of (take k gs)) → r ≡ fields (get_or gs k d) → 20 ≤ j → part ≡ put (take j (drop (20 * k) out)) 0 r
+    → take (20 * k) out ++ (part ++ drop j (drop (20 * k) out)) ≡ put l 0 (numbers_of (take (k + 1) gs))
 record_step gs k j d l out r part h o e i p =
     let g = get_or gs k d in
     let n : length (take k gs) ≡ k = length-take-le k gs (omega arith) in
@@ -60,8 +61,8 @@ module _ (gs : List Geometry) (records : List Float) (text : List ℕ) where
           fill_7 o (or-second (short (length records) (numbers_of gs)) (short (length text) (paths_text gs)) (lt-ltb _ _ i))
 
       -- q is the text as the writer left it, b as the call leaves it
-      pub fill_done : (m : ℕ) (a : List Float) (q b : List ℕ) → 20 * length gs ≤ length records → need ≤ length text → a ≡ put records 0 (numbers_of gs) → b ≡ q → Wrote text 0 q m (paths_text gs)
-          → Filled (values (20 * length gs, m)) a b
+      pub fill_done : (m : ℕ) (a : List Float) (q b : List ℕ) → 20 * length gs ≤ length records → need ≤ length text
+          → a ≡ put records 0 (numbers_of gs) → b ≡ q → Wrote text 0 q m (paths_text gs) → Filled (values (20 * length gs, m)) a b
       unfolding decide
       fill_done m a q b h i k l x =
           let n = length-records gs in

@@ -59,7 +59,8 @@ xs_placed across down xs yRoom = decide (place_refusals across down (length xs) 
 abbrev pub ys_placed : List Float → List Float → ℕ → List Float → List Float
 ys_placed across down xRoom ys = decide (place_refusals across down xRoom (length ys)) (λ (n : ℕ). ys) (onto down ys)
 
-abbrev pub PlacedInto : List Float → List Float → Float → Float → List Float → List Float → Outcome (ℕ × Float × Float) → List Float → List Float → Type 0
+abbrev pub PlacedInto : List Float → List Float → Float → Float → List Float → List Float → Outcome (ℕ × Float × Float)
+    → List Float → List Float → Type 0
 PlacedInto across down w h xs ys r a b =
     (r ≡ placed_as across down w h (length xs) (length ys))
     × (a ≡ xs_placed across down xs (length ys))

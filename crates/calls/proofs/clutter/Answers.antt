@@ -47,4 +47,6 @@ returns c = let a = c.args in
     let b = c.capped_limits-m in
     let e = c.in_ok-drawn.ensures ∙ drawing_given a.sheet.now b.result a.xs.now a.ys.now b.ensures.1 _ c.given-centres.ensures in
     let h = drawing_held a.sheet.now b.result a.xs.now a.ys.now b.ensures.1 b.ensures.2 _ e in
-    clutter-drawn a.sheet.now a.limits a.xs.now a.ys.now b.ensures.0 _ h c.state_count-n.result c.zeroed.new.room c.clutter.result c.state_count-n.ensures (c.zeroed.ensures ∙ nodes_given a.xs.now a.ys.now _ c.given-centres.ensures c.state_count-n.result (omega (arith, h.states, c.state_count-n.ensures))) c.clutter.ensures
+    let n = c.state_count-n in
+    clutter-drawn a.sheet.now a.limits a.xs.now a.ys.now b.ensures.0 _ h n.result _ _ n.ensures
+    (c.zeroed.ensures ∙ nodes_given a.xs.now a.ys.now _ c.given-centres.ensures n.result (omega (arith, h.states, n.ensures))) c.clutter.ensures

@@ -20,4 +20,5 @@ slice_bounds-write_layout-end c = let a = c.args in
 pub returns : goal.returns
 returns c = let a = c.args in
     let p = c.in_ok-states.ensures in
-    layout_laid a.sheet.now a.limits a.kind a.xs.now a.ys.now _ _ _ _ (laid a.sheet.now a.limits a.kind c.capped_limits-m.ensures.0 _ _ _ _ _ (omega arith) p.0 p.1) _ _ _ c.write_layout.ensures
+    let l = laid a.sheet.now a.limits a.kind c.capped_limits-m.ensures.0 _ _ _ _ _ (omega arith) p.0 p.1 in
+    layout_laid a.sheet.now a.limits a.kind a.xs.now a.ys.now _ _ _ _ l _ _ _ c.write_layout.ensures

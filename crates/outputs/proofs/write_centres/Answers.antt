@@ -9,7 +9,7 @@ pub loop-k-preserved : goal.loop-k-preserved
 loop-k-preserved c = let cs = c.args.centres.now in
     let l = c.loop-k in
     let h = c.loop-k-test.true in
-    (centre_step (λ c. c.x) cs l.k _ c.args.xs.now l.xs h l.invariant.0, centre_step (λ c. c.y) cs l.k _ c.args.ys.now l.ys h l.invariant.1)
+    (centre_step (λ c. c.x) cs l.k _ _ l.xs h l.invariant.0, centre_step (λ c. c.y) cs l.k _ _ l.ys h l.invariant.1)
 
 pub returns : goal.returns
 returns c = let cs = c.args.centres.now in

@@ -10,4 +10,6 @@ pub returns-then-ys-n : goal.returns-then-ys-n
 returns-then-ys-n c = place_ys _ _ _ _ _ _ _ (length-map _ _) (length-map _ _) c.if-ys-n.true
 
 pub returns : goal.returns
-returns c = place_done _ _ _ _ _ _ _ (length-map _ _) (length-map _ _) _ _ c.if-xs-n.false c.if-ys-n.false c.write_centres.ensures.0 c.write_centres.ensures.1
+returns c =
+    place_done _ _ _ _ _ _ _ (length-map _ _) (length-map _ _) _ _ c.if-xs-n.false c.if-ys-n.false
+    c.write_centres.ensures.0 c.write_centres.ensures.1
