@@ -1,69 +1,93 @@
--- A sheet's drawing, as it stands in a slice after it was drawn: nothing refused it, and its records are read back. Assumes nothing.
-use mathlib.Core.Path.{◌≡◌, refl, ◌∙◌}
-use mathlib.Core.List.{List, []}
-use Prim.Native.Nat.{ℕ, ◌*◌, ◌≤◌}
-use native.Mathlib.Omega.{arith}
-use lib.ListN.{length, take, length-map}
-use lib.Ieee.{Float}
-use Rattle.laws.specs.Flat.{part-new}
-use Rattle.laws.specs.Put.{put, length-put}
-use Rattle.laws.specs.Refusals.{Clear, First, clear_none, clear_from, clear_decides}
+-- A sheet's drawing, by what drawing the sheet answers: nothing refused it, and it is what is drawn. Assumes nothing.
+use Rattle.std.specs.Prelude.{◌≡◌, List, [], ℕ, ◌≤◌, length, take, Float}
+use Rattle.std.proofs.Common.{refl, sym, ap, ◌∙◌, arith}
+use Rattle.std.proofs.lemmas.List.{length-map}
+use Rattle.laws.specs.Filled.{front_is, put_whole}
+use Rattle.laws.specs.Refusals.{Clear, First, FirstOrClear, stops, goes, first_or_clear, clear_none, clear_from, first_decides, clear_decides}
 use Rattle.sheet.specs.Sheet.{meaning}
 use Rattle.sheet.specs.Refusals.{refusals}
 use Rattle.sheet.specs.Order.{accepted_exactly}
 use Rattle.sheet.specs.Accepted.{Within, within-limits}
 use Rattle.sheet.specs.declared.Limits.{Limits}
-use Rattle.records.specs.Records.{decode_records}
-use Rattle.records.specs.Back.{Small, length-records}
+use Rattle.shape.specs.declared.«V».{«V»}
+use Rattle.label_spots.specs.declared.Geometry.{Geometry}
 use Rattle.routing.specs.Sheets.{ends_of, frame_of, sizes_of}
-use Rattle.routing_laws.proofs.Decoded.{records_most, records-small, records_decoded}
-use Rattle.draw.specs.Drawn.{draw_refusals, draw_of, draw_after}
-use Rattle.calls.specs.Calls.{values, number, drawn_of, numbers_of}
+use Rattle.routing_laws.proofs.Decoded.{records_most}
+use Rattle.draw.specs.Drawn.{xs_of, ys_of, draw_refusals, draw_of, draw_after}
+use Rattle.draw.specs.Given.{given, draw_given, after_given}
+use Rattle.calls.specs.Calls.{Outcome, values, number, drawn_of}
 use Rattle.calls.specs.Decided.{refused-first, answered-clear}
-
--- ---- the drawing in the slice
+use Rattle.calls.specs.Drawing.{drawing_at}
 
 -- drawn under the limits k
-pub record DrawingHeld (s : List ℕ) (k : Limits) (xs ys : List Float) (count : ℕ) (slice : List Float) : Type 0 where
+pub record DrawingHeld (s : List ℕ) (k : Limits) (xs ys : List Float) (drawn : List Geometry) : Type 0 where
   pub clear : Clear (draw_refusals k s xs ys)
   pub states : length (meaning s).states ≤ 64
-  pub many : count ≡ length (drawn_of s xs ys)
-  pub few : count ≤ 256
-  pub room : 20 * count ≤ length slice
-  pub small : Small (drawn_of s xs ys)
-  pub decoded : decode_records count slice ≡ drawn_of s xs ys
-  pub numbers : take (20 * count) slice ≡ numbers_of (drawn_of s xs ys)
+  pub few : length drawn ≤ 256
+  pub whole : drawn ≡ drawn_of s xs ys
+
+-- drawn at the centres that are given, as at their numbers
+module _ (s : List ℕ) (k : Limits) (xs ys : List Float) (few_states : k.states ≤ 64) where
+  abbrev us : List Float
+  us = xs_of (given xs ys)
+
+  abbrev vs : List Float
+  vs = ys_of (given xs ys)
+
+  by_outcome : FirstOrClear (draw_refusals k s xs ys) → drawing_at k s us vs ≡ drawing_at k s xs ys
+  by_outcome (stops n f) =
+      let e : number n ≡ draw_of k s us vs = sym (draw_given k s xs ys few_states ∙ first_decides number _ _ n f) in
+      first_decides number _ _ n (refused-first (draw_refusals k s us vs) (length (drawn_of s us vs)) n e)
+      ∙ sym (first_decides number _ _ n f)
+  by_outcome (goes c) =
+      let gs = drawn_of s xs ys in
+      let e : values (length gs) ≡ draw_of k s us vs = sym (draw_given k s xs ys few_states ∙ clear_decides number _ _ c) in
+      let w = answered-clear (draw_refusals k s us vs) (length (drawn_of s us vs)) (length gs) e in
+      let q : draw_after k s us vs gs ≡ draw_after k s xs ys gs = after_given k s xs ys few_states gs in
+      let d : drawn_of s us vs ≡ gs = sym (put_whole gs (drawn_of s us vs) w.1) ∙ sym (clear_decides (λ n. gs) _ _ w.0)
+                                      ∙ q ∙ clear_decides (λ n. gs) _ _ c ∙ put_whole gs gs refl in
+      clear_decides number _ _ w.0 ∙ ap (λ (hs : List Geometry). values hs) d ∙ sym (clear_decides number _ _ c)
+
+  pub drawing_given : (cs : List «V») → cs ≡ given xs ys → drawing_at k s (xs_of cs) (ys_of cs) ≡ drawing_at k s xs ys
+  drawing_given cs e = rw e (by_outcome (first_or_clear (draw_refusals k s xs ys)))
 
 module _ (s : List ℕ) (k : Limits) (xs ys : List Float) where
-  pub draw_stopped : (n : ℕ) → number n ≡ draw_of k s xs ys → First (draw_refusals k s xs ys) n
-  draw_stopped n e = refused-first (draw_refusals k s xs ys) (length (drawn_of s xs ys)) n e
+  pub draw_stopped : (n : ℕ) → number n ≡ drawing_at k s xs ys → First (draw_refusals k s xs ys) n
+  draw_stopped n e = refused-first (draw_refusals k s xs ys) (drawn_of s xs ys) n e
+
+  -- by what drawing has answered and left
+  pub drawing_refused : (n : ℕ) → number n ≡ draw_of k s xs ys → number n ≡ drawing_at k s xs ys
+  drawing_refused n e = sym (first_decides number _ _ n (refused-first (draw_refusals k s xs ys) (length (drawn_of s xs ys)) n e))
 
   module _ (few_states : k.states ≤ 64) (few_arrows : k.arrows ≤ 256) where
     accepted : Clear (draw_refusals k s xs ys) → Within k (meaning s)
     accepted c = within-limits k s ((accepted_exactly k s).1 (clear_from (refusals k s) [] (draw_refusals k s xs ys) clear_none c refl))
 
-    held_at : (before : List Float) → 5120 ≤ length before → Clear (draw_refusals k s xs ys) → DrawingHeld s k xs ys (length (drawn_of s xs ys)) (put before 0 (numbers_of (drawn_of s xs ys)))
+    few_drawn : Clear (draw_refusals k s xs ys) → length (drawn_of s xs ys) ≤ 256
     unfolding frame_of
-    held_at before h c =
+    few_drawn c =
         let f = frame_of (meaning s) xs ys in
-        let gs = drawn_of s xs ys in
         let g : Within k (meaning s) = accepted c in
         let a : length f.arrows ≤ 256 = omega (arith, g.arrows, few_arrows, length-map (meaning s).arrows ends_of) in
-        let b : length gs ≤ length f.arrows = records_most f (sizes_of (meaning s)) in
-        let n = length-put before 0 (numbers_of gs) in
+        let b : length (drawn_of s xs ys) ≤ length f.arrows = records_most f (sizes_of (meaning s)) in
+        omega arith
+
+    pub drawing_held : (drawn : List Geometry) → values drawn ≡ drawing_at k s xs ys → DrawingHeld s k xs ys drawn
+    drawing_held drawn e =
+        let w = answered-clear (draw_refusals k s xs ys) (drawn_of s xs ys) drawn e in
         record {
-          clear = c;
-          states = omega (arith, g.states, few_states);
-          many = refl;
-          few = omega arith;
-          room = omega arith;
-          small = records-small f (sizes_of (meaning s)) (omega arith);
-          decoded = records_decoded f (sizes_of (meaning s)) before (omega arith) (omega arith);
-          numbers = part-new (20 * length gs) 0 before (numbers_of gs) (length-records gs) (omega arith);
+          clear = w.0;
+          states = omega (arith, (accepted w.0).states, few_states);
+          few = rw w.1 (few_drawn w.0);
+          whole = w.1;
         }
 
-    pub held : (count : ℕ) (before after : List Float) → 5120 ≤ length before → values count ≡ draw_of k s xs ys → after ≡ draw_after k s xs ys before → DrawingHeld s k xs ys count after
-    held count before after h e q =
+    -- so many are drawn, at the front of what was lent
+    pub drawing_left : (count : ℕ) (before after : List Geometry) → 256 ≤ length before → values count ≡ draw_of k s xs ys
+        → after ≡ draw_after k s xs ys before → (count ≤ 256) × (values (take count after) ≡ drawing_at k s xs ys)
+    drawing_left count before after h e q =
         let rs = draw_refusals k s xs ys in
         let w = answered-clear rs (length (drawn_of s xs ys)) count e in
-        rw (w.1, q ∙ clear_decides (λ n. before) _ rs w.0) (held_at before h w.0)
+        let i : length (drawn_of s xs ys) ≤ 256 = few_drawn w.0 in
+        let d = front_is before (drawn_of s xs ys) count after w.1 (omega arith) (q ∙ clear_decides (λ n. before) _ rs w.0) in
+        (omega (arith, w.1), ap (λ (gs : List Geometry). values gs) d ∙ sym (clear_decides number _ rs w.0))

@@ -1,53 +1,52 @@
 -- Laying out and listing, from what planning and drawing a sheet give. Assumes nothing.
-use mathlib.Core.Path.{◌≡◌, refl, sym, ap, ◌∙◌}
-use mathlib.Core.Bool.{Bool, not, ◌&&◌, ◌||◌}
-use mathlib.Core.List.{List, [], ◌∷◌}
-use Prim.Native.Nat.{ℕ, ◌≤◌}
-use native.Mathlib.Omega.{arith}
-use borrow.Author.Tests.{ltb-false}
-use lib.Dec.{ltb}
-use lib.ListN.{length, take}
-use lib.Ieee.{Float}
+use Rattle.std.specs.Prelude.{◌≡◌, Bool, not, ◌&&◌, ◌||◌, List, [], ◌∷◌, ℕ, ◌≤◌, ltb, length, take, Float}
+use Rattle.std.proofs.Common.{refl, sym, ap, ◌∙◌, arith, ltb-false}
+use Rattle.std.proofs.lemmas.List.{length-map}
 use Rattle.laws.specs.Cases.{by_bool}
-use Rattle.laws.specs.Flat.{part-new}
+use Rattle.laws.specs.Filled.{front_is}
+use Rattle.laws.specs.Put.{put}
+use Rattle.laws.specs.Zip.{zip_length}
 use Rattle.laws.specs.Refusals.{Refusal, refusal, decide, Clear, First, FirstOrClear, stops, goes, first_or_clear, clear_none, clear_from, first_decides, clear_decides, first-joined, clear-joined}
 use Rattle.sheet.specs.Sheet.{meaning, flags_of}
 use Rattle.sheet.specs.Refusals.{refusals}
 use Rattle.sheet.specs.Accepted.{OnMainScreen}
 use Rattle.sheet.specs.declared.Limits.{Limits}
+use Rattle.shape.specs.declared.«V».{«V»}
+use Rattle.shape.specs.Plane.{vec}
 use Rattle.shape.specs.Centres.{centres}
-use Rattle.records.specs.Records.{decode_records}
+use Rattle.label_spots.specs.declared.Geometry.{Geometry}
 use Rattle.beyond.specs.Beyond.{beyond}
 use Rattle.routing.specs.Sheets.{frame_of}
 use Rattle.totals.specs.declared.Totals.{Totals}
 use Rattle.totals.specs.Totals.{totals_of}
 use Rattle.drawing_text.specs.Lines.{list_text, list_writable}
-use Rattle.draw.specs.Drawn.{far_centre, draw_refusals, draw_of}
+use Rattle.draw.specs.Drawn.{xs_of, ys_of, far_centre, draw_refusals}
+use Rattle.draw.specs.Given.{xs_centres, ys_centres}
 use Rattle.layout.specs.Layout.{plan_of, last_kind}
 use Rattle.plan.specs.Measured.{layout_beyond}
 use Rattle.layout.specs.Alike.{layout-whole}
-use Rattle.plan.specs.Planned.{plan_refusals, planned}
-use Rattle.plan.specs.Planned as Planned
+use Rattle.plan.specs.Planned.{plan_refusals, planned, centres_planned}
 use Rattle.calls.specs.Calls.{Outcome, number, values, capped_limits, drawn_of, onto, layout_for, layout, xs_after, ys_after, listing, listing_writable, list_refusals, list, list_after}
 use Rattle.calls.specs.Laws.{accepted_shown}
 use Rattle.calls.specs.Decided.{refused-first, answered-clear}
 use Rattle.outputs.specs.Answers.{place_refusals, text_refusals, PlacedInto, WrittenInto}
+use Rattle.calls.specs.Drawing.{drawing_at}
 use Rattle.calls.specs.Listed.{listing_at, listed_after}
 use Rattle.calls.proofs.Held.{DrawingHeld, draw_stopped}
 
 -- ---- what the answer says of the refusals
 
--- the layout in the slices
-pub record Laid (s : List ℕ) (m : Limits) (kind n : ℕ) (w h : Float) (across down : List Float) : Type 0 where
+-- the layout, with its centres
+pub record Laid (s : List ℕ) (m : Limits) (kind n : ℕ) (w h : Float) (cs : List «V») : Type 0 where
   pub clear : Clear (plan_refusals (capped_limits m) kind s)
   pub many : n ≡ length (meaning s).states
   pub few : n ≤ 64
   pub wide : w ≡ (layout_for s kind).width
   pub high : h ≡ (layout_for s kind).height
-  pub xs_are : across ≡ (layout_for s kind).xs
-  pub ys_are : down ≡ (layout_for s kind).ys
-  pub xs_many : length across ≡ n
-  pub ys_many : length down ≡ n
+  pub placed : cs ≡ centres (layout_for s kind).xs (layout_for s kind).ys
+  pub xs_are : xs_of cs ≡ (layout_for s kind).xs
+  pub ys_are : ys_of cs ≡ (layout_for s kind).ys
+  pub centres_many : length cs ≡ n
 
 module _ (s : List ℕ) (m : Limits) (kind : ℕ) where
   abbrev planning : List Refusal
@@ -71,26 +70,29 @@ module _ (s : List ℕ) (m : Limits) (kind : ℕ) where
       let i : n ≡ length (meaning s).states = ap (λ (t : ℕ × Float × Float). t.0) p.1 in
       omega (arith, (shown_by p.0).states)
 
-  pub laid : {k : Limits} → k ≡ capped_limits m → (n : ℕ) (w h : Float) (a₀ d₀ a d : List Float) → 64 ≤ length a₀ → 64 ≤ length d₀ → values (n, w, h) ≡ planned k kind s
-      → a ≡ Planned.xs_planned k kind s a₀ → d ≡ Planned.ys_planned k kind s d₀ → Laid s m kind n w h (take n a) (take n d)
-  laid {k} o n w h a₀ d₀ a d i j e f g =
+  pub laid : {k : Limits} → k ≡ capped_limits m → (n : ℕ) (w h : Float) (before after : List «V») → 64 ≤ length before
+      → values (n, w, h) ≡ planned k kind s → after ≡ centres_planned k kind s before → Laid s m kind n w h (take n after)
+  laid {k} o n w h before after i e f =
       let p = plan-clear o n w h e in
       let c : Clear planning = p.0 in
       let q : OnMainScreen (meaning s) = shown_by c in
       let r : n ≡ length (meaning s).states = ap (λ (t : ℕ × Float × Float). t.0) p.1 in
+      let l = layout_for s kind in
       let z = layout-whole kind (meaning s) (ltb-false last_kind kind (c.none 11)) in
-      let x : take n a ≡ (layout_for s kind).xs = ap (take n) (f ∙ ap (λ (l : Limits). Planned.xs_planned l kind s a₀) o ∙ clear_decides (λ j. a₀) _ planning c) ∙ part-new n 0 a₀ (layout_for s kind).xs (z.0 ∙ sym r) (omega (arith, q.states)) in
-      let y : take n d ≡ (layout_for s kind).ys = ap (take n) (g ∙ ap (λ (l : Limits). Planned.ys_planned l kind s d₀) o ∙ clear_decides (λ j. d₀) _ planning c) ∙ part-new n 0 d₀ (layout_for s kind).ys (z.1 ∙ sym r) (omega (arith, q.states)) in
+      let same : length l.ys ≡ length l.xs = z.1 ∙ sym z.0 in
+      let j : length (centres l.xs l.ys) ≡ length (meaning s).states = zip_length vec l.xs l.ys same ∙ z.0 in
+      let y : after ≡ put before 0 (centres l.xs l.ys) = f ∙ ap (λ (l : Limits). centres_planned l kind s before) o ∙ clear_decides (λ j. before) _ planning c in
+      let x : take n after ≡ centres l.xs l.ys = front_is before (centres l.xs l.ys) n after (r ∙ sym j) (omega (arith, q.states)) y in
       record {
         clear = c;
         many = r;
         few = omega (arith, q.states);
         wide = ap (λ (t : ℕ × Float × Float). t.1) p.1;
         high = ap (λ (t : ℕ × Float × Float). t.2) p.1;
-        xs_are = x;
-        ys_are = y;
-        xs_many = ap length x ∙ z.0 ∙ sym r;
-        ys_many = ap length y ∙ z.1 ∙ sym r;
+        placed = x;
+        xs_are = ap xs_of x ∙ xs_centres l.xs l.ys same;
+        ys_are = ap ys_of x ∙ ys_centres l.xs l.ys same;
+        centres_many = ap length x ∙ j ∙ sym r;
       }
 
   -- ---- layout
@@ -112,17 +114,18 @@ module _ (s : List ℕ) (m : Limits) (kind : ℕ) where
         let f : First planning n = planning-refused c n e in
         (sym (first-joined number _ planning placing n f), sym (first-joined (λ j. xs) _ planning placing n f), sym (first-joined (λ j. ys) _ planning placing n f))
 
-    pub layout_laid : (n : ℕ) (w h : Float) (across down : List Float) → Laid s m kind n w h across down
-        → (r : Outcome (ℕ × Float × Float)) (a b : List Float) → PlacedInto across down w h xs ys r a b → Layouts r a b
+    pub layout_laid : (n : ℕ) (w h : Float) (cs : List «V») → Laid s m kind n w h cs → (r : Outcome (ℕ × Float × Float)) (a b : List Float)
+        → PlacedInto (xs_of cs) (ys_of cs) w h xs ys r a b → Layouts r a b
     unfolding layout xs_after ys_after
-    layout_laid n w h across down l r a b f =
-        let q : length (layout_for s kind).xs ≡ length (meaning s).states = sym (ap length l.xs_are) ∙ l.xs_many ∙ l.many in
-        let g : PlacedInto (layout_for s kind).xs (layout_for s kind).ys (layout_for s kind).width (layout_for s kind).height xs ys r a b = rw (l.xs_are, l.ys_are, l.wide, l.high) at f in (
+    layout_laid n w h cs l r a b f =
+        let p = layout_for s kind in
+        let q : length p.xs ≡ length (meaning s).states = sym (ap length l.xs_are) ∙ length-map cs (λ c. c.x) ∙ l.centres_many ∙ l.many in
+        let g : PlacedInto p.xs p.ys p.width p.height xs ys r a b = rw (l.xs_are, l.ys_are, l.wide, l.high) at f in (
           g.0
-              ∙ ap (λ (k : ℕ). decide placing number (values (k, (layout_for s kind).width, (layout_for s kind).height))) q
+              ∙ ap (λ (k : ℕ). decide placing number (values (k, p.width, p.height))) q
               ∙ sym (clear-joined number _ planning placing l.clear),
-          g.1 ∙ sym (clear-joined (λ j. xs) (onto (layout_for s kind).xs xs) planning placing l.clear),
-          g.2 ∙ sym (clear-joined (λ j. ys) (onto (layout_for s kind).ys ys) planning placing l.clear),
+          g.1 ∙ sym (clear-joined (λ j. xs) (onto p.xs xs) planning placing l.clear),
+          g.2 ∙ sym (clear-joined (λ j. ys) (onto p.ys ys) planning placing l.clear),
         )
 
   -- ---- listing
@@ -183,38 +186,36 @@ module _ (s : List ℕ) (m : Limits) (kind : ℕ) where
           sym (list-met (length out) (λ j. out) (onto (listing s kind) out) ∙ first_decides (λ j. out) _ planning n f),
         )
 
-    pub list_laid : {k : Limits} → k ≡ capped_limits m → (n : ℕ) (w h : Float) (xs ys : List Float) → Laid s m kind n w h xs ys → (r : Outcome ℕ) (b : List ℕ)
-        → r ≡ listing_at k s w h xs ys (length out) → b ≡ listed_after k s w h xs ys out → Lists r b
+    pub list_laid : {k : Limits} → k ≡ capped_limits m → (n : ℕ) (w h : Float) (cs : List «V») → Laid s m kind n w h cs → (r : Outcome ℕ) (b : List ℕ)
+        → r ≡ listing_at k s w h cs (length out) → b ≡ listed_after k s w h cs out → Lists r b
     unfolding list list_after
-    list_laid c n w h xs ys l r b e f =
-        let p = layout_for s kind in
-        let e' : r ≡ listing_at (capped_limits m) s p.width p.height p.xs p.ys (length out) = rw (c, l.xs_are, l.ys_are, l.wide, l.high) at e in
-        let f' : b ≡ listed_after (capped_limits m) s p.width p.height p.xs p.ys out = rw (c, l.xs_are, l.ys_are, l.wide, l.high) at f in (
-          e'
+    list_laid c n w h cs l r b e f = (
+          rw (c, l.xs_are, l.ys_are, l.placed, l.wide, l.high) at e
               ∙ sym (list-met (length out) number (values (length (listing s kind))) ∙ clear_decides number _ planning l.clear),
-          f' ∙ sym (list-met (length out) (λ j. out) (onto (listing s kind) out) ∙ clear_decides (λ j. out) _ planning l.clear),
+          rw (c, l.xs_are, l.ys_are, l.placed, l.wide, l.high) at f
+              ∙ sym (list-met (length out) (λ j. out) (onto (listing s kind) out) ∙ clear_decides (λ j. out) _ planning l.clear),
         )
 
 -- ---- listing at centres
 
-module _ (s : List ℕ) (k : Limits) (w h : Float) (xs ys : List Float) (out : List ℕ) where
+module _ (s : List ℕ) (k : Limits) (w h : Float) (cs : List «V») (out : List ℕ) where
   -- r is answered, and b stands in the lent slice
   abbrev pub ListsAt : Outcome ℕ → List ℕ → Type 0
-  ListsAt r b = (r ≡ listing_at k s w h xs ys (length out)) × (b ≡ listed_after k s w h xs ys out)
+  ListsAt r b = (r ≡ listing_at k s w h cs (length out)) × (b ≡ listed_after k s w h cs out)
 
   abbrev drawn : List Refusal
-  drawn = draw_refusals k s xs ys
+  drawn = draw_refusals k s (xs_of cs) (ys_of cs)
 
-  pub at-refused : (n : ℕ) → number n ≡ draw_of k s xs ys → ListsAt (number n) out
+  pub at-refused : (n : ℕ) → number n ≡ drawing_at k s (xs_of cs) (ys_of cs) → ListsAt (number n) out
   at-refused n e =
-      let f : First drawn n = draw_stopped s k xs ys n e in
+      let f : First drawn n = draw_stopped s k (xs_of cs) (ys_of cs) n e in
       (sym (first_decides number _ drawn n f), sym (first_decides (λ j. out) _ drawn n f))
 
-  pub at-drawn : (count : ℕ) (slice : List Float) → DrawingHeld s k xs ys count slice → (flags : List ℕ) → flags ≡ flags_of (meaning s)
-      → (totals : Totals) → totals ≡ totals_of (meaning s) (decode_records count slice) → (r : Outcome ℕ) (b : List ℕ)
-      → WrittenInto (list_writable w h (centres xs ys) flags (decode_records count slice) totals) (list_text w h (centres xs ys) flags (decode_records count slice) totals) out r b → ListsAt r b
-  at-drawn count slice d flags e totals q r b f =
-      let gs = drawn_of s xs ys in
-      let all = totals_of (meaning s) gs in
-      let g : WrittenInto (list_writable w h (centres xs ys) (flags_of (meaning s)) gs all) (list_text w h (centres xs ys) (flags_of (meaning s)) gs all) out r b = rw (e, q, d.decoded) at f in
+  pub at-drawn : (gs : List Geometry) → DrawingHeld s k (xs_of cs) (ys_of cs) gs → (flags : List ℕ) → flags ≡ flags_of (meaning s)
+      → (totals : Totals) → totals ≡ totals_of (meaning s) gs → (r : Outcome ℕ) (b : List ℕ)
+      → WrittenInto (list_writable w h cs flags gs totals) (list_text w h cs flags gs totals) out r b → ListsAt r b
+  at-drawn gs d flags e totals q r b f =
+      let hs = drawn_of s (xs_of cs) (ys_of cs) in
+      let all = totals_of (meaning s) hs in
+      let g : WrittenInto (list_writable w h cs (flags_of (meaning s)) hs all) (list_text w h cs (flags_of (meaning s)) hs all) out r b = rw (e, q, d.whole) at f in
       (g.0 ∙ sym (clear_decides number _ drawn d.clear), g.1 ∙ sym (clear_decides (λ j. out) _ drawn d.clear))

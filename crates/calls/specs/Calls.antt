@@ -1,6 +1,6 @@
 -- What each call answers and what it leaves in the slices it is lent, from its inputs alone.
 use Rattle.std.specs.Prelude.{Bool, cond, not, ◌&&◌, ◌||◌, ℕ, ltb, length, Float}
-use mathlib.Core.List.{List, [], ◌∷◌, ◌++◌, flat_map}
+use mathlib.Core.List.{List, [], ◌∷◌, ◌++◌}
 use Rattle.laws.specs.Refusals.{Refusal, refusal, decide}
 use Rattle.sheet.specs.Refusals.{refusals}
 use Rattle.sheet.specs.Sheet.{meaning, flags_of}
@@ -8,7 +8,6 @@ use Rattle.encode.specs.Encode.{encode}
 use Rattle.label.specs.Label.{label_refusals, cut, block_width, block_height}
 use Rattle.number.specs.Number.{too_large, num_text}
 use Rattle.label_spots.specs.declared.Geometry.{Geometry}
-use Rattle.records.specs.Records.{fields}
 use Rattle.routing.specs.Sheets.{frame_of, records_of}
 use Rattle.clutter.specs.Clutter.{clutter_of}
 use Rattle.shape.specs.Centres.{centres}
@@ -22,7 +21,7 @@ use Rattle.plan.specs.Planned.{plan_refusals}
 use Rattle.sheet.specs.declared.Limits.{Limits}
 pub use Rattle.sheet.specs.Refusals.{main_screen, service_panel}
 pub use Rattle.refusal.specs.Refused.{Outcome, values, number}
-pub use Rattle.outputs.specs.Answers.{short, onto}
+pub use Rattle.outputs.specs.Answers.{short, onto, numbers_of}
 
 -- ---- the limits that count: document 02, T-05, "The limits become a value given to every call that takes a sheet or a label block"
 
@@ -63,10 +62,6 @@ write_num_after v out = decide (num_refusals v out) (λ (n : ℕ). out) (onto (n
 -- what is drawn for a sheet at given centres
 abbrev pub drawn_of : List ℕ → List Float → List Float → List Geometry
 drawn_of s xs ys = records_of (meaning s) xs ys
-
--- "A record's twenty f64", record after record
-abbrev pub numbers_of : List Geometry → List Float
-numbers_of gs = flat_map fields gs
 
 -- 1 to 6, 8 and 9; then 10 for the path text, and 7 for the records and for the path text
 abbrev pub route_refusals : List ℕ → Limits → List Float → List Float → ℕ → ℕ → List Refusal

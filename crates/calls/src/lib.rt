@@ -5,13 +5,34 @@ ghost use Rattle.std.specs.Prelude.{◌≡◌, ◌≤◌, length};
 ghost use Rattle.refusal.specs.Refused.{outcome};
 ghost use Rattle.sheet.specs.Sheet.{states_of};
 ghost use Rattle.write_sheet.specs.Sheets.{Savable};
+ghost use Rattle.draw.specs.Drawn.{xs_of, ys_of};
 ghost use Rattle.calls.specs.Calls as S;
+ghost use Rattle.calls.specs.Drawing as D;
 ghost use Rattle.calls.specs.Listed as F;
 ghost use Rattle.calls.specs.Saved as W;
 
-use records::RECORD_NUMBERS;
+use label_spots::{Anchor, Geometry};
 use refusal::Refusal;
+use shape::{Curve, Rect, V};
 use sheet::Limits;
+
+// What fills the room for centres, and the room for what is drawn.
+const ORIGIN: V = V { x: 0.0, y: 0.0 };
+
+const NO_GEOMETRY: Geometry = Geometry {
+    edge: 0,
+    curve: Curve::Line(ORIGIN, ORIGIN),
+    tip: ORIGIN,
+    tip_angle: 0.0,
+    label: ORIGIN,
+    anchor: Anchor::Start,
+    label_box: Rect {
+        x0: 0.0,
+        y0: 0.0,
+        x1: 0.0,
+        y1: 0.0,
+    },
+};
 
 // ---- limits
 
@@ -60,6 +81,23 @@ pub fn write_num(v: f64, out: &mut [u8]) -> Result<usize, Refusal>
 
 // ---- routing
 
+// What is drawn for a sheet under the limits m at the given centres, in the room lent for it.
+fn draw_in<'a>(
+    sheet: &[u8],
+    m: Limits,
+    centres: &[V],
+    room: &'a mut [Geometry],
+) -> Result<&'a [Geometry], Refusal>
+    requires limits { (m.states ≤ 64) × (m.arrows ≤ 256) }
+    requires room { 256 ≤ length room.old }
+    ensures { let x = xs_of centres.now in
+        let y = ys_of centres.now in
+        D.drawing_as result ≡ D.drawing_at m sheet.now x y }
+{
+    let count = draw::draw(sheet, m, centres, room)?;
+    Ok(&room[..count])
+}
+
 // Routes a sheet at the given centres: its records and their paths.
 pub fn route(
     sheet: &[u8],
@@ -79,9 +117,10 @@ pub fn route(
         × (text.new ≡ S.text_after s limits x y recordRoom text.old) }
 {
     let m = capped_limits(limits);
-    let mut drawing = [0.0f64; RECORD_NUMBERS * 256];
-    let count = draw::draw(sheet, m, xs, ys, &mut drawing)?;
-    outputs::write_route(&drawing, count, records, text)
+    let centres = draw::given(xs, ys);
+    let mut room = [NO_GEOMETRY; 256];
+    let drawn = draw_in(sheet, m, &centres, &mut room)?;
+    outputs::write_route(drawn, records, text)
 }
 
 // ---- clutter
@@ -91,10 +130,14 @@ pub fn clutter(sheet: &[u8], limits: Limits, xs: &[f64], ys: &[f64]) -> Result<u
     ensures { outcome result ≡ S.clutter sheet.now limits xs.now ys.now }
 {
     let m = capped_limits(limits);
-    let mut drawing = [0.0f64; RECORD_NUMBERS * 256];
-    let count = draw::draw(sheet, m, xs, ys, &mut drawing)?;
+    let centres = draw::given(xs, ys);
+    let mut room = [NO_GEOMETRY; 256];
+    let drawn = draw_in(sheet, m, &centres, &mut room)?;
     let n = meaning::state_count(sheet);
-    Ok(outputs::clutter_at(xs, ys, n, &drawing, count))
+    let mut space = [ORIGIN; 64];
+    let nodes = &mut space[..n];
+    curves::zeroed(&centres[..n], nodes);
+    Ok(clutter::clutter(nodes, drawn))
 }
 
 // ---- layout
@@ -114,42 +157,37 @@ pub fn layout(
         × (ys.new ≡ S.ys_after sheet.now limits kind xRoom ys.old) }
 {
     let m = capped_limits(limits);
-    let mut across = [0.0f64; 64];
-    let mut down = [0.0f64; 64];
-    let (n, width, height) = plan::plan(sheet, m, kind, &mut across, &mut down)?;
-    outputs::write_layout(&across[..n], &down[..n], width, height, xs, ys)
+    let mut centres = [ORIGIN; 64];
+    let (states, width, height) = plan::plan(sheet, m, kind, &mut centres)?;
+    outputs::write_layout(&centres[..states], width, height, xs, ys)
 }
 
 // ---- listing
 
-// The listing of a sheet under the limits m, drawn at these centres; `flags` is left with the states' flag bytes.
+// The listing of a sheet under the limits m, drawn at these centres, one for each state.
 fn list_by(
     sheet: &[u8],
     m: Limits,
     width: f64,
     height: f64,
-    xs: &[f64],
-    ys: &[f64],
-    flags: &mut [u8],
+    centres: &[V],
     out: &mut [u8],
 ) -> Result<usize, Refusal>
-    requires { let states = length xs.now in
-        (length ys.now ≡ states)
-        × (length flags.old ≡ states)
-        × (length (states_of sheet.now) ≡ states)
-        × (m.states ≤ 64)
-        × (m.arrows ≤ 256) }
+    requires states { (length (states_of sheet.now) ≡ length centres.now)
+        × (length centres.now ≤ 64) }
+    requires limits { (m.states ≤ 64) × (m.arrows ≤ 256) }
     ensures { let s = sheet.now in
-        let x = xs.now in
-        let y = ys.now in
-        (outcome result ≡ F.listing_at m s width height x y (length out.old))
-        × (out.new ≡ F.listed_after m s width height x y out.old) }
+        let cs = centres.now in
+        (outcome result ≡ F.listing_at m s width height cs (length out.old))
+        × (out.new ≡ F.listed_after m s width height cs out.old) }
 {
+    let mut space = [0u8; 64];
+    let flags = &mut space[..centres.len()];
     meaning::flags_into(sheet, flags);
-    let mut drawing = [0.0f64; RECORD_NUMBERS * 256];
-    let count = draw::draw(sheet, m, xs, ys, &mut drawing)?;
-    let totals = totals::totals_of(sheet, &drawing, count);
-    outputs::write_listing(width, height, xs, ys, flags, &drawing, count, totals, out)
+    let mut room = [NO_GEOMETRY; 256];
+    let drawn = draw_in(sheet, m, centres, &mut room)?;
+    let totals = totals::totals_of(sheet, drawn);
+    outputs::write_listing(width, height, centres, flags, drawn, totals, out)
 }
 
 // Lists the drawing of a sheet, laid out by kind: the bytes written.
@@ -158,20 +196,9 @@ pub fn list(sheet: &[u8], limits: Limits, kind: u8, out: &mut [u8]) -> Result<us
         × (out.new ≡ S.list_after sheet.now limits kind out.old) }
 {
     let m = capped_limits(limits);
-    let mut xs = [0.0f64; 64];
-    let mut ys = [0.0f64; 64];
-    let mut flags = [0u8; 64];
-    let (n, width, height) = plan::plan(sheet, m, kind, &mut xs, &mut ys)?;
-    list_by(
-        sheet,
-        m,
-        width,
-        height,
-        &xs[..n],
-        &ys[..n],
-        &mut flags[..n],
-        out,
-    )
+    let mut centres = [ORIGIN; 64];
+    let (n, width, height) = plan::plan(sheet, m, kind, &mut centres)?;
+    list_by(sheet, m, width, height, &centres[..n], out)
 }
 
 // ---- writing a sheet

@@ -1,9 +1,9 @@
 -- Answers that are ready: what still refuses them, what is answered, and what the lent slices then hold.
-use Rattle.std.specs.Prelude.{◌≡◌, Bool, not, ◌||◌, ℕ, ◌*◌, ltb, length, take, drop, Float}
+use Rattle.std.specs.Prelude.{◌≡◌, Bool, not, ◌||◌, ℕ, ltb, length, drop, Float}
 use mathlib.Core.List.{List, [], ◌∷◌, ◌++◌, flat_map}
 use Rattle.laws.specs.Refusals.{Refusal, refusal, decide}
 use Rattle.label_spots.specs.declared.Geometry.{Geometry}
-use Rattle.records.specs.Records.{fields, decode_records}
+use Rattle.records.specs.Records.{fields}
 use Rattle.drawing_text.specs.Lines.{paths_text, paths_writable}
 use Rattle.refusal.specs.Refused.{Outcome, values, number}
 
@@ -19,31 +19,31 @@ onto answer out = answer ++ drop (length answer) out
 
 -- ---- records and path text: 10, then 7
 
--- a drawing begins with n records as they are written: "Each record is written into its own twenty numbers"
-abbrev pub AsWritten : ℕ → List Float → Type 0
-AsWritten n drawing = take (20 * n) drawing ≡ flat_map fields (decode_records n drawing)
+-- "A record's twenty f64", record after record
+abbrev pub numbers_of : List Geometry → List Float
+numbers_of gs = flat_map fields gs
 
-abbrev pub fill_refusals : List Float → List Geometry → ℕ → ℕ → List Refusal
-fill_refusals numbers gs room textRoom =
+abbrev pub fill_refusals : List Geometry → ℕ → ℕ → List Refusal
+fill_refusals gs room textRoom =
     refusal 10 (not (paths_writable gs))
-    ∷ refusal 7 (short room numbers || short textRoom (paths_text gs))
+    ∷ refusal 7 (short room (numbers_of gs) || short textRoom (paths_text gs))
     ∷ []
 
-abbrev pub filled_as : List Float → List Geometry → ℕ → ℕ → Outcome (ℕ × ℕ)
-filled_as numbers gs room textRoom = decide (fill_refusals numbers gs room textRoom) number (values (length numbers, length (paths_text gs)))
+abbrev pub filled_as : List Geometry → ℕ → ℕ → Outcome (ℕ × ℕ)
+filled_as gs room textRoom = decide (fill_refusals gs room textRoom) number (values (length (numbers_of gs), length (paths_text gs)))
 
-abbrev pub records_filled : List Float → List Geometry → List Float → ℕ → List Float
-records_filled numbers gs records textRoom = decide (fill_refusals numbers gs (length records) textRoom) (λ (n : ℕ). records) (onto numbers records)
+abbrev pub records_filled : List Geometry → List Float → ℕ → List Float
+records_filled gs records textRoom = decide (fill_refusals gs (length records) textRoom) (λ (n : ℕ). records) (onto (numbers_of gs) records)
 
-abbrev pub text_filled : List Float → List Geometry → ℕ → List ℕ → List ℕ
-text_filled numbers gs room text = decide (fill_refusals numbers gs room (length text)) (λ (n : ℕ). text) (onto (paths_text gs) text)
+abbrev pub text_filled : List Geometry → ℕ → List ℕ → List ℕ
+text_filled gs room text = decide (fill_refusals gs room (length text)) (λ (n : ℕ). text) (onto (paths_text gs) text)
 
 -- r is answered, and a and b stand in the lent slices
-abbrev pub FilledInto : List Float → List Geometry → List Float → List ℕ → Outcome (ℕ × ℕ) → List Float → List ℕ → Type 0
-FilledInto numbers gs records text r a b =
-    (r ≡ filled_as numbers gs (length records) (length text))
-    × (a ≡ records_filled numbers gs records (length text))
-    × (b ≡ text_filled numbers gs (length records) text)
+abbrev pub FilledInto : List Geometry → List Float → List ℕ → Outcome (ℕ × ℕ) → List Float → List ℕ → Type 0
+FilledInto gs records text r a b =
+    (r ≡ filled_as gs (length records) (length text))
+    × (a ≡ records_filled gs records (length text))
+    × (b ≡ text_filled gs (length records) text)
 
 -- ---- centres: 7
 
@@ -59,7 +59,8 @@ xs_placed across down xs yRoom = decide (place_refusals across down (length xs) 
 abbrev pub ys_placed : List Float → List Float → ℕ → List Float → List Float
 ys_placed across down xRoom ys = decide (place_refusals across down xRoom (length ys)) (λ (n : ℕ). ys) (onto down ys)
 
-abbrev pub PlacedInto : List Float → List Float → Float → Float → List Float → List Float → Outcome (ℕ × Float × Float) → List Float → List Float → Type 0
+abbrev pub PlacedInto : List Float → List Float → Float → Float → List Float → List Float → Outcome (ℕ × Float × Float)
+    → List Float → List Float → Type 0
 PlacedInto across down w h xs ys r a b =
     (r ≡ placed_as across down w h (length xs) (length ys))
     × (a ≡ xs_placed across down xs (length ys))

@@ -1,23 +1,20 @@
 -- `calls::route` meets its contract.
-use native.Mathlib.Omega.{arith}
+use Rattle.std.proofs.Common.{◌∙◌}
 use Rattle.std.proofs.lemmas.Result.{err_from_is_err_and}
-use Rattle.calls.proofs.Held.{held}
-use Rattle.calls.proofs.Routes.{ready, call_refused, call_drawn}
+use Rattle.calls.proofs.Held.{drawing_given, drawing_held}
+use Rattle.calls.proofs.Routes.{call_refused, call_drawn}
 use Rattle.calls.proofs.route.Goals as goal
 
-pub returns-in_err-count : goal.returns-in_err-count
-returns-in_err-count c = let a = c.args in
-    let p = err_from_is_err_and c.from_residual.result c.from_residual.ensures.1 in
-    rw (p.1, p.2) (call_refused a.sheet.now a.limits a.xs.now a.ys.now c.capped_limits-m.ensures.0 a.records.now a.text.now _ c.in_err-count.ensures.0)
-
-pub write_route-requires : goal.write_route-requires
-write_route-requires c = let a = c.args in
+pub returns-in_err-drawn : goal.returns-in_err-drawn
+returns-in_err-drawn c = let a = c.args in
     let b = c.capped_limits-m in
-    let d = c.in_ok-count.ensures in
-    ready (held a.sheet.now b.result a.xs.now a.ys.now b.ensures.1 b.ensures.2 c.in_ok-count.count _ _ (omega arith) d.0 d.1) _ (omega arith)
+    let p = err_from_is_err_and c.from_residual.result c.from_residual.ensures.1 in
+    let e = c.in_err-drawn.ensures ∙ drawing_given a.sheet.now b.result a.xs.now a.ys.now b.ensures.1 _ c.given-centres.ensures in
+    rw (p.1, p.2) (call_refused a.sheet.now a.limits a.xs.now a.ys.now b.ensures.0 a.records.now a.text.now _ e)
 
 pub returns : goal.returns
 returns c = let a = c.args in
     let b = c.capped_limits-m in
-    let d = c.in_ok-count.ensures in
-    call_drawn a.sheet.now a.limits a.xs.now a.ys.now b.ensures.0 a.records.now a.text.now c.in_ok-count.count _ (held a.sheet.now b.result a.xs.now a.ys.now b.ensures.1 b.ensures.2 c.in_ok-count.count _ _ (omega arith) d.0 d.1) _ _ _ c.write_route.ensures
+    let e = c.in_ok-drawn.ensures ∙ drawing_given a.sheet.now b.result a.xs.now a.ys.now b.ensures.1 _ c.given-centres.ensures in
+    let h = drawing_held a.sheet.now b.result a.xs.now a.ys.now b.ensures.1 b.ensures.2 _ e in
+    call_drawn a.sheet.now a.limits a.xs.now a.ys.now b.ensures.0 a.records.now a.text.now _ h _ _ _ c.write_route.ensures

@@ -1,32 +1,21 @@
 -- `outputs::write_records` meets its contract.
-use mathlib.Core.Path.{◌≡◌, refl, ap, ◌∙◌}
+use Rattle.std.proofs.Common.{refl, ap, ◌∙◌, take_all, arith}
 use mathlib.Core.List.{flat_map}
-use Prim.Native.Nat.{ℕ}
-use native.Mathlib.Omega.{arith}
-use Rattle.laws.specs.Flat.{table}
 use Rattle.laws.specs.Put.{put}
-use Rattle.records.specs.Records.{fields, decode_records}
+use Rattle.outputs.specs.Answers.{numbers_of}
 use Rattle.outputs.proofs.Laws.{record_step}
 use Rattle.outputs.proofs.write_records.Goals as goal
 
 pub loop-k-init : goal.loop-k-init
-unfolding put flat_map table
-loop-k-init c = (omega arith, refl, refl)
-
-pub geometry_at-g-requires : goal.geometry_at-g-requires
-geometry_at-g-requires c = omega arith
-
-pub write_at-requires : goal.write_at-requires
-write_at-requires c = omega arith
+unfolding put flat_map
+loop-k-init c = refl
 
 pub loop-k-preserved : goal.loop-k-preserved
 loop-k-preserved c = let a = c.args in
     let l = c.loop-k in
-    let g = c.geometry_at-g in
-    let w = c.write_at in
-    (omega arith, w.auto.records ∙ l.invariant.1, w.ensures ∙ record_step a.drawing.now a.records.now l.records l.k g.result g.ensures l.invariant.2)
+    record_step a.drawn.now l.k _ _ a.records.now l.records _ _ c.loop-k-test.true l.invariant c.fields.ensures (omega arith) c.copy.ensures
 
 pub returns : goal.returns
 returns c = let a = c.args in
-    let e : c.loop-k.k ≡ a.count = omega arith in
-    c.loop-k.invariant.2 ∙ ap (λ (k : ℕ). put a.records.now 0 (flat_map fields (decode_records k a.drawing.now))) e
+    let l = c.loop-k in
+    l.invariant ∙ ap (λ gs. put a.records.now 0 (numbers_of gs)) (take_all l.k a.drawn.now (omega arith))
