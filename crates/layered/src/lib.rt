@@ -85,7 +85,9 @@ pub fn layered(start: usize, arrows: &[Ends], width: f64, height: f64, centres: 
         × (start < states)
         × (length arrows.now ≤ 256) }
     ensures { let states = length centres.old in
-        centres.new ≡ P.centres (D.layered_xs states start arrows.now width) (D.layered_ys states start arrows.now height) }
+        let xs = D.layered_xs states start arrows.now width in
+        let ys = D.layered_ys states start arrows.now height in
+        centres.new ≡ P.centres xs ys }
 {
     let n = centres.len();
     let mut columns = Columns::<SIZES>::breadth_first(start, n, arrows);

@@ -1,5 +1,5 @@
 -- What the code answers and leaves, step by step, is what the definitions say. Assumes nothing.
-use Rattle.std.specs.Prelude.{◌≡◌, refl, true, false, map, ℕ, zero, ◌+◌, ◌≤◌, ltb, length, Float}
+use Rattle.std.specs.Prelude.{◌≡◌, refl, map, ℕ, ◌≤◌, length, Float}
 use Rattle.std.specs.List.{fold}
 use Rattle.std.proofs.Common.{sym, ◌∙◌, subst, arith, ne_eqb}
 use Rattle.std.proofs.Math.Path.{ap, ap₂}
@@ -23,7 +23,7 @@ use Rattle.fit.specs.Fit.{fit_xs, fit_ys, fit_size}
 use Rattle.fit.specs.declared.Size.{Size}
 use Rattle.layout.specs.declared.Placement.{Placement}
 use Rattle.layout.specs.declared.Placement.TheVariants.{Layers, Ring}
-use Rattle.layout.specs.Layout.{Plan, many, Placing, layers, ring, placed, centres_of, plan_frame, records_at, clutter_at, is_dense, is_tangled, takes_ring, chosen, no_states, fitted, layout_of}
+use Rattle.layout.specs.Layout.{Plan, many, Placing, placed, centres_of, plan_frame, records_at, clutter_at, chosen, no_states, fitted, layout_of}
 use Rattle.layout.specs.Lent.{placing_of, Left}
 use Rattle.layout.specs.Alike.{OneEach, layers-whole, ring-whole}
 
@@ -94,37 +94,6 @@ module _ (p : Plan) (cs ns : List «V») (h : length cs ≡ many p) (e : ns ≡ 
 pub clutter_most : (p : Plan) (c : Placing) → length p.arrows ≤ 256 → clutter_at p c ≤ 65792
 unfolding clutter_at
 clutter_most p c m = clutter-le (plan_frame p c).centres (records_at p c) (omega (arith, records_most (plan_frame p c) p.sizes))
-
--- ---- the choice
-
-module _ (p : Plan) where
-  pub ring-dense : is_dense p ≡ true → true ≡ takes_ring p
-  unfolding takes_ring
-  ring-dense d = rw d
-
-  pub ring_tangled : (r l : ℕ) → is_dense p ≡ false → r ≡ clutter_at p (ring p) → l ≡ clutter_at p (layers p) → ltb (r + 2) l ≡ takes_ring p
-  unfolding takes_ring is_tangled
-  ring_tangled r l d er el = rw (d, er, el)
-
-  pub auto_ring : (c : Placing) → takes_ring p ≡ true → c ≡ ring p → c ≡ chosen zero p
-  unfolding chosen
-  auto_ring c t e = rw t e
-
-  pub auto_layers : (c : Placing) → takes_ring p ≡ false → c ≡ layers p → c ≡ chosen zero p
-  unfolding chosen
-  auto_layers c t e = rw t e
-
--- by kind
-pub kind_auto : (p : Plan) (c : Placing) (k : ℕ) → k ≡ 0 → c ≡ chosen zero p → c ≡ chosen k p
-kind_auto p c k e h = h ∙ ap (λ (j : ℕ). chosen j p) (sym e)
-
-pub kind_layers : (p : Plan) (c : Placing) (k : ℕ) → k ≡ 1 → c ≡ layers p → c ≡ chosen k p
-unfolding chosen
-kind_layers p c k e h = h ∙ ap (λ (j : ℕ). chosen j p) (sym e)
-
-pub kind_ring : (p : Plan) (c : Placing) (k : ℕ) → k ≡ 2 → c ≡ ring p → c ≡ chosen k p
-unfolding chosen
-kind_ring p c k e h = h ∙ ap (λ (j : ℕ). chosen j p) (sym e)
 
 -- ---- the layout
 

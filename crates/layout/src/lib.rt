@@ -193,6 +193,7 @@ impl<'a> Plan<'a> {
     }
 
     // Whether Auto takes the ring.
+    #[tactic(auto, unfolding(crate::specs::Layout::takes_ring, crate::specs::Layout::is_tangled))]
     fn takes_ring(&self) -> bool
         requires whole { C.Whole self.now }
         requires some { 0 < length self.now.flags.now }
@@ -207,6 +208,7 @@ impl<'a> Plan<'a> {
     }
 
     // The placement by kind.
+    #[tactic(auto, unfolding(crate::specs::Layout::chosen))]
     fn choose(&self, kind: Kind) -> Placement
         requires whole { C.Whole self.now }
         requires some { 0 < length self.now.flags.now }

@@ -1,12 +1,11 @@
 -- What is read of a sheet is the plan of its graph; refusals one after another; what a layout answers. Assumes nothing.
-use Rattle.std.specs.Prelude.{◌≡◌, Bool, true, List, [], ◌++◌, map, drop, ℕ, zero, ◌≤◌, ◌<◌, ltb, length, Float}
+use Rattle.std.specs.Prelude.{◌≡◌, true, List, [], ◌++◌, map, drop, ℕ, ◌≤◌, ◌<◌, ltb, length, Float}
 use Rattle.std.proofs.Math.Path.{refl, sym, ap}
-use Rattle.std.proofs.Common.{◌∙◌, subst, arith, lt-ltb, le-ltb, ne_eqb}
-use Rattle.std.proofs.Math.Bool.{false, or-false}
+use Rattle.std.proofs.Common.{◌∙◌, subst, arith, lt-ltb, le-ltb}
+use Rattle.std.proofs.Math.Bool.{false}
 use Rattle.std.proofs.Math.ListN.{length-map}
 use Rattle.laws.specs.Put.{put, put_front}
 use Rattle.laws.specs.Refusals.{Refusal, decide, decide-first, decide-rest}
-use Rattle.laws.specs.Any.{any_of}
 use Rattle.shape.specs.declared.«V».{«V»}
 use Rattle.shape.specs.Centres.{centres}
 use Rattle.sheet.specs.Sheet.{Graph, meaning, flags_of}
@@ -16,12 +15,12 @@ use Rattle.sheet.specs.declared.Limits.{Limits}
 use Rattle.routing.specs.Routing.{Ends, BlockSize}
 use Rattle.routing.specs.Sheets.{ends_of, sizes_of, SameFrame}
 use Rattle.fit.specs.declared.Size.{Size}
-use Rattle.layout.specs.Layout.{Plan, many, plan_of, layers, ring, is_dense, last_kind, kind_number, layout_of}
+use Rattle.layout.specs.Layout.{Plan, plan_of, last_kind, kind_number, layout_of}
 use Rattle.layout.specs.declared.Kind.{Kind}
 use Rattle.layout.specs.declared.Kind.TheVariants.{Auto, Layered, Circular}
 use Rattle.layout.specs.Lent as Layout
 use Rattle.layout.specs.Alike.{same-plan}
-use Rattle.plan.specs.Measured.{beyond_at, any_beyond, measured, layout_beyond}
+use Rattle.plan.specs.Measured.{layout_beyond}
 use Rattle.refusal.specs.Refused.{Outcome, values, number}
 use Rattle.plan.specs.Planned.{measured_refusals, sheet_refusals, plan_refusals, laid_out, plan_answer, centres_by}
 
@@ -91,39 +90,7 @@ module _ (m : Limits) (k : Kind) {kind : ℕ} (e : kind_number k ≡ kind) (s : 
   kind_accepted r qs a h =
       subst (λ (j : ℕ). Left (plan_refusals m j s) j (meaning s) r cs qs) e (plan_accepted m (kind_number k) s cs r qs (kind_most k) a h)
 
--- ---- 9, step by step
-
-module _ (p : Plan) where
-  pub beyond_auto_dense : (r : Bool) → is_dense p ≡ true → r ≡ beyond_at p (ring p) → r ≡ any_beyond p (measured zero p)
-  unfolding any_beyond measured any_of
-  beyond_auto_dense r d e = rw d (e ∙ sym (or-false (beyond_at p (ring p))))
-
-  pub beyond_auto_layers : is_dense p ≡ false → beyond_at p (layers p) ≡ true → true ≡ any_beyond p (measured zero p)
-  unfolding any_beyond measured any_of
-  beyond_auto_layers d b = rw (d, b)
-
-  pub beyond_auto_both : (r : Bool) → is_dense p ≡ false → beyond_at p (layers p) ≡ false → r ≡ beyond_at p (ring p) → r ≡ any_beyond p (measured zero p)
-  unfolding any_beyond measured any_of
-  beyond_auto_both r d b e = rw (d, b) (e ∙ sym (or-false (beyond_at p (ring p))))
-
-  pub beyond_auto : (r : Bool) (k : ℕ) → k ≡ 0 → r ≡ any_beyond p (measured zero p) → r ≡ any_beyond p (measured k p)
-  beyond_auto r k e h = h ∙ ap (λ (j : ℕ). any_beyond p (measured j p)) (sym e)
-
-  pub beyond-layers : (r : Bool) (k : ℕ) → k ≡ 1 → r ≡ beyond_at p (layers p) → r ≡ any_beyond p (measured k p)
-  unfolding any_beyond measured any_of
-  beyond-layers r k e h = h ∙ sym (or-false (beyond_at p (layers p))) ∙ ap (λ (j : ℕ). any_beyond p (measured j p)) (sym e)
-
-  pub beyond-ring : (r : Bool) (k : ℕ) → k ≡ 2 → r ≡ beyond_at p (ring p) → r ≡ any_beyond p (measured k p)
-  unfolding any_beyond measured any_of
-  beyond-ring r k e h = h ∙ sym (or-false (beyond_at p (ring p))) ∙ ap (λ (j : ℕ). any_beyond p (measured j p)) (sym e)
-
-  pub none_refused : (kind : ℕ) → many p ≡ 0 → false ≡ layout_beyond kind p
-  unfolding layout_beyond
-  none_refused kind n = rw n
-
-  pub some_refused : (kind : ℕ) (r : Bool) → (many p ≡ 0 → ⊥) → r ≡ any_beyond p (measured kind p) → r ≡ layout_beyond kind p
-  unfolding layout_beyond
-  some_refused kind r n e = rw (ne_eqb _ _ n) e
+-- ---- 9
 
 -- whatever the label lines, where their sizes are alike, a layout is refused alike
 pub same-refused : (kind : ℕ) (g h : Graph) → SameFrame g h → sizes_of g ≡ sizes_of h → layout_beyond kind (plan_of g) ≡ layout_beyond kind (plan_of h)
