@@ -76,11 +76,11 @@ module _ (p : Plan) (cs ns : List «V») (h : length cs ≡ many p) (e : ns ≡ 
     unfolding clutter_at
     clutter_counted m k = k ∙ ap₂ clutter_of nodes_are drawn_are
 
-    pub fitted-left : (s : Size) (qs : List «V») → s ≡ fit_size p.flags cs gs
+    pub fitted_left : (s : Size) (qs : List «V») → s ≡ fit_size p.flags cs gs
         → qs ≡ centres (fit_xs p.flags cs gs (map (λ c. c.x) cs)) (fit_ys p.flags cs gs (map (λ c. c.y) cs))
         → Left (fitted p (placing_of cs)) s qs
     unfolding fitted
-    fitted-left s qs z k =
+    fitted_left s qs z k =
         let xs = map (λ (c : «V»). c.x) cs in
         let ys = map (λ (c : «V»). c.y) cs in
         let y : s ≡ fit_size p.flags (centres xs ys) (records_at p (placing_of cs)) = z ∙ ap₂ (fit_size p.flags) (sym (centres_back cs)) drawn_are in
@@ -104,7 +104,7 @@ left_none kind p r [] n a w h = record { width = rw n w; height = rw n h; centre
 left_none kind p r (c ∷ cs) n a w h = absurd (omega arith)
 
 -- the fit of what is chosen
-pub left-chosen : (kind : ℕ) (p : Plan) (c : Placing) (r : Size) (cs : List «V») → (many p ≡ 0 → ⊥) → c ≡ chosen kind p → Left (fitted p c) r cs
+pub left_chosen : (kind : ℕ) (p : Plan) (c : Placing) (r : Size) (cs : List «V») → (many p ≡ 0 → ⊥) → c ≡ chosen kind p → Left (fitted p c) r cs
     → Left (layout_of kind p) r cs
 unfolding layout_of
-left-chosen kind p c r cs n e h = rw (ne_eqb _ _ n) (subst (λ (b : Placing). Left (fitted p b) r cs) e h)
+left_chosen kind p c r cs n e h = rw (ne_eqb _ _ n) (subst (λ (b : Placing). Left (fitted p b) r cs) e h)
