@@ -83,11 +83,13 @@ module _ (p : Plan) (cs ns : List «V») (h : length cs ≡ many p) (e : ns ≡ 
     fitted_left s qs z k =
         let xs = map (λ (c : «V»). c.x) cs in
         let ys = map (λ (c : «V»). c.y) cs in
-        let y : s ≡ fit_size p.flags (centres xs ys) (records_at p (placing_of cs)) = z ∙ ap₂ (fit_size p.flags) (sym (centres_back cs)) drawn_are in
+        let y : s ≡ fit_size p.flags (centres xs ys) (records_at p (placing_of cs)) = z
+        ∙ ap₂ (fit_size p.flags) (sym (centres_back cs)) drawn_are in
         record {
           width = ap (λ (t : Size). t.width) y;
           height = ap (λ (t : Size). t.height) y;
-          centres = k ∙ ap₂ (λ (l : List «V») (r : List Geometry). centres (fit_xs p.flags l r xs) (fit_ys p.flags l r ys)) (sym (centres_back cs)) drawn_are;
+          centres = k ∙ ap₂ (λ (l : List «V») (r : List Geometry). centres (fit_xs p.flags l r xs) (fit_ys p.flags l r ys))
+              (sym (centres_back cs)) drawn_are;
         }
 
 -- a count is small
@@ -98,13 +100,15 @@ clutter_most p c m = clutter-le (plan_frame p c).centres (records_at p c) (omega
 -- ---- the layout
 
 -- no states
-pub left_none : (kind : ℕ) (p : Plan) (r : Size) (cs : List «V») → many p ≡ 0 → length cs ≡ many p → r.width ≡ no_states.width → r.height ≡ no_states.height → Left (layout_of kind p) r cs
+pub left_none : (kind : ℕ) (p : Plan) (r : Size) (cs : List «V») → many p ≡ 0 → length cs ≡ many p → r.width ≡ no_states.width
+    → r.height ≡ no_states.height → Left (layout_of kind p) r cs
 unfolding layout_of zip_by
 left_none kind p r [] n a w h = record { width = rw n w; height = rw n h; centres = rw n refl }
 left_none kind p r (c ∷ cs) n a w h = absurd (omega arith)
 
 -- the fit of what is chosen
-pub left_chosen : (kind : ℕ) (p : Plan) (c : Placing) (r : Size) (cs : List «V») → (many p ≡ 0 → ⊥) → c ≡ chosen kind p → Left (fitted p c) r cs
+pub left_chosen : (kind : ℕ) (p : Plan) (c : Placing) (r : Size) (cs : List «V») → (many p ≡ 0 → ⊥) → c ≡ chosen kind p
+    → Left (fitted p c) r cs
     → Left (layout_of kind p) r cs
 unfolding layout_of
 left_chosen kind p c r cs n e h = rw (ne_eqb _ _ n) (subst (λ (b : Placing). Left (fitted p b) r cs) e h)

@@ -7,7 +7,8 @@ use Rattle.layout.specs.Laws.{placed_points, left_none, left_chosen}
 use Rattle.layout.proofs.Plan.layout.Goals as goal
 
 pub returns-then-is_empty : goal.returns-then-is_empty
-returns-then-is_empty c = left_none (kind_number c.args.kind) (plan_in c.args.self.now) _ c.args.centres.now (search rules) c.requires.level refl refl
+returns-then-is_empty c =
+    left_none (kind_number c.args.kind) (plan_in c.args.self.now) _ c.args.centres.now (search rules) c.requires.level refl refl
 
 pub returns : goal.returns
 returns c = let p = plan_in c.args.self.now in

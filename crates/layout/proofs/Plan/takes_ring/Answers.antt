@@ -6,4 +6,5 @@ use Rattle.layout.specs.Laws.{clutter_most}
 use Rattle.layout.proofs.Plan.takes_ring.Goals as goal
 
 pub overflow_add-result : goal.overflow_add-result
-overflow_add-result c = let p = plan_in c.args.self.now in omega (arith, clutter_most p (ring p) c.requires.whole.arrows, c.placed_clutter-ring.ensures)
+overflow_add-result c = let p = plan_in c.args.self.now in
+    omega (arith, clutter_most p (ring p) c.requires.whole.arrows, c.placed_clutter-ring.ensures)
