@@ -53,7 +53,7 @@ fn placed_beyond(plan: &Plan, placement: Placement) -> bool
 }
 
 // Auto measures the ring, and the layers too where it has to compare.
-#[tactic(auto, using(crate::specs::Laws::beyond_auto_dense, crate::specs::Laws::beyond_auto_layers, crate::specs::Laws::beyond_auto_both))]
+#[tactic(auto, unfolding(crate::specs::Measured::any_beyond, crate::specs::Measured::measured, laws::specs::Any::any_of))]
 fn auto_beyond(plan: &Plan) -> bool
     requires whole { Whole plan.now }
     requires some { 0 < length plan.now.flags.now }
@@ -80,7 +80,7 @@ fn kind_beyond(plan: &Plan, kind: Kind) -> bool
 }
 
 // Whether a drawing that the layout measures is refused; without states nothing is drawn.
-#[tactic(auto, using(crate::specs::Laws::none_refused, crate::specs::Laws::some_refused))]
+#[tactic(auto, unfolding(crate::specs::Measured::layout_beyond))]
 fn layout_beyond(plan: &Plan, kind: Kind) -> bool
     requires whole { Whole plan.now }
     ensures { result ≡ M.layout_beyond (L.kind_number kind) (plan_in plan.now) }

@@ -6,4 +6,6 @@ use Rattle.layout.specs.Laws.{frame_placed}
 use Rattle.plan.proofs.placed_beyond.Goals as goal
 
 pub returns : goal.returns
-returns c = c.beyond.ensures ∙ ap beyond (frame_placed (plan_in c.args.plan.now) c.place.new.centres c.zeroed.new.room (c.place.auto.centres ∙ length-take-le _ _ (omega arith)) c.zeroed.ensures c.args.placement c.place.ensures)
+returns c = c.beyond.ensures
+    ∙ ap beyond (frame_placed (plan_in c.args.plan.now) c.place.new.centres c.zeroed.new.room
+    (c.place.auto.centres ∙ length-take-le _ _ (omega arith)) c.zeroed.ensures c.args.placement c.place.ensures)
