@@ -15,7 +15,7 @@ use Rattle.routing.specs.Sheets.{ends_of, frame_of, sizes_of}
 use Rattle.routing_laws.proofs.Decoded.{records_most}
 use Rattle.draw.specs.Drawn.{xs_of, ys_of, draw_refusals, draw_of, draw_after}
 use Rattle.draw.specs.Given.{given, draw_given, after_given}
-use Rattle.calls.specs.Calls.{Outcome, values, number, drawn_of}
+use Rattle.calls.specs.Calls.{values, number, drawn_of}
 use Rattle.calls.specs.Decided.{refused-first, answered-clear}
 use Rattle.calls.specs.Drawing.{drawing_at}
 
@@ -45,7 +45,7 @@ module _ (s : List ℕ) (k : Limits) (xs ys : List Float) (few_states : k.states
       let w = answered-clear (draw_refusals k s us vs) (length (drawn_of s us vs)) (length gs) e in
       let q : draw_after k s us vs gs ≡ draw_after k s xs ys gs = after_given k s xs ys few_states gs in
       let d : drawn_of s us vs ≡ gs = sym (put_whole gs (drawn_of s us vs) w.1) ∙ sym (clear_decides (λ n. gs) _ _ w.0)
-                                      ∙ q ∙ clear_decides (λ n. gs) _ _ c ∙ put_whole gs gs refl in
+      ∙ q ∙ clear_decides (λ n. gs) _ _ c ∙ put_whole gs gs refl in
       clear_decides number _ _ w.0 ∙ ap (λ (hs : List Geometry). values hs) d ∙ sym (clear_decides number _ _ c)
 
   pub drawing_given : (cs : List «V») → cs ≡ given xs ys → drawing_at k s (xs_of cs) (ys_of cs) ≡ drawing_at k s xs ys

@@ -190,11 +190,11 @@ module _ (s : List ℕ) (m : Limits) (kind : ℕ) where
         → r ≡ listing_at k s w h cs (length out) → b ≡ listed_after k s w h cs out → Lists r b
     unfolding list list_after
     list_laid c n w h cs l r b e f = (
-          rw (c, l.xs_are, l.ys_are, l.placed, l.wide, l.high) at e
-              ∙ sym (list-met (length out) number (values (length (listing s kind))) ∙ clear_decides number _ planning l.clear),
-          rw (c, l.xs_are, l.ys_are, l.placed, l.wide, l.high) at f
-              ∙ sym (list-met (length out) (λ j. out) (onto (listing s kind) out) ∙ clear_decides (λ j. out) _ planning l.clear),
-        )
+      rw (c, l.xs_are, l.ys_are, l.placed, l.wide, l.high) at e
+          ∙ sym (list-met (length out) number (values (length (listing s kind))) ∙ clear_decides number _ planning l.clear),
+      rw (c, l.xs_are, l.ys_are, l.placed, l.wide, l.high) at f
+          ∙ sym (list-met (length out) (λ j. out) (onto (listing s kind) out) ∙ clear_decides (λ j. out) _ planning l.clear),
+    )
 
 -- ---- listing at centres
 

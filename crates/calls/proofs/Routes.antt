@@ -53,8 +53,7 @@ module _ (s : List ℕ) (m : Limits) (xs ys : List Float) {k : Limits} (c : k �
     pub call_refused : (n : ℕ) → number n ≡ drawing_at k s xs ys → RouteLeaves (number n) records text
     unfolding route records_after text_after
     call_refused n e =
-        let f : First drawing n = refusing n e in
-        (
+        let f : First drawing n = refusing n e in (
           sym (first-joined number _ drawing filling n f),
           sym (first-joined (λ j. records) _ drawing filling n f),
           sym (first-joined (λ j. text) _ drawing filling n f),

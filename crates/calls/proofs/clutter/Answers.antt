@@ -1,5 +1,5 @@
 -- `calls::clutter` meets its contract.
-use Rattle.std.proofs.Common.{rules, sym, ◌∙◌, arith, length-take-le}
+use Rattle.std.proofs.Common.{sym, ◌∙◌, arith, length-take-le}
 use Rattle.std.proofs.lemmas.Result.{err_from_is_err_and}
 use Rattle.calls.proofs.Held.{drawing_given, drawing_held}
 use Rattle.calls.proofs.Routes.{nodes_given, clutter-refused, clutter-drawn}

@@ -1,5 +1,5 @@
 -- `calls::list_by` meets its contract.
-use Rattle.std.proofs.Common.{sym, ◌∙◌, arith, length-take-le}
+use Rattle.std.proofs.Common.{sym, ◌∙◌, length-take-le}
 use Rattle.std.proofs.lemmas.List.{length-map}
 use Rattle.std.proofs.lemmas.Result.{err_from_is_err_and}
 use Rattle.laws.specs.Filled.{put_whole}
