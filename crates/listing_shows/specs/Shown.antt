@@ -6,7 +6,7 @@ use Rattle.std.specs.Float.{nan}
 use Rattle.laws.specs.Counting.{how_many}
 use Rattle.sheet.specs.Sheet.{meaning, flags_of}
 use Rattle.sheet.specs.declared.Limits.{Limits}
-use Rattle.trace.specs.Form.{whole_of}
+use Rattle.records.specs.Whole.{whole_of}
 use Rattle.shape.specs.Centres.{centres}
 use Rattle.label_spots.specs.declared.Geometry.{Geometry}
 use Rattle.records.specs.Records.{decode_records}
