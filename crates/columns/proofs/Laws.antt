@@ -1,6 +1,6 @@
 -- A step of each loop over slices, and its end; what a push leaves. Assumes nothing.
 use mathlib.Core.Path.{◌≡◌, refl, sym, ap, ap₂, subst, ◌∙◌}
-use mathlib.Core.Bool.{Bool, ◌||◌, false, true}
+use mathlib.Core.Bool.{Bool, ◌||◌}
 use Rattle.std.specs.List.{list_any, sum}
 use Rattle.std.proofs.lemmas.List.Sums.{sum_by-cons}
 use Rattle.std.specs.Prelude.{eqb}
@@ -10,15 +10,14 @@ use native.Mathlib.Nat.{sub-zero, not-suc-le-zero}
 use native.Mathlib.Numerals.{add-one}
 use native.Mathlib.Omega.{arith}
 use lib.ListN.{length, get_or, take, drop, set, length-append, length-drop, drop_of_length-le}
-use lib.Seq.{drop-cons, take-suc-set, length-take-le, take-take, take-append-le, take_all, get_or-take, take_at, drop_at}
-use Rattle.laws.specs.Filter.{filter_by, filter_join}
+use lib.Seq.{drop-cons, take_all, get_or-take, take_at, drop_at}
 use Rattle.laws.specs.Flat.{table}
 use Rattle.laws.specs.Lists.{part_length}
 use Rattle.laws.specs.Loops.{over}
 use Rattle.laws.specs.Split.{split, split_snoc, split-take, flat_split, split_at_column, split-set, length-split, sum_all, sum_snoc, sum_take, sum_fits}
 use Rattle.laws.specs.Put.{put, put_front}
 use Rattle.sheet.specs.declared.Ends.{Ends}
-use Rattle.columns.specs.Columns.{successors, elem, discover, explore, columns_after, reached, is_new, unreached, concat, columns, last_column}
+use Rattle.columns.specs.Columns.{successors, elem, discover, explore, columns_after, reached, unreached, concat, columns, last_column}
 use Rattle.columns.specs.Found.{Fair, Reached, discover_rest, fair_start, explore_one, explore-end, explore_fair, explore_front, explore_grows, after_none, after_more, after-end, follow_yes, follow_no, fair_room, target_in, follows, follow_fair, visit_fair, over_front, over_grows, discover_fair}
 
 -- whether a list has w, as the library says it
@@ -231,9 +230,6 @@ module _ (n : ℕ) (arrows : List Ends) (start : ℕ) where
         fill_more = with_rest.1
 
 -- ---- a column of the columns that the code holds, read and stored as its part of the order
-pub sum_front : (sizes : List ℕ) (l i : ℕ) → i < length (take l sizes) → sum_all (take i (take l sizes)) + get_or (take l sizes) i 0 ≤ sum_all sizes
-sum_front sizes l i h = omega (arith, sum_fits (take l sizes) i h, sum_take sizes l)
-
 module _ (sizes order : List ℕ) (l : ℕ) (cs : List (List ℕ)) (v : split sizes order ≡ cs) (h : l < length cs) where
   pub inside : l < length sizes
   inside = omega (arith, h, ap length v, length-split sizes order)
@@ -276,6 +272,8 @@ pub ruleset exploring = (visit_fair, over_front, over_grows, explore_step, explo
 pub ruleset adding = (fair_room, discover_fair, rest_begin, rest_step, rest_end)
 
 pub ruleset filling = (fill_none, fill_long, fill_more)
+
+pub ruleset counting = (length-split)
 
 pub ruleset reading = (inside, room_for, part_is)
 

@@ -195,6 +195,7 @@ impl Columns {
     }
 
     // How many columns there are.
+    #[tactic(auto, using(crate::proofs::Laws::counting))]
     pub fn count(&self) -> usize
         ensures count { result ≡ length self.now }
         ensures within { result ≤ 64 }
