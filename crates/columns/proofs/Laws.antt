@@ -1,4 +1,4 @@
--- A step of each loop over slices, and its end; what a push leaves. Assumes nothing.
+-- A step of each loop, and its end; what the search leaves, and the columns as parts of the order. Assumes nothing.
 use mathlib.Core.Path.{◌≡◌, refl, sym, ap, ap₂, subst, ◌∙◌}
 use mathlib.Core.Bool.{Bool, ◌||◌}
 use Rattle.std.specs.List.{list_any, sum}
