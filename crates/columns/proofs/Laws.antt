@@ -1,6 +1,6 @@
--- A step of each loop over slices, and its end; what a push leaves. Assumes nothing.
+-- A step of each loop, and its end; what the search leaves, and the columns as parts of the order. Assumes nothing.
 use mathlib.Core.Path.{◌≡◌, refl, sym, ap, ap₂, subst, ◌∙◌}
-use mathlib.Core.Bool.{Bool, ◌||◌, false, true}
+use mathlib.Core.Bool.{Bool, ◌||◌}
 use Rattle.std.specs.List.{list_any, sum}
 use Rattle.std.proofs.lemmas.List.Sums.{sum_by-cons}
 use Rattle.std.specs.Prelude.{eqb}
@@ -10,16 +10,15 @@ use native.Mathlib.Nat.{sub-zero, not-suc-le-zero}
 use native.Mathlib.Numerals.{add-one}
 use native.Mathlib.Omega.{arith}
 use lib.ListN.{length, get_or, take, drop, set, length-append, length-drop, drop_of_length-le}
-use lib.Seq.{drop-cons, take-suc-set, length-take-le, take-take, take-append-le, take_all, get_or-take, take_at, drop_at}
-use Rattle.laws.specs.Filter.{filter_by, filter_join}
+use lib.Seq.{drop-cons, take_all, get_or-take, take_at, drop_at}
 use Rattle.laws.specs.Flat.{table}
 use Rattle.laws.specs.Lists.{part_length}
 use Rattle.laws.specs.Loops.{over}
 use Rattle.laws.specs.Split.{split, split_snoc, split-take, flat_split, split_at_column, split-set, length-split, sum_all, sum_snoc, sum_take, sum_fits}
 use Rattle.laws.specs.Put.{put, put_front}
 use Rattle.sheet.specs.declared.Ends.{Ends}
-use Rattle.columns.specs.Columns.{successors, elem, discover, explore, columns_after, reached, is_new, unreached, concat, columns, last_column}
-use Rattle.columns.specs.Found.{Fair, Reached, discover_rest, fair_start, explore_one, explore-end, explore_fair, explore_front, explore_grows, after_none, after_more, after-end}
+use Rattle.columns.specs.Columns.{successors, elem, discover, explore, columns_after, reached, unreached, concat, columns, last_column}
+use Rattle.columns.specs.Found.{Fair, Reached, discover_rest, fair_start, explore_one, explore-end, explore_fair, explore_front, explore_grows, after_none, after_more, after-end, follow_yes, follow_no, fair_room, target_in, follows, follow_fair, visit_fair, over_front, over_grows, discover_fair}
 
 -- whether a list has w, as the library says it
 pub elem_list : (w : ℕ) (l : List ℕ) → elem w l ≡ list_any (λ (v : ℕ). eqb v w) l
@@ -99,8 +98,8 @@ module _ (n : ℕ) (arrows : List Ends) (start : ℕ) where
   unfolding split sum_all reached
   first h = (fair_start n start h, omega arith, refl, omega arith, refl)
 
-  pub search_begin : (order sizes : List ℕ) → start < n → order ≡ start ∷ [] → sizes ≡ 1 ∷ [] → Searching order sizes 0 (n - 0)
-  search_begin order sizes h e f = rw (e, f, sub-zero n) (first h)
+  pub search_begin : (none none' order sizes : List ℕ) → start < n → none ≡ [] → none' ≡ [] → order ≡ none ++ (start ∷ []) → sizes ≡ none' ++ (1 ∷ []) → Searching order sizes 0 (n - 0)
+  search_begin none none' order sizes h z z' e f = rw (e, f, z, z', sub-zero n) (first h)
 
   -- what a search from the last column leaves
   module _ (found found' sizes : List ℕ) (low left : ℕ) (s : Searching found sizes low left) (e : found' ≡ explore n arrows found (drop low found)) where
@@ -155,10 +154,12 @@ module _ (n : ℕ) (arrows : List Ends) (start : ℕ) where
       pub search_stop : length more - length high ≡ 0 → Reached n arrows start found' sizes
       search_stop z = stop (sym less ∙ z)
 
-      pub search_step : (sizes' : List ℕ) → (length more - length high ≡ 0 → ⊥) → 0 < left → sizes' ≡ sizes ++ ((length more - length high) ∷ []) → Searching found' sizes' (length high) (left - 1)
-      search_step sizes' z l e =
-          subst (λ (k : ℕ). Searching found' sizes' k (left - 1)) (sym (ap length f))
-          (subst (λ (x : List ℕ). Searching found' x (length found) (left - 1)) (sym (e ∙ ap (λ (k : ℕ). sizes ++ (k ∷ [])) less)) (step (λ h. z (less ∙ h)) l))
+      pub search_step : (sizes' : List ℕ) (i : ℕ) → left ≡ n - i → i < n → (length more - length high ≡ 0 → ⊥) → sizes' ≡ sizes ++ ((length more - length high) ∷ []) → Searching found' sizes' (length high) (n - (i + 1))
+      search_step sizes' i l h z e =
+          let next : left - 1 ≡ n - (i + 1) = omega (arith, l, h) in
+          subst (λ (k : ℕ). Searching found' sizes' (length high) k) next
+          (subst (λ (k : ℕ). Searching found' sizes' k (left - 1)) (sym (ap length f))
+          (subst (λ (x : List ℕ). Searching found' x (length found) (left - 1)) (sym (e ∙ ap (λ (k : ℕ). sizes ++ (k ∷ [])) less)) (step (λ h. z (less ∙ h)) (omega (arith, l, h)))))
 
   pub search_all : (found sizes : List ℕ) (low left : ℕ) → Searching found sizes low left → left ≤ 0 → Reached n arrows start found sizes
   search_all found sizes low left s z =
@@ -213,18 +214,22 @@ module _ (n : ℕ) (arrows : List Ends) (start : ℕ) where
 
     -- by what the code reads of those reached
     module _ (seen : List ℕ) (f : seen ≡ found) where
-      pub fill_all : n ≤ length seen → (sum_all sizes ≡ length all) × (split sizes all ≡ columns n arrows start)
-      fill_all h = no_rest (subst (λ (l : List ℕ). n ≤ length l) f h)
+      pub fill_none : n ≤ length seen → split sizes all ≡ columns n arrows start
+      fill_none h = (no_rest (subst (λ (l : List ℕ). n ≤ length l) f h)).1
 
-      pub fill_rest : (sizes' : List ℕ) → length seen < n → sizes' ≡ sizes ++ ((n - length seen) ∷ []) → (sum_all sizes' ≡ length all) × (split sizes' all ≡ columns n arrows start)
-      fill_rest sizes' h g =
-          subst (λ (z : List ℕ). (sum_all z ≡ length all) × (split z all ≡ columns n arrows start)) (sym (g ∙ ap (λ (l : List ℕ). sizes ++ ((n - length l) ∷ [])) f))
-          (rest (subst (λ (l : List ℕ). length l < n) f h))
+      module _ (sizes' : List ℕ) (h : length seen < n) (g : sizes' ≡ sizes ++ ((n - length seen) ∷ [])) where
+        with_rest : (sum_all sizes' ≡ length all) × (split sizes' all ≡ columns n arrows start)
+        with_rest =
+            subst (λ (z : List ℕ). (sum_all z ≡ length all) × (split z all ≡ columns n arrows start)) (sym (g ∙ ap (λ (l : List ℕ). sizes ++ ((n - length l) ∷ [])) f))
+            (rest (subst (λ (l : List ℕ). length l < n) f h))
+
+        pub fill_long : sum_all sizes' ≡ length all
+        fill_long = with_rest.0
+
+        pub fill_more : split sizes' all ≡ columns n arrows start
+        fill_more = with_rest.1
 
 -- ---- a column of the columns that the code holds, read and stored as its part of the order
-pub sum_front : (sizes : List ℕ) (l i : ℕ) → i < length (take l sizes) → sum_all (take i (take l sizes)) + get_or (take l sizes) i 0 ≤ sum_all sizes
-sum_front sizes l i h = omega (arith, sum_fits (take l sizes) i h, sum_take sizes l)
-
 module _ (sizes order : List ℕ) (l : ℕ) (cs : List (List ℕ)) (v : split sizes order ≡ cs) (h : l < length cs) where
   pub inside : l < length sizes
   inside = omega (arith, h, ap length v, length-split sizes order)
@@ -256,3 +261,20 @@ module _ (sizes order : List ℕ) (l : ℕ) (cs : List (List ℕ)) (v : split si
           ap₂ (λ (j b : ℕ). split sizes (take b order ++ (d ++ drop j (drop b order)))) wide start_is
           ∙ split-set sizes l order d inside (g ∙ size_is) (omega (arith, fit, room))
           ∙ ap (λ (x : List (List ℕ)). set x l d) v
+
+-- ---- what the check is given for a function
+pub ruleset following = (follow_yes, follow_no, fair_room, target_in)
+
+pub ruleset visiting = (follows, follow_fair, over_next, over_last)
+
+pub ruleset exploring = (visit_fair, over_front, over_grows, explore_step, explore_stop)
+
+pub ruleset adding = (fair_room, discover_fair, rest_begin, rest_step, rest_end)
+
+pub ruleset filling = (fill_none, fill_long, fill_more)
+
+pub ruleset counting = (length-split)
+
+pub ruleset reading = (inside, room_for, part_is)
+
+pub ruleset storing = (inside, room_for, column_long, part_set)

@@ -1,7 +1,7 @@
 -- The states found so far: none twice, so that those found and those not found are all; a search only adds to them. Arrow by arrow, as the code goes. Assumes nothing.
 use Rattle.std.specs.Prelude.{◌≡◌, Bool, true, false, cond, not, ◌&&◌, ◌||◌, ltb, eqb, length, take, drop}
 use Rattle.std.proofs.Math.Path.{refl, sym}
-use Rattle.std.proofs.Common.{ap, subst, ◌∙◌, not-suc-le-zero, length-append, take-take, length-take-le}
+use Rattle.std.proofs.Common.{ap, subst, ◌∙◌, not-suc-le-zero, length-append}
 use mathlib.Core.List.{List, [], ◌∷◌, ◌++◌, flat_map, append-nil, append_assoc}
 use Prim.Native.Nat.{ℕ, zero, suc, ◌+◌, ◌-◌, ◌≤◌, ◌<◌}
 use native.Mathlib.Omega.{arith}

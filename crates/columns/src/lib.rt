@@ -55,7 +55,7 @@ impl<'a> Net<'a> {
     }
 
     // Follows one arrow from v.
-    #[tactic(auto, using(crate::specs::Found::follow_yes, crate::specs::Found::follow_no))]
+    #[tactic(auto, using(crate::proofs::Laws::following))]
     fn follow(&self, found: &mut Stack<usize, 64>, v: usize, arrow: Ends)
         requires room { self.now.states ≤ 64 }
         requires fair { Fair self.now.states found.old }
@@ -67,6 +67,7 @@ impl<'a> Net<'a> {
     }
 
     // Follows the arrows that leave v.
+    #[tactic(auto, using(crate::proofs::Laws::visiting))]
     fn visit(&self, found: &mut Stack<usize, 64>, v: usize)
         requires room { self.now.states ≤ 64 }
         requires fair { Fair self.now.states found.old }
@@ -79,6 +80,7 @@ impl<'a> Net<'a> {
     }
 
     // Follows the arrows that leave the states found, from place `low` on.
+    #[tactic(auto, using(crate::proofs::Laws::exploring))]
     fn explore(&self, found: &mut Stack<usize, 64>, low: usize)
         requires room { self.now.states ≤ 64 }
         requires fair { Fair self.now.states found.old }
@@ -93,6 +95,7 @@ impl<'a> Net<'a> {
     }
 
     // The columns that are reached from `start`.
+    #[tactic(auto, using(crate::proofs::Laws::search_grown))]
     fn reach(&self, start: usize) -> Found
         requires room { self.now.states ≤ 64 }
         requires state { start < self.now.states }
@@ -117,6 +120,7 @@ impl<'a> Net<'a> {
     }
 
     // Puts the states that are not found behind those that are.
+    #[tactic(auto, using(crate::proofs::Laws::adding))]
     fn put_unreached(&self, found: &mut Stack<usize, 64>)
         requires room { self.now.states ≤ 64 }
         requires fair { Fair self.now.states found.old }
@@ -128,6 +132,7 @@ impl<'a> Net<'a> {
     }
 
     // All states in the order of the columns, and the columns' sizes.
+    #[tactic(auto, using(crate::proofs::Laws::filling))]
     fn fill(&self, start: usize) -> Found
         requires room { self.now.states ≤ 64 }
         requires state { start < self.now.states }
@@ -174,6 +179,7 @@ impl Model for Columns {
 
 impl Columns {
     // The columns of the layered layout.
+    #[tactic(auto, using(crate::proofs::Laws::split_copied))]
     pub fn breadth_first(net: &Net, start: usize) -> Self
         requires room { net.now.states ≤ 64 }
         requires state { start < net.now.states }
@@ -189,6 +195,7 @@ impl Columns {
     }
 
     // How many columns there are.
+    #[tactic(auto, using(crate::proofs::Laws::counting))]
     pub fn count(&self) -> usize
         ensures count { result ≡ length self.now }
         ensures within { result ≤ 64 }
@@ -206,6 +213,7 @@ impl Columns {
     }
 
     // The states of column l.
+    #[tactic(auto, using(crate::proofs::Laws::reading))]
     pub fn column(&self, l: usize) -> &[usize]
         requires { l < length self.now }
         ensures states { result.now ≡ get_or self.now l [] }
@@ -217,6 +225,7 @@ impl Columns {
     }
 
     // Puts the states of column l in another order.
+    #[tactic(auto, using(crate::proofs::Laws::storing))]
     pub fn reorder(&mut self, l: usize, states: &[usize])
         requires column { l < length self.old }
         requires level { length states.now ≡ length (get_or self.old l []) }

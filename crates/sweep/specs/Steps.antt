@@ -1,5 +1,5 @@
 -- What the code adds up, arrow by arrow, and a step of each of its loops. Assumes nothing.
-use Rattle.std.specs.Prelude.{◌≡◌, refl, Bool, ℕ, ◌+◌, ◌%◌, ◌≤◌, ◌<◌, eqb, length, Float}
+use Rattle.std.specs.Prelude.{◌≡◌, refl, Bool, ℕ, ◌+◌, ◌%◌, eqb, length, Float}
 use Rattle.std.specs.Prelude.{Option, Some, None}
 use Rattle.std.proofs.Common.{sym, ap, ◌∙◌, add-zero, arith}
 use mathlib.Core.List.{List, [], ◌∷◌, flat_map}
