@@ -16,7 +16,7 @@ use Rattle.routing_laws.specs.Numbers.{numbered-drop, numbered-past}
 use Rattle.routing_laws.proofs.Turns.{turned_loop, turned_label, turned-other}
 use Rattle.curves.specs.declared.Laid.{Laid}
 use Rattle.curves.specs.Lay.{laid_by, laid_of, crossing_by}
-use Rattle.turns.specs.Steps.{is_sort, pass_of, looped_as, more, turned_as, turned_by}
+use Rattle.turns.specs.Steps.{is_sort, pass_of, more, turned_as, turned_by}
 use Rattle.turns.specs.declared.Sort.{Sort}
 use Rattle.std.specs.Prelude.{set}
 use Rattle.laws.specs.Joined.{map_join}
@@ -143,13 +143,6 @@ unfolding passed
 pass_all f sizes p d = refl
 
 -- ---- how many traces
-
-pub sort_traces : (x : Laid) (s : Sort) → is_sort s x ≡ true → looped_as x ≤ more s 1
-sort_traces Laid.LeftOut s t = omega arith
-sort_traces (Laid.Between c) s t = omega arith
-sort_traces Laid.Loop Sort.Loop t = omega arith
-sort_traces Laid.Loop Sort.Arc t = absurd (true≢false (sym t))
-sort_traces Laid.Loop Sort.Straight t = absurd (true≢false (sym t))
 
 pub more_next : (s : Sort) (i : ℕ) → more s (i + 1) ≡ more s i + more s 1
 more_next Sort.Loop i = refl
