@@ -1,5 +1,5 @@
 -- The order of the turns is the three passes over all arrows, and the first scene has each arrow's own trace. Assumes nothing.
-use Rattle.std.specs.Prelude.{◌≡◌, refl, Bool, true, false, not, cond, ◌&&◌, eqb}
+use Rattle.std.specs.Prelude.{◌≡◌, refl, Bool, true, false, not, cond, ◌&&◌}
 use Rattle.std.proofs.Common.{ap, ap₂, ◌∙◌}
 use mathlib.Core.List.{List, [], ◌∷◌, ◌++◌, map, flat_map}
 use Rattle.laws.specs.Cases.{by_bool}
@@ -8,7 +8,7 @@ use Rattle.laws.specs.Joined.{map_flat_one, flat_filter, filter_flat, flat_same,
 use Rattle.trace.specs.Traces.{Trace}
 use Rattle.scene.specs.Scene.{scene_of}
 use Rattle.routing.specs.Routing.{Frame, Numbered, numbered, is_kept_in, is_loop, kept, loops, crossing, Route, route_of, routes, start_traces, route_trace, first_scene, Item, loop, label, is_arc, order}
-use Rattle.routing_laws.specs.Passes.{is_crossing, turn_kind, items_of, traces_of}
+use Rattle.routing_laws.specs.Passes.{is_crossing, loop_pass, arc_pass, straight_pass, in_pass, items_of, traces_of}
 use Rattle.routing_laws.specs.Order.{routes_of}
 
 one_route : (k l : Bool) (r : Route) → cond k (cond (not l) (r ∷ []) []) [] ≡ cond (k && not l) (r ∷ []) []
@@ -25,32 +25,22 @@ routes-each f =
 
 -- ---- the three passes
 
-loop_items : (k l c : Bool) (i : Item) → cond k (cond l (i ∷ []) []) [] ≡ cond (eqb (cond k (cond l 1 (cond c 2 3)) 0) 1) (i ∷ []) []
-loop_items true true c i = refl
-loop_items true false true i = refl
-loop_items true false false i = refl
-loop_items false l c i = refl
+loop_items : (k l : Bool) (i : Item) → cond k (cond l (i ∷ []) []) [] ≡ cond (k && l) (i ∷ []) []
+loop_items true l i = refl
+loop_items false l i = refl
 
-arc-items : (k l : Bool) (r : Route) → map label (filter_by is_arc (cond (k && not l) (r ∷ []) [])) ≡ cond (eqb (cond k (cond l 1 (cond (is_arc r) 2 3)) 0) 2) (label r ∷ []) []
+label_items : (p : Route → Bool) (c : Bool) (r : Route) → map label (filter_by p (cond c (r ∷ []) [])) ≡ cond (c && p r) (label r ∷ []) []
 unfolding filter_by
-arc-items true true r = refl
-arc-items true false r = by_bool (is_arc r) (λ t. rw t) (λ t. rw t)
-arc-items false l r = refl
+label_items p true r = by_bool (p r) (λ t. rw t) (λ t. rw t)
+label_items p false r = refl
 
-straight-items : (k l : Bool) (r : Route)
-    → map label (filter_by (λ s. not (is_arc s)) (cond (k && not l) (r ∷ []) [])) ≡ cond (eqb (cond k (cond l 1 (cond (is_arc r) 2 3)) 0) 3) (label r ∷ []) []
-unfolding filter_by
-straight-items true true r = refl
-straight-items true false r = by_bool (is_arc r) (λ t. rw t) (λ t. rw t)
-straight-items false l r = refl
-
-loops-pass : (f : Frame) → map loop (loops f) ≡ flat_map (items_of f 1) (numbered f)
-unfolding kept items_of turn_kind
+loops-pass : (f : Frame) → map loop (loops f) ≡ flat_map (items_of f loop_pass) (numbered f)
+unfolding kept items_of in_pass
 loops-pass f =
     map_flat_one loop (loops f)
     ∙ flat_filter (λ a. loop a ∷ []) is_loop (kept f)
     ∙ flat_filter (λ a. cond (is_loop a) (loop a ∷ []) []) (is_kept_in f) (numbered f)
-    ∙ flat_same _ (items_of f 1) (numbered f) (λ a. loop_items (is_kept_in f a) (is_loop a) (is_arc (route_of f a)) (loop a))
+    ∙ flat_same _ (items_of f loop_pass) (numbered f) (λ a. loop_items (is_kept_in f a) (is_loop a) (loop a))
 
 -- what one test leaves of the routes, as turns
 labels-pass : (f : Frame) (p : Route → Bool) (g : Numbered → List Item) → ((a : Numbered) → map label (filter_by p (routes_of f a)) ≡ g a)
@@ -61,16 +51,18 @@ labels-pass f p g e =
     ∙ map_flat label (λ a. filter_by p (routes_of f a)) (numbered f)
     ∙ flat_same _ g (numbered f) e
 
-arcs_pass : (f : Frame) → map label (filter_by is_arc (routes f)) ≡ flat_map (items_of f 2) (numbered f)
-unfolding items_of turn_kind
-arcs_pass f = labels-pass f is_arc (items_of f 2) (λ a. arc-items (is_kept_in f a) (is_loop a) (route_of f a))
+arcs_pass : (f : Frame) → map label (filter_by is_arc (routes f)) ≡ flat_map (items_of f arc_pass) (numbered f)
+unfolding items_of in_pass
+arcs_pass f = labels-pass f is_arc (items_of f arc_pass) (λ a. label_items is_arc (is_crossing f a) (route_of f a))
 
-straights_pass : (f : Frame) → map label (filter_by (λ r. not (is_arc r)) (routes f)) ≡ flat_map (items_of f 3) (numbered f)
-unfolding items_of turn_kind
-straights_pass f = labels-pass f (λ r. not (is_arc r)) (items_of f 3) (λ a. straight-items (is_kept_in f a) (is_loop a) (route_of f a))
+straights_pass : (f : Frame) → map label (filter_by (λ r. not (is_arc r)) (routes f)) ≡ flat_map (items_of f straight_pass) (numbered f)
+unfolding items_of in_pass
+straights_pass f =
+    labels-pass f (λ r. not (is_arc r)) (items_of f straight_pass) (λ a. label_items (λ r. not (is_arc r)) (is_crossing f a) (route_of f a))
 
 -- loops, then arcs, then straight arrows: three passes over all arrows
-pub order-passes : (f : Frame) → order f ≡ flat_map (items_of f 1) (numbered f) ++ flat_map (items_of f 2) (numbered f) ++ flat_map (items_of f 3) (numbered f)
+pub order-passes : (f : Frame)
+    → order f ≡ flat_map (items_of f loop_pass) (numbered f) ++ flat_map (items_of f arc_pass) (numbered f) ++ flat_map (items_of f straight_pass) (numbered f)
 unfolding order
 order-passes f =
     ap₂ (λ (x y : List Item). x ++ y) (ap₂ (λ (x y : List Item). x ++ y) (loops-pass f) (arcs_pass f)) (straights_pass f)

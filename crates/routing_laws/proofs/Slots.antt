@@ -1,5 +1,5 @@
 -- The passes leave in the slots what the run draws, and what is gathered from there is the records, one for each kept arrow. Assumes nothing.
-use Rattle.std.specs.Prelude.{◌≡◌, Bool, ℕ, zero, suc, ◌+◌, ◌≤◌, ◌<◌, eqb, length}
+use Rattle.std.specs.Prelude.{◌≡◌, Bool, ℕ, suc, ◌+◌, ◌≤◌, ◌<◌, not, ◌&&◌, eqb, length}
 use Rattle.std.proofs.Math.Path.{refl}
 use Rattle.std.proofs.Common.{sym, ap, ap₂, ◌∙◌, arith, eqb-true}
 use Rattle.std.proofs.Math.Bool.{true, false, cond}
@@ -23,31 +23,31 @@ use Rattle.std.proofs.lemmas.List.{length-set, get_or-set_same, get_or-set_other
 use Rattle.std.proofs.Math.ListN.{get_or-eq_default}
 use Rattle.laws.specs.Cases.{by_lt}
 use Rattle.routing.specs.Routing.{Ends, numbered_from, numbered_by, no_ends}
-use Rattle.routing_laws.specs.Passes.{turn_kind, items_of, Drawn, drawn_with, store, taken_in, played, turned, passed, shown, gathered}
+use Rattle.routing_laws.specs.Passes.{Pass, loop_pass, arc_pass, straight_pass, in_pass, items_of, Drawn, drawn_with, store, taken_in, played, turned, passed, shown, gathered}
 use Rattle.routing_laws.specs.Numbers.{is_number, number_one, number_none, flat_numbered}
 use Rattle.routing_laws.proofs.Order.{order-passes}
 use Rattle.routing_laws.specs.Slots.{is_edge}
 
 -- ---- the passes are the run
 
-pass-run : (f : Frame) (sizes : List BlockSize) (p : ℕ) (d : Drawn) → passed f sizes p d ≡ over (played f) d (map (step_of sizes) (flat_map (items_of f p) (numbered f)))
+pass-run : (f : Frame) (sizes : List BlockSize) (p : Pass) (d : Drawn) → passed f sizes p d ≡ over (played f) d (map (step_of sizes) (flat_map (items_of f p) (numbered f)))
 unfolding passed turned
 pass-run f sizes p d =
     sym (over_flat (played f) d (λ a. map (step_of sizes) (items_of f p a)) (numbered f))
     ∙ ap (over (played f) d) (sym (map_flat (step_of sizes) (items_of f p) (numbered f)))
 
 pub run-passes : (f : Frame) (sizes : List BlockSize) (d : Drawn)
-    → passed f sizes 3 (passed f sizes 2 (passed f sizes 1 d)) ≡ over (played f) d (steps f sizes)
+    → passed f sizes straight_pass (passed f sizes arc_pass (passed f sizes loop_pass d)) ≡ over (played f) d (steps f sizes)
 run-passes f sizes d =
-    let turns : ℕ → List Step = λ p. map (step_of sizes) (flat_map (items_of f p) (numbered f)) in
-    pass-run f sizes 3 (passed f sizes 2 (passed f sizes 1 d))
-    ∙ ap (λ (c : Drawn). over (played f) c (turns 3)) (pass-run f sizes 2 (passed f sizes 1 d) ∙ ap (λ (c : Drawn). over (played f) c (turns 2)) (pass-run f sizes 1 d))
+    let turns : Pass → List Step = λ p. map (step_of sizes) (flat_map (items_of f p) (numbered f)) in
+    pass-run f sizes straight_pass (passed f sizes arc_pass (passed f sizes loop_pass d))
+    ∙ ap (λ (c : Drawn). over (played f) c (turns straight_pass)) (pass-run f sizes arc_pass (passed f sizes loop_pass d) ∙ ap (λ (c : Drawn). over (played f) c (turns arc_pass)) (pass-run f sizes loop_pass d))
     ∙ sym
     (ap (λ (l : List Item). over (played f) d (map (step_of sizes) l)) (order-passes f)
-    ∙ ap (over (played f) d) (map_join (step_of sizes) (flat_map (items_of f 1) (numbered f) ++ flat_map (items_of f 2) (numbered f)) (flat_map (items_of f 3) (numbered f)))
-    ∙ over_join (played f) d (map (step_of sizes) (flat_map (items_of f 1) (numbered f) ++ flat_map (items_of f 2) (numbered f))) (turns 3)
-    ∙ ap (λ (l : List Step). over (played f) (over (played f) d l) (turns 3)) (map_join (step_of sizes) (flat_map (items_of f 1) (numbered f)) (flat_map (items_of f 2) (numbered f)))
-    ∙ ap (λ (c : Drawn). over (played f) c (turns 3)) (over_join (played f) d (turns 1) (turns 2)))
+    ∙ ap (over (played f) d) (map_join (step_of sizes) (flat_map (items_of f loop_pass) (numbered f) ++ flat_map (items_of f arc_pass) (numbered f)) (flat_map (items_of f straight_pass) (numbered f)))
+    ∙ over_join (played f) d (map (step_of sizes) (flat_map (items_of f loop_pass) (numbered f) ++ flat_map (items_of f arc_pass) (numbered f))) (turns straight_pass)
+    ∙ ap (λ (l : List Step). over (played f) (over (played f) d l) (turns straight_pass)) (map_join (step_of sizes) (flat_map (items_of f loop_pass) (numbered f)) (flat_map (items_of f arc_pass) (numbered f)))
+    ∙ ap (λ (c : Drawn). over (played f) c (turns straight_pass)) (over_join (played f) d (turns loop_pass) (turns arc_pass)))
 
 slots_run : (f : Frame) (s : Scene) (l : List (Option Geometry)) (ts : List Step)
     → (over (played f) (drawn_with s l) ts).slots ≡ over store l (zip_by (drawn_step f) ts (Run.run (more f) (cost f) (scene_after f) s ts))
@@ -57,7 +57,7 @@ slots_run f s l (t ∷ ts) = slots_run f (scene_after f s t (taken_in f s t)) (s
 
 -- after the three passes, each drawing is stored in its slot, in the order of the turns
 pub passes-store : (f : Frame) (sizes : List BlockSize) (l : List (Option Geometry))
-    → (passed f sizes 3 (passed f sizes 2 (passed f sizes 1 (drawn_with (first_scene f) l)))).slots ≡ over store l (drawing f sizes)
+    → (passed f sizes straight_pass (passed f sizes arc_pass (passed f sizes loop_pass (drawn_with (first_scene f) l)))).slots ≡ over store l (drawing f sizes)
 unfolding drawing
 passes-store f sizes l = ap (λ (d : Drawn). d.slots) (run-passes f sizes (drawn_with (first_scene f) l)) ∙ slots_run f (first_scene f) l (steps f sizes)
 
@@ -84,58 +84,58 @@ unfolding filter_by
 own_item k true i = refl
 own_item k false i = by_bool (eqb (edge_of i) k) (λ t. rw t) (λ t. rw t)
 
-own_items : (k p : ℕ) (f : Frame) (a : Numbered) → filter_by (λ i. eqb (edge_of i) k) (items_of f p a) ≡ cond (is_number k a) (items_of f p a) []
+own_items : (k : ℕ) (p : Pass) (f : Frame) (a : Numbered) → filter_by (λ i. eqb (edge_of i) k) (items_of f p a) ≡ cond (is_number k a) (items_of f p a) []
 unfolding items_of
-own_items k zero f a = own_item k (eqb (turn_kind f a) 0) (loop a)
-own_items k (suc zero) f a = own_item k (eqb (turn_kind f a) 1) (loop a)
-own_items k (suc (suc p)) f a = own_item k (eqb (turn_kind f a) (suc (suc p))) (label (route_of f a))
+own_items k loop_pass f a = own_item k (in_pass f loop_pass a) (loop a)
+own_items k arc_pass f a = own_item k (in_pass f arc_pass a) (label (route_of f a))
+own_items k straight_pass f a = own_item k (in_pass f straight_pass a) (label (route_of f a))
 
 -- the turns of arrow k in a pass
-own_pass : (f : Frame) (p k : ℕ) → filter_by (is_turn k) (flat_map (items_of f p) (numbered f)) ≡ flat_map (items_of f p) (filter_by (is_number k) (numbered f))
+own_pass : (f : Frame) (p : Pass) (k : ℕ) → filter_by (is_turn k) (flat_map (items_of f p) (numbered f)) ≡ flat_map (items_of f p) (filter_by (is_number k) (numbered f))
 own_pass f p k =
     filter_flat (is_turn k) (items_of f p) (numbered f)
     ∙ flat_same _ _ (numbered f) (own_items k p f)
     ∙ sym (flat_filter (items_of f p) (is_number k) (numbered f))
 
-pass-items : (f : Frame) (p k : ℕ) → k < length f.arrows → filter_by (is_turn k) (flat_map (items_of f p) (numbered f)) ≡ items_of f p (numbered_at f k)
+pass-items : (f : Frame) (p : Pass) (k : ℕ) → k < length f.arrows → filter_by (is_turn k) (flat_map (items_of f p) (numbered f)) ≡ items_of f p (numbered_at f k)
 pass-items f p k h =
     own_pass f p k ∙ ap (flat_map (items_of f p)) (number_one f k h)
     ∙ unfold flat_map in append-nil (items_of f p (numbered_at f k))
 
-one_turn : (f : Frame) (a : Numbered) → items_of f 1 a ++ items_of f 2 a ++ items_of f 3 a ≡ cond (is_kept_in f a) (item_for f a ∷ []) []
-unfolding items_of turn_kind
+one_turn : (f : Frame) (a : Numbered) → items_of f loop_pass a ++ items_of f arc_pass a ++ items_of f straight_pass a ≡ cond (is_kept_in f a) (item_for f a ∷ []) []
+unfolding items_of in_pass
 one_turn f a = go (is_kept_in f a) (is_loop a) (is_arc (route_of f a))
   where
     go : (k l c : Bool)
-        → cond (eqb (cond k (cond l 1 (cond c 2 3)) 0) 1) (loop a ∷ []) []
-        ++ cond (eqb (cond k (cond l 1 (cond c 2 3)) 0) 2) (label (route_of f a) ∷ []) []
-        ++ cond (eqb (cond k (cond l 1 (cond c 2 3)) 0) 3) (label (route_of f a) ∷ []) [] ≡ cond k (cond l (loop a) (label (route_of f a)) ∷ []) []
+        → cond (k && l) (loop a ∷ []) []
+        ++ cond ((k && not l) && c) (label (route_of f a) ∷ []) []
+        ++ cond ((k && not l) && not c) (label (route_of f a) ∷ []) [] ≡ cond k (cond l (loop a) (label (route_of f a)) ∷ []) []
     go true true c = refl
     go true false true = refl
     go true false false = refl
     go false l c = refl
 
 own_passes : (f : Frame) (k : ℕ)
-    → filter_by (is_turn k) (order f) ≡ filter_by (is_turn k) (flat_map (items_of f 1) (numbered f)) ++ filter_by (is_turn k) (flat_map (items_of f 2) (numbered f))
-    ++ filter_by (is_turn k) (flat_map (items_of f 3) (numbered f))
+    → filter_by (is_turn k) (order f) ≡ filter_by (is_turn k) (flat_map (items_of f loop_pass) (numbered f)) ++ filter_by (is_turn k) (flat_map (items_of f arc_pass) (numbered f))
+    ++ filter_by (is_turn k) (flat_map (items_of f straight_pass) (numbered f))
 own_passes f k =
     ap (filter_by (is_turn k)) (order-passes f)
-    ∙ filter_join (is_turn k) (flat_map (items_of f 1) (numbered f) ++ flat_map (items_of f 2) (numbered f)) (flat_map (items_of f 3) (numbered f))
-    ∙ ap (λ (l : List Item). l ++ filter_by (is_turn k) (flat_map (items_of f 3) (numbered f)))
-    (filter_join (is_turn k) (flat_map (items_of f 1) (numbered f)) (flat_map (items_of f 2) (numbered f)))
+    ∙ filter_join (is_turn k) (flat_map (items_of f loop_pass) (numbered f) ++ flat_map (items_of f arc_pass) (numbered f)) (flat_map (items_of f straight_pass) (numbered f))
+    ∙ ap (λ (l : List Item). l ++ filter_by (is_turn k) (flat_map (items_of f straight_pass) (numbered f)))
+    (filter_join (is_turn k) (flat_map (items_of f loop_pass) (numbered f)) (flat_map (items_of f arc_pass) (numbered f)))
 
 -- "Each arrow of the records has one turn; a left-out arrow has none"
 pub own_turn : (f : Frame) (k : ℕ) → k < length f.arrows
     → filter_by (is_turn k) (order f) ≡ cond (is_kept_in f (numbered_at f k)) (item_for f (numbered_at f k) ∷ []) []
 own_turn f k l =
     own_passes f k
-    ∙ ap₂ (λ (x y : List Item). x ++ y) (ap₂ (λ (x y : List Item). x ++ y) (pass-items f 1 k l) (pass-items f 2 k l)) (pass-items f 3 k l)
+    ∙ ap₂ (λ (x y : List Item). x ++ y) (ap₂ (λ (x y : List Item). x ++ y) (pass-items f loop_pass k l) (pass-items f arc_pass k l)) (pass-items f straight_pass k l)
     ∙ one_turn f (numbered_at f k)
 
 pub own_none : (f : Frame) (k : ℕ) → length f.arrows ≤ k → filter_by (is_turn k) (order f) ≡ []
-own_none f k l = own_passes f k ∙ ap₂ (λ (x y : List Item). x ++ y) (ap₂ (λ (x y : List Item). x ++ y) (none 1) (none 2)) (none 3)
+own_none f k l = own_passes f k ∙ ap₂ (λ (x y : List Item). x ++ y) (ap₂ (λ (x y : List Item). x ++ y) (none loop_pass) (none arc_pass)) (none straight_pass)
   where
-    none : (p : ℕ) → filter_by (is_turn k) (flat_map (items_of f p) (numbered f)) ≡ []
+    none : (p : Pass) → filter_by (is_turn k) (flat_map (items_of f p) (numbered f)) ≡ []
     none p = own_pass f p k ∙ ap (flat_map (items_of f p)) (number_none f k l) ∙ unfold flat_map in refl
 
 -- the numbers of the drawings of arrow k, as of its turns
@@ -247,5 +247,5 @@ slots_gathered f sizes l room none =
 
 -- what the three passes leave, gathered: the records
 pub passes-gathered : (f : Frame) (sizes : List BlockSize) (l : List (Option Geometry)) → length f.arrows ≤ length l → ((k : ℕ) → get_or l k None ≡ None)
-    → gathered (passed f sizes 3 (passed f sizes 2 (passed f sizes 1 (drawn_with (first_scene f) l)))).slots ≡ records f sizes
+    → gathered (passed f sizes straight_pass (passed f sizes arc_pass (passed f sizes loop_pass (drawn_with (first_scene f) l)))).slots ≡ records f sizes
 passes-gathered f sizes l room none = ap gathered (passes-store f sizes l) ∙ slots_gathered f sizes l room none

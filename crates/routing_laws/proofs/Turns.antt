@@ -1,6 +1,6 @@
 -- One turn as the code runs it: the turn of a loop is `looped`, that of a label `placed_arrow`. Assumes nothing.
-use Rattle.std.specs.Prelude.{◌≡◌, List, ℕ, suc, ◌-◌, ◌<◌}
-use Rattle.std.proofs.Common.{ap, ◌∙◌, arith, ne_eqb, eq-eqb}
+use Rattle.std.specs.Prelude.{◌≡◌, true, false, List, suc, ◌-◌, ◌<◌}
+use Rattle.std.proofs.Common.{ap, ◌∙◌, arith}
 use Rattle.laws.specs.Best.{best}
 use Rattle.laws.specs.Loops.{over}
 use Rattle.scene.specs.Scene.{Scene}
@@ -9,7 +9,7 @@ use Rattle.self_loop.specs.Looped.{direction_cost, loop_taken, looped}
 use Rattle.routing.specs.Routing.{Frame, BlockSize, Numbered, Route, route_of, Item, loop, label, step_of, loop_turn, label_turn, listed_by, drawn_step}
 use Rattle.routing_laws.specs.Demand.{step_with}
 use Rattle.routing_laws.proofs.Demand.{listed_some}
-use Rattle.routing_laws.specs.Passes.{turn_kind, item_of, items_of, Drawn, taken_in, played, turned}
+use Rattle.routing_laws.specs.Passes.{Pass, loop_pass, in_pass, item_of, items_of, Drawn, taken_in, played, turned}
 use Rattle.routing_laws.specs.Turns.{size_for, step_drawn, with_loop, with_label, loop_draws, label_draws}
 
 -- ---- the place taken
@@ -41,19 +41,22 @@ played_label f sizes d r = ap (with_label d) (drawn_label f d.scene r (size_for 
 
 -- ---- an arrow in a pass
 
--- of the pass's kind: one turn
-turned_one : (f : Frame) (sizes : List BlockSize) (p : ℕ) (d : Drawn) (a : Numbered) → turn_kind f a ≡ p → turned f sizes p d a ≡ played f d (step_of sizes (item_of f p a))
+-- in its own: one turn
+turned_one : (f : Frame) (sizes : List BlockSize) (p : Pass) (d : Drawn) (a : Numbered) → in_pass f p a ≡ true
+    → turned f sizes p d a ≡ played f d (step_of sizes (item_of f p a))
 unfolding turned items_of over
-turned_one f sizes p d a e = rw (eq-eqb _ _ e)
+turned_one f sizes p d a e = rw e
 
-pub turned_loop : (f : Frame) (sizes : List BlockSize) (d : Drawn) (a : Numbered) → turn_kind f a ≡ 1 → turned f sizes 1 d a ≡ with_loop d (loop_draws f sizes d.scene a)
-turned_loop f sizes d a e = turned_one f sizes 1 d a e ∙ played_loop f sizes d a
+pub turned_loop : (f : Frame) (sizes : List BlockSize) (d : Drawn) (a : Numbered) → in_pass f loop_pass a ≡ true
+    → turned f sizes loop_pass d a ≡ with_loop d (loop_draws f sizes d.scene a)
+turned_loop f sizes d a e = turned_one f sizes loop_pass d a e ∙ played_loop f sizes d a
 
-pub turned_label : (f : Frame) (sizes : List BlockSize) (p : ℕ) (d : Drawn) (a : Numbered) → turn_kind f a ≡ suc (suc p)
-    → turned f sizes (suc (suc p)) d a ≡ with_label d (label_draws sizes d.scene (route_of f a))
-turned_label f sizes p d a e = turned_one f sizes (suc (suc p)) d a e ∙ played_label f sizes d (route_of f a)
+pub turned_label : (f : Frame) (sizes : List BlockSize) (p : Pass) (d : Drawn) (a : Numbered) → item_of f p a ≡ label (route_of f a)
+    → in_pass f p a ≡ true → turned f sizes p d a ≡ with_label d (label_draws sizes d.scene (route_of f a))
+turned_label f sizes p d a i e =
+    turned_one f sizes p d a e ∙ ap (λ (t : Item). played f d (step_of sizes t)) i ∙ played_label f sizes d (route_of f a)
 
--- of another kind: none
-pub turned-other : (f : Frame) (sizes : List BlockSize) (p : ℕ) (d : Drawn) (a : Numbered) → (turn_kind f a ≡ p → ⊥) → turned f sizes p d a ≡ d
+-- in another: none
+pub turned-other : (f : Frame) (sizes : List BlockSize) (p : Pass) (d : Drawn) (a : Numbered) → in_pass f p a ≡ false → turned f sizes p d a ≡ d
 unfolding turned items_of over
-turned-other f sizes p d a h = rw (ne_eqb _ _ h)
+turned-other f sizes p d a e = rw e

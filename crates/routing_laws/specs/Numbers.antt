@@ -2,8 +2,7 @@
 use Rattle.std.specs.Prelude.{◌≡◌, Bool, ℕ, zero, suc, ◌+◌, ◌≤◌, ◌<◌, eqb, length, get_or, drop}
 use Rattle.std.proofs.Math.Path.{refl}
 use Rattle.std.proofs.Common.{sym, ap, ap₂, ◌∙◌, subst, add-zero, add-suc, suc-add, not-suc-le-zero, zero-add, add-one, arith, ne_eqb, eq-eqb, drop_of_length-le, drop-cons}
-use mathlib.Core.List.{List, [], ◌∷◌, ◌++◌, map, flat_map}
-use Rattle.std.proofs.Math.ListN.{get_or-map}
+use mathlib.Core.List.{List, [], ◌∷◌, ◌++◌, flat_map}
 use Rattle.laws.specs.Filter.{filter_by, filter_yes, filter_no}
 use Rattle.routing.specs.Routing.{Frame, Ends, Numbered, numbered_from, numbered, numbered_at, numbered_by, no_ends}
 
@@ -92,7 +91,3 @@ numbered-drop f i h =
 
 pub numbered-past : (f : Frame) (i : ℕ) → length f.arrows ≤ i → drop i (numbered f) ≡ []
 numbered-past f i h = let k : length (numbered f) ≤ i = omega (arith, length-numbered f) in drop_of_length-le (numbered f) k
-
--- what is read of arrow i
-pub of_arrow : {A : Type 0} (g : Numbered → A) (f : Frame) (i : ℕ) (d : Numbered) → i < length f.arrows → get_or (map g (numbered f)) i (g d) ≡ g (numbered_at f i)
-of_arrow g f i d h = get_or-map g (numbered f) i d ∙ ap g (numbered-at f i d h)

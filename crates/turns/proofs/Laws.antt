@@ -1,22 +1,22 @@
 -- Steps of the proofs. Assumes nothing.
-use Rattle.std.specs.Prelude.{◌≡◌, refl, true, false, cond, ℕ, suc, ◌+◌, ◌≤◌, ◌<◌, ltb, eqb, length, get_or, drop, Option, Some}
-use Rattle.std.proofs.Common.{sym, ap, ap₂, ◌∙◌, arith, ltb-true, eqb-true, add-one, drop-cons, drop_of_length-le, length-append}
-use Rattle.std.proofs.lemmas.Bool.{eqb-false}
+use Rattle.std.specs.Prelude.{◌≡◌, refl, true, false, not, ℕ, ◌+◌, ◌≤◌, ◌<◌, ltb, length, get_or, drop, Option, Some}
+use Rattle.std.proofs.Common.{sym, ap, ap₂, ◌∙◌, arith, ltb-true, true≢false, add-one, drop-cons, drop_of_length-le, length-append}
+use Rattle.std.proofs.lemmas.Bool.{not-true}
 use mathlib.Core.List.{List, [], ◌∷◌, ◌++◌, map, flat_map}
 use Rattle.std.proofs.Math.ListN.{get_or-map}
 use Rattle.laws.specs.Cases.{by_bool}
-use Rattle.laws.specs.Bools.{and_first}
+use Rattle.laws.specs.Bools.{and_first, and_second}
 use Rattle.laws.specs.Loops.{over}
 use Rattle.laws.specs.Lists.{get_d_any}
 use Rattle.label_spots.specs.declared.Geometry.{Geometry}
-use Rattle.routing.specs.Routing.{Frame, Ends, BlockSize, Numbered, numbered, numbered_at, no_ends, is_kept_in, is_loop, joined, arc_shape}
-use Rattle.routing_laws.specs.Passes.{Drawn, turn_kind, turned, passed, shown, gathered}
+use Rattle.routing.specs.Routing.{Frame, Ends, BlockSize, Numbered, numbered, numbered_at, no_ends, is_kept_in, is_loop, joined, route_of, is_arc, label}
+use Rattle.routing_laws.specs.Passes.{Pass, in_pass, is_crossing, item_of, Drawn, turned, passed, shown, gathered}
 use Rattle.routing_laws.specs.Turns.{size_for}
 use Rattle.routing_laws.specs.Numbers.{numbered-drop, numbered-past}
 use Rattle.routing_laws.proofs.Turns.{turned_loop, turned_label, turned-other}
 use Rattle.curves.specs.declared.Laid.{Laid}
 use Rattle.curves.specs.Lay.{laid_by, laid_of, crossing_by}
-use Rattle.turns.specs.Steps.{kind_laid, pass_of, looped_as, more, turned_as, turned_by}
+use Rattle.turns.specs.Steps.{is_sort, pass_of, more, turned_as, turned_by}
 use Rattle.turns.specs.declared.Sort.{Sort}
 use Rattle.std.specs.Prelude.{set}
 use Rattle.laws.specs.Joined.{map_join}
@@ -57,63 +57,48 @@ module _ (f : Frame) (i : ℕ) where
   unfolding laid_by
   laid_between k l = rw (k, l)
 
-  pub kind_is : turn_kind f this ≡ kind_laid (laid_by f ends)
-  unfolding turn_kind laid_by joined
-  kind_is =
-      by_bool (is_kept_in f this)
-      (λ k. by_bool (is_loop this) (λ l. rw (k, l)) (λ l. rw (k, l)))
-      (λ k. rw k)
+  -- the pass of its sort is the one that it has its turn in
+  sort_is : (s : Sort) → in_pass f (pass_of s) this ≡ is_sort s (laid_by f ends)
+  unfolding in_pass laid_by joined
+  sort_is Sort.Loop = by_bool (is_kept_in f this) (λ k. by_bool (is_loop this) (λ l. rw (k, l)) (λ l. rw (k, l))) (λ k. rw k)
+  sort_is Sort.Arc = by_bool (is_kept_in f this) (λ k. by_bool (is_loop this) (λ l. rw (k, l)) (λ l. rw (k, l))) (λ k. rw k)
+  sort_is Sort.Straight = by_bool (is_kept_in f this) (λ k. by_bool (is_loop this) (λ l. rw (k, l)) (λ l. rw (k, l))) (λ k. rw k)
 
   -- the state of a loop exists
   pub loop_state : laid_by f ends ≡ Laid.Loop → ends.source < length f.flags
   loop_state e =
       by_bool (is_kept_in f this)
       (λ k. ltb-true _ _ (and_first (ltb ends.source (length f.flags)) (ltb ends.target (length f.flags)) k))
-      (λ k. let z : 0 ≡ 1 = ap kind_laid (sym (laid_left k) ∙ e) in absurd (omega arith))
+      (λ k. absurd (true≢false (sym (ap (is_sort Sort.Loop) (sym (laid_left k) ∙ e)))))
 
   -- the turn in the pass of the arrow's sort, and in another
-  module _ (sizes : List BlockSize) (p : ℕ) (d : Drawn) where
-    label_turned : turn_kind f this ≡ cond (arc_shape (crossing_by f ends).routed.shape) 2 3 → turn_kind f this ≡ suc p
-        → turned f sizes (suc p) d this ≡ turned_as f (size_for sizes i) i d (Laid.Between (crossing_by f ends))
+  module _ (sizes : List BlockSize) (d : Drawn) where
+    label_yes : (s : Sort) → item_of f (pass_of s) this ≡ label (route_of f this) → is_crossing f this ≡ true → in_pass f (pass_of s) this ≡ true
+        → turned_by f (size_for sizes i) i d ≡ turned f sizes (pass_of s) d this
     unfolding joined
-    label_turned kind e =
-        by_bool (arc_shape (crossing_by f ends).routed.shape)
-        (λ w.
-        let two : turn_kind f this ≡ 2 = kind ∙ rw w in
-        ap (λ (q : ℕ). turned f sizes q d this) (sym e ∙ two) ∙ turned_label f sizes 0 d this two)
-        (λ w.
-        let three : turn_kind f this ≡ 3 = kind ∙ rw w in
-        ap (λ (q : ℕ). turned f sizes q d this) (sym e ∙ three) ∙ turned_label f sizes 1 d this three)
+    label_yes s w c t =
+        let kept : is_kept_in f this ≡ true = and_first (is_kept_in f this) (not (is_loop this)) c in
+        let apart : is_loop this ≡ false = not-true (is_loop this) (and_second (is_kept_in f this) (not (is_loop this)) c) in
+        ap (turned_as f (size_for sizes i) i d) (laid_between kept apart) ∙ sym (turned_label f sizes (pass_of s) d this w t)
 
-    pub turn_yes : eqb (kind_laid (laid_by f ends)) (suc p) ≡ true → turned_by f (size_for sizes i) i d ≡ turned f sizes (suc p) d this
-    turn_yes t =
-        let e : turn_kind f this ≡ suc p = kind_is ∙ eqb-true _ _ t in
-        by_bool (is_kept_in f this)
-        (λ k.
-        by_bool (is_loop this)
-        (λ l.
-        let one : turn_kind f this ≡ 1 = kind_is ∙ ap kind_laid (laid_loop k l) in
-        ap (turned_as f (size_for sizes i) i d) (laid_loop k l)
-        ∙ sym (ap (λ (q : ℕ). turned f sizes q d this) (sym e ∙ one) ∙ turned_loop f sizes d this one))
-        (λ l.
-        let kind : turn_kind f this ≡ cond (arc_shape (crossing_by f ends).routed.shape) 2 3 = kind_is ∙ ap kind_laid (laid_between k l) in
-        ap (turned_as f (size_for sizes i) i d) (laid_between k l) ∙ sym (label_turned kind e)))
-        (λ k. let z : 0 ≡ suc p = sym (kind_is ∙ ap kind_laid (laid_left k)) ∙ e in absurd (omega arith))
-
-    pub turn_no : eqb (kind_laid (laid_by f ends)) p ≡ false → d ≡ turned f sizes p d this
-    turn_no t = sym (turned-other f sizes p d this (λ q. eqb-false _ _ t (sym kind_is ∙ q)))
+    turn_yes : (s : Sort) → in_pass f (pass_of s) this ≡ true → turned_by f (size_for sizes i) i d ≡ turned f sizes (pass_of s) d this
+    unfolding in_pass
+    turn_yes Sort.Loop t =
+        let loops : is_loop this ≡ true = and_second (is_kept_in f this) (is_loop this) t in
+        ap (turned_as f (size_for sizes i) i d) (laid_loop (and_first (is_kept_in f this) (is_loop this) t) loops)
+        ∙ sym (turned_loop f sizes d this t)
+    turn_yes Sort.Arc t = label_yes Sort.Arc refl (and_first (is_crossing f this) (is_arc (route_of f this)) t) t
+    turn_yes Sort.Straight t = label_yes Sort.Straight refl (and_first (is_crossing f this) (not (is_arc (route_of f this))) t) t
 
   module _ (sizes : List BlockSize) (d : Drawn) (x : Laid) (sort : Sort) (w : x ≡ laid_by f ends) where
-    turn_held : (size : BlockSize) (s : Sort) → size ≡ size_for sizes i → eqb (kind_laid (laid_by f ends)) (pass_of s) ≡ true → turned_by f size i d ≡ turned f sizes (pass_of s) d this
-    turn_held size Sort.Loop z t = ap (λ (q : BlockSize). turned_by f q i d) z ∙ turn_yes sizes 0 d t
-    turn_held size Sort.Arc z t = ap (λ (q : BlockSize). turned_by f q i d) z ∙ turn_yes sizes 1 d t
-    turn_held size Sort.Straight z t = ap (λ (q : BlockSize). turned_by f q i d) z ∙ turn_yes sizes 2 d t
+    sorted_as : in_pass f (pass_of sort) this ≡ is_sort sort x
+    sorted_as = sort_is sort ∙ ap (is_sort sort) (sym w)
 
-    pub turn_sort : (size : BlockSize) → size ≡ size_for sizes i → eqb (kind_laid x) (pass_of sort) ≡ true → turned_by f size i d ≡ turned f sizes (pass_of sort) d this
-    turn_sort size z t = turn_held size sort z (ap (λ (l : Laid). eqb (kind_laid l) (pass_of sort)) (sym w) ∙ t)
+    pub turn_sort : (size : BlockSize) → size ≡ size_for sizes i → is_sort sort x ≡ true → turned_by f size i d ≡ turned f sizes (pass_of sort) d this
+    turn_sort size z t = ap (λ (q : BlockSize). turned_by f q i d) z ∙ turn_yes sizes d sort (sorted_as ∙ t)
 
-    pub turn_other : eqb (kind_laid x) (pass_of sort) ≡ false → d ≡ turned f sizes (pass_of sort) d this
-    turn_other t = turn_no sizes (pass_of sort) d (ap (λ (l : Laid). eqb (kind_laid l) (pass_of sort)) (sym w) ∙ t)
+    pub turn_other : is_sort sort x ≡ false → d ≡ turned f sizes (pass_of sort) d this
+    turn_other t = sym (turned-other f sizes (pass_of sort) d this (sorted_as ∙ t))
 
 -- ---- one drawing more
 
@@ -141,7 +126,7 @@ module _ (cs : List «V») (bs : List Rect) (slots : List (Option Geometry)) (i 
 
 -- ---- a pass
 
-pub pass_more : (f : Frame) (sizes : List BlockSize) (p i : ℕ) (c d r : Drawn) → i < length f.arrows → d ≡ turned f sizes p c (numbered_at f i)
+pub pass_more : (f : Frame) (sizes : List BlockSize) (p : Pass) (i : ℕ) (c d r : Drawn) → i < length f.arrows → d ≡ turned f sizes p c (numbered_at f i)
     → over (turned f sizes p) c (drop i (numbered f)) ≡ r → over (turned f sizes p) d (drop (i + 1) (numbered f)) ≡ r
 unfolding over
 pass_more f sizes p i c d r h e g =
@@ -149,22 +134,15 @@ pass_more f sizes p i c d r h e g =
     ∙ ap (over (turned f sizes p) c) (sym (numbered-drop f i h))
     ∙ g
 
-pub pass_end : (f : Frame) (sizes : List BlockSize) (p i : ℕ) (c r : Drawn) → length f.arrows ≤ i → over (turned f sizes p) c (drop i (numbered f)) ≡ r → c ≡ r
+pub pass_end : (f : Frame) (sizes : List BlockSize) (p : Pass) (i : ℕ) (c r : Drawn) → length f.arrows ≤ i → over (turned f sizes p) c (drop i (numbered f)) ≡ r → c ≡ r
 unfolding over
 pass_end f sizes p i c r h g = sym (ap (over (turned f sizes p) c) (numbered-past f i h)) ∙ g
 
-pub pass_all : (f : Frame) (sizes : List BlockSize) (p : ℕ) (d : Drawn) → over (turned f sizes p) d (drop 0 (numbered f)) ≡ passed f sizes p d
+pub pass_all : (f : Frame) (sizes : List BlockSize) (p : Pass) (d : Drawn) → over (turned f sizes p) d (drop 0 (numbered f)) ≡ passed f sizes p d
 unfolding passed
 pass_all f sizes p d = refl
 
 -- ---- how many traces
-
-pub sort_traces : (x : Laid) (s : Sort) → eqb (kind_laid x) (pass_of s) ≡ true → looped_as x ≤ more s 1
-sort_traces Laid.LeftOut s t = omega arith
-sort_traces (Laid.Between c) s t = omega arith
-sort_traces Laid.Loop Sort.Loop t = omega arith
-sort_traces Laid.Loop Sort.Arc t = absurd (omega (arith, eqb-true 1 2 t))
-sort_traces Laid.Loop Sort.Straight t = absurd (omega (arith, eqb-true 1 3 t))
 
 pub more_next : (s : Sort) (i : ℕ) → more s (i + 1) ≡ more s i + more s 1
 more_next Sort.Loop i = refl

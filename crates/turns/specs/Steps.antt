@@ -1,5 +1,5 @@
 -- The turns as the code runs them, arrow by arrow.
-use Rattle.std.specs.Prelude.{cond, ℕ, ◌+◌, ◌≤◌, length, get_or, set, Some}
+use Rattle.std.specs.Prelude.{Bool, true, false, not, ℕ, ◌+◌, ◌≤◌, length, get_or, set, Some}
 use mathlib.Core.List.{List, [], ◌∷◌, ◌++◌, map}
 use Rattle.trace.specs.Form.{trace_in}
 use Rattle.label_spots.specs.declared.Geometry.{Geometry}
@@ -7,7 +7,7 @@ use Rattle.scene.specs.Scene.{Scene, scene_of}
 use Rattle.scene.specs.Turn.{placed_arrow}
 use Rattle.self_loop.specs.Looped.{looped}
 use Rattle.routing.specs.Routing.{Frame, BlockSize, loop_turn, turn_of, arc_shape, numbered_at, no_ends}
-use Rattle.routing_laws.specs.Passes.{Drawn, drawn_with, passed}
+use Rattle.routing_laws.specs.Passes.{Pass, loop_pass, arc_pass, straight_pass, Drawn, drawn_with, passed}
 pub use Rattle.routing_laws.specs.Passes.{shown}
 use Rattle.routing_laws.specs.Turns.{with_loop, with_label}
 use Rattle.curves.specs.declared.Laid.{Laid}
@@ -15,16 +15,20 @@ use Rattle.curves.specs.Lay.{laid_by}
 use Rattle.turns.specs.declared.Sort.{Sort}
 use Rattle.turns.specs.declared.Drawing.{Drawing}
 
--- an arrow's sort, by the number of its pass; 0 for one that is left out
-abbrev pub kind_laid : Laid → ℕ
-kind_laid Laid.LeftOut = 0
-kind_laid Laid.Loop = 1
-kind_laid (Laid.Between c) = cond (arc_shape c.routed.shape) 2 3
+-- whether an arrow is of a sort
+abbrev pub is_sort : Sort → Laid → Bool
+is_sort s Laid.LeftOut = false
+is_sort Sort.Loop Laid.Loop = true
+is_sort Sort.Arc Laid.Loop = false
+is_sort Sort.Straight Laid.Loop = false
+is_sort Sort.Loop (Laid.Between c) = false
+is_sort Sort.Arc (Laid.Between c) = arc_shape c.routed.shape
+is_sort Sort.Straight (Laid.Between c) = not (arc_shape c.routed.shape)
 
-abbrev pub pass_of : Sort → ℕ
-pass_of Sort.Loop = 1
-pass_of Sort.Arc = 2
-pass_of Sort.Straight = 3
+abbrev pub pass_of : Sort → Pass
+pass_of Sort.Loop = loop_pass
+pass_of Sort.Arc = arc_pass
+pass_of Sort.Straight = straight_pass
 
 -- a loop adds a trace; the others have theirs already
 abbrev pub looped_as : Laid → ℕ
@@ -68,4 +72,4 @@ turned_by f size i d = turned_as f size i d (laid_by f (get_or f.arrows i no_end
 
 -- the three passes
 abbrev pub all_passed : Frame → List BlockSize → Drawn → Drawn
-all_passed f sizes d = passed f sizes 3 (passed f sizes 2 (passed f sizes 1 d))
+all_passed f sizes d = passed f sizes straight_pass (passed f sizes arc_pass (passed f sizes loop_pass d))

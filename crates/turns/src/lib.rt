@@ -2,7 +2,7 @@
 // cheapest listed place or direction in the scene so far; then the records.
 #![tactic(auto)]
 
-ghost use Rattle.std.specs.Prelude.{◌≡◌, ◌+◌, ◌*◌, ◌≤◌, ◌<◌, length, get_or, eqb, Option, None, Some};
+ghost use Rattle.std.specs.Prelude.{◌≡◌, ◌+◌, ◌*◌, ◌≤◌, ◌<◌, length, get_or, Option, None, Some};
 ghost use Rattle.laws.specs.Put.{put};
 ghost use Rattle.scene.specs.Turn.{placed_arrow};
 ghost use Rattle.self_loop.specs.Looped.{looped};
@@ -31,7 +31,7 @@ enum Sort {
 
 // Whether an arrow is of this sort.
 fn is_sort(laid: &Laid, sort: Sort) -> bool
-    ensures { result ≡ eqb (S.kind_laid laid.now) (S.pass_of sort) }
+    ensures { result ≡ S.is_sort sort laid.now }
 {
     match laid {
         Laid::LeftOut => false,
