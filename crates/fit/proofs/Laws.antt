@@ -31,8 +31,10 @@ use Rattle.std.specs.Float.{nan}
 -- ---- the states
 
 -- p, q and t are the points as the code makes them
-module _ (b low around r : Rect) (flag : ℕ) (c p q : «V») (ep : p ≡ vec (c.x ⊖ node_radius) (c.y ⊖ node_radius)) (e : low ≡ extended b p) (eq : q ≡ vec (c.x ⊕ node_radius) (c.y ⊕ node_radius)) (f : around ≡ extended low q) where
-  pub state_start : (t : «V») → is_start flag ≡ true → t ≡ vec (c.x ⊖ node_radius ⊖ start_arrow_length) c.y → r ≡ extended around t → r ≡ fold extended b (state_points flag c)
+module _ (b low around r : Rect) (flag : ℕ) (c p q : «V») (ep : p ≡ vec (c.x ⊖ node_radius) (c.y ⊖ node_radius))
+    (e : low ≡ extended b p) (eq : q ≡ vec (c.x ⊕ node_radius) (c.y ⊕ node_radius)) (f : around ≡ extended low q) where
+  pub state_start : (t : «V») → is_start flag ≡ true → t ≡ vec (c.x ⊖ node_radius ⊖ start_arrow_length) c.y → r ≡ extended around t
+      → r ≡ fold extended b (state_points flag c)
   unfolding state_points
   state_start t s et h = rw (s, h, f, e, et, eq, ep)
 
@@ -47,7 +49,8 @@ module _ (flags : List ℕ) (cs : List «V») (i : ℕ) (b : Rect) (h : length c
   states-step b' l e =
       let k : i < length flags = omega arith in
       rw (drop-cons cs i (vec nan nan) l, drop-cons flags i 0 k, add-one, e)
-      (sym (fold-append extended b (state_points (get_or flags i 0) (get_or cs i (vec nan nan))) (states_points (drop (suc i) flags) (drop (suc i) cs))))
+      (sym (fold-append extended b (state_points (get_or flags i 0) (get_or cs i (vec nan nan)))
+      (states_points (drop (suc i) flags) (drop (suc i) cs))))
 
   pub states-end : length cs ≤ i → b ≡ fold extended b (states_points (drop i flags) (drop i cs))
   unfolding states_points
@@ -59,7 +62,8 @@ two_more : (b : Rect) (p q : «V») → extended (extended b p) q ≡ fold exten
 two_more b p q = refl
 
 pub drawn-covered : (b along first r : Rect) (g : Geometry) (m n : «V») → along ≡ fold extended b (table (sample g.curve) 0 17)
-    → m ≡ vec g.label_box.x0 g.label_box.y0 → first ≡ extended along m → n ≡ vec g.label_box.x1 g.label_box.y1 → r ≡ extended first n → r ≡ fold extended b (drawn_points g)
+    → m ≡ vec g.label_box.x0 g.label_box.y0 → first ≡ extended along m → n ≡ vec g.label_box.x1 g.label_box.y1
+    → r ≡ extended first n → r ≡ fold extended b (drawn_points g)
 unfolding drawn_points
 drawn-covered b along first r g m n e em f en h =
     let p : List «V» = table (sample g.curve) 0 17 in
@@ -69,7 +73,8 @@ drawn-covered b along first r g m n e em f en h =
     ∙ two_more (fold extended b p) x y
     ∙ sym (fold-append extended b p (x ∷ y ∷ []))
 
-pub all-covered : (flags : List ℕ) (cs : List «V») (gs : List Geometry) (n states b : Rect) → n ≡ no_bounds → states ≡ fold extended n (states_points flags cs)
+pub all-covered : (flags : List ℕ) (cs : List «V») (gs : List Geometry) (n states b : Rect) → n ≡ no_bounds
+    → states ≡ fold extended n (states_points flags cs)
     → b ≡ fold extended states (flat_map drawn_points gs) → b ≡ drawing_bounds flags cs gs
 unfolding drawing_bounds bounds_of covered
 all-covered flags cs gs n states b z e f =
@@ -78,12 +83,15 @@ all-covered flags cs gs n states b z e f =
 
 -- ---- the shift
 
-moved : (low : «V») (cs : List «V») → map (λ c. add c (vec (margin ⊖ low.x) (margin ⊖ low.y))) cs ≡ centres (shifted low.x (map (λ c. c.x) cs)) (shifted low.y (map (λ c. c.y) cs))
+moved : (low : «V») (cs : List «V»)
+    → map (λ c. add c (vec (margin ⊖ low.x) (margin ⊖ low.y))) cs
+    ≡ centres (shifted low.x (map (λ c. c.x) cs)) (shifted low.y (map (λ c. c.y) cs))
 unfolding shifted zip_by
 moved low [] = refl
 moved low (c ∷ cs) = ap (λ (l : List «V»). add c (vec (margin ⊖ low.x) (margin ⊖ low.y)) ∷ l) (moved low cs)
 
-pub fitted : (flags : List ℕ) (cs : List «V») (gs : List Geometry) (b : Rect) (v : «V») (l : List «V») → b ≡ drawing_bounds flags cs gs → v ≡ vec (margin ⊖ b.x0) (margin ⊖ b.y0)
+pub fitted : (flags : List ℕ) (cs : List «V») (gs : List Geometry) (b : Rect) (v : «V») (l : List «V»)
+    → b ≡ drawing_bounds flags cs gs → v ≡ vec (margin ⊖ b.x0) (margin ⊖ b.y0)
     → l ≡ map (λ c. add c v) cs → l ≡ centres (fit_xs flags cs gs (map (λ c. c.x) cs)) (fit_ys flags cs gs (map (λ c. c.y) cs))
 fitted flags cs gs b v l eb ev el =
     el ∙ ap (λ (w : «V»). map (λ c. add c w) cs) ev ∙ moved (vec b.x0 b.y0) cs
@@ -92,7 +100,8 @@ fitted flags cs gs b v l eb ev el =
 -- ---- a point of a curve more, an arrow more
 
 module _ (c : Curve) (k : ℕ) (b : Rect) where
-  pub curve-step : (v : «V») (r : Rect) → k < 17 → v ≡ sample c k → r ≡ extended b v → fold extended r (table (sample c) (k + 1) (17 - (k + 1))) ≡ fold extended b (table (sample c) k (17 - k))
+  pub curve-step : (v : «V») (r : Rect) → k < 17 → v ≡ sample c k → r ≡ extended b v
+      → fold extended r (table (sample c) (k + 1) (17 - (k + 1))) ≡ fold extended b (table (sample c) k (17 - k))
   curve-step v r h e f = rw (table_front (sample c) k 17 h, f, e)
 
   pub curve-end : 17 ≤ k → b ≡ fold extended b (table (sample c) k (17 - k))
@@ -100,7 +109,15 @@ module _ (c : Curve) (k : ℕ) (b : Rect) where
 
 -- what an index beyond a slice would read
 abbrev pub no_geometry : Geometry
-no_geometry = record { edge = 0; curve = Line (vec nan nan) (vec nan nan); tip = vec nan nan; tip_angle = nan; label = vec nan nan; anchor = Start; label_box = rect nan nan nan nan }
+no_geometry = record {
+  edge = 0;
+  curve = Line (vec nan nan) (vec nan nan);
+  tip = vec nan nan;
+  tip_angle = nan;
+  label = vec nan nan;
+  anchor = Start;
+  label_box = rect nan nan nan nan;
+}
 
 module _ (gs : List Geometry) (i : ℕ) (b : Rect) where
   pub drawn-step : (r : Rect) → i < length gs → r ≡ fold extended b (drawn_points (get_or gs i no_geometry))

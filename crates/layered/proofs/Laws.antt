@@ -39,7 +39,8 @@ module _ {A : Type 0} (l l₀ : List A) (i : ℕ) where
   pub rest_read : (d : A) → drop i l ≡ drop i l₀ → get_or l i d ≡ get_or l₀ i d
   rest_read d e =
       let z : i ≡ i + 0 = omega arith in
-      ap (λ (j : ℕ). get_or l j d) z ∙ sym (get_or-drop i l 0 d) ∙ ap (λ (r : List A). get_or r 0 d) e ∙ get_or-drop i l₀ 0 d ∙ ap (λ (j : ℕ). get_or l₀ j d) (sym z)
+      ap (λ (j : ℕ). get_or l j d) z ∙ sym (get_or-drop i l 0 d) ∙ ap (λ (r : List A). get_or r 0 d) e ∙ get_or-drop i l₀ 0 d
+      ∙ ap (λ (j : ℕ). get_or l₀ j d) (sym z)
 
   pub rest-set : (x : A) → drop i l ≡ drop i l₀ → drop (i + 1) (set l i x) ≡ drop (i + 1) l₀
   rest-set x e = drop-set-lt (i + 1) l i x (omega arith) ∙ sym (drop-drop 1 i l) ∙ ap (drop 1) e ∙ drop-drop 1 i l₀
@@ -47,7 +48,8 @@ module _ {A : Type 0} (l l₀ : List A) (i : ℕ) where
 -- ---- the centres, by what each step leaves
 
 -- x from f and y 0, then y from the slots
-placed : (f : ℕ → Float) (r : Float) (vs : List ℕ) (ss : List Float) → zip_by (λ p s. vec p.x (s ⊗ r)) (map (λ v. vec (f v) f0) vs) ss ≡ centres (map f vs) (map (λ s. s ⊗ r) ss)
+placed : (f : ℕ → Float) (r : Float) (vs : List ℕ) (ss : List Float)
+    → zip_by (λ p s. vec p.x (s ⊗ r)) (map (λ v. vec (f v) f0) vs) ss ≡ centres (map f vs) (map (λ s. s ⊗ r) ss)
 unfolding zip_by
 placed f r [] ss = refl
 placed f r (v ∷ vs) [] = refl
@@ -55,12 +57,16 @@ placed f r (v ∷ vs) (s ∷ ss) = ap (λ (l : List «V»). vec (f v) (s ⊗ r) 
 
 module _ (n start : ℕ) (arrows : List Ends) (cs : List (List ℕ)) (w h : Float) (c : cs ≡ columns n arrows start) where
   pub centres_are : (g r : Float) (ds : List (List ℕ)) (p q : List «V») (y : List Float) → g ≡ column_gap w → r ≡ row h
-      → p ≡ map (λ v. vec (of_nat (column_of cs v) ⊗ g) f0) (state_numbers n) → arranged ds y ≡ four_sweeps n arrows (arranged cs (over centre_column (replicate n f0) cs))
+      → p ≡ map (λ v. vec (of_nat (column_of cs v) ⊗ g) f0) (state_numbers n)
+      → arranged ds y ≡ four_sweeps n arrows (arranged cs (over centre_column (replicate n f0) cs))
       → q ≡ zip_by (λ a s. vec a.x (s ⊗ r)) p y → q ≡ centres (layered_xs n start arrows w) (layered_ys n start arrows h)
   unfolding layered_xs layered_ys swept
   centres_are g r ds p q y eg er ep ey eq =
-      let z : y ≡ (four_sweeps n arrows (arranged (columns n arrows start) (over centre_column (replicate n f0) (columns n arrows start)))).slots =
-      ap (λ (a : Arranged). a.slots) ey ∙ ap (λ (d : List (List ℕ)). (four_sweeps n arrows (arranged d (over centre_column (replicate n f0) d))).slots) c in
+      let z : y ≡ (four_sweeps n arrows
+      (arranged (columns n arrows start) (over centre_column (replicate n f0) (columns n arrows start)))).slots =
+      ap (λ (a : Arranged). a.slots) ey
+      ∙ ap (λ (d : List (List ℕ)). (four_sweeps n arrows (arranged d (over centre_column (replicate n f0) d))).slots) c in
       eq ∙ ap (λ (l : List «V»). zip_by (λ a s. vec a.x (s ⊗ r)) l y) ep
       ∙ placed (λ v. of_nat (column_of cs v) ⊗ g) r (state_numbers n) y
-      ∙ ap₂ centres (ap₂ (λ (d : List (List ℕ)) (x : Float). map (λ v. of_nat (column_of d v) ⊗ x) (state_numbers n)) c eg) (ap₂ (λ (x : Float) (l : List Float). map (λ s. s ⊗ x) l) er z)
+      ∙ ap₂ centres (ap₂ (λ (d : List (List ℕ)) (x : Float). map (λ v. of_nat (column_of d v) ⊗ x) (state_numbers n)) c eg)
+      (ap₂ (λ (x : Float) (l : List Float). map (λ s. s ⊗ x) l) er z)

@@ -20,6 +20,7 @@ const LAYER_GAP: f64 = 140.0;
 const ROW_GAP: f64 = 90.0;
 
 // The distance between columns, from the width of the widest label.
+#[tactic(auto, unfolding(crate::specs::Layered::column_gap))]
 fn gap_for(width: f64) -> f64
     ensures { result ≡ D.column_gap width }
 {
@@ -31,6 +32,7 @@ fn gap_for(width: f64) -> f64
 }
 
 // The distance between the rows of a column, from the height of the highest label.
+#[tactic(auto, unfolding(crate::specs::Layered::row))]
 fn row_for(height: f64) -> f64
     ensures { result ≡ D.row height }
 {
@@ -81,7 +83,9 @@ pub fn layered(start: usize, arrows: &[Ends], width: f64, height: f64, centres: 
         × (start < states)
         × (length arrows.now ≤ 256) }
     ensures { let states = length centres.old in
-        centres.new ≡ P.centres (D.layered_xs states start arrows.now width) (D.layered_ys states start arrows.now height) }
+        let xs = D.layered_xs states start arrows.now width in
+        let ys = D.layered_ys states start arrows.now height in
+        centres.new ≡ P.centres xs ys }
 {
     let net = Net {
         states: centres.len(),

@@ -1,5 +1,5 @@
 -- What the code answers and leaves, step by step, is what the definitions say. Assumes nothing.
-use Rattle.std.specs.Prelude.{◌≡◌, refl, true, false, map, ℕ, zero, ◌+◌, ◌≤◌, ltb, length, Float}
+use Rattle.std.specs.Prelude.{◌≡◌, refl, map, ℕ, ◌≤◌, length, Float}
 use Rattle.std.specs.List.{fold}
 use Rattle.std.proofs.Common.{sym, ◌∙◌, subst, arith, ne_eqb}
 use Rattle.std.proofs.Math.Path.{ap, ap₂}
@@ -23,7 +23,7 @@ use Rattle.fit.specs.Fit.{fit_xs, fit_ys, fit_size}
 use Rattle.fit.specs.declared.Size.{Size}
 use Rattle.layout.specs.declared.Placement.{Placement}
 use Rattle.layout.specs.declared.Placement.TheVariants.{Layers, Ring}
-use Rattle.layout.specs.Layout.{Plan, many, Placing, layers, ring, placed, centres_of, plan_frame, records_at, clutter_at, is_dense, is_tangled, takes_ring, chosen, no_states, fitted, layout_of}
+use Rattle.layout.specs.Layout.{Plan, many, Placing, placed, centres_of, plan_frame, records_at, clutter_at, chosen, no_states, fitted, layout_of}
 use Rattle.layout.specs.Lent.{placing_of, Left}
 use Rattle.layout.specs.Alike.{OneEach, layers-whole, ring-whole}
 
@@ -76,18 +76,20 @@ module _ (p : Plan) (cs ns : List «V») (h : length cs ≡ many p) (e : ns ≡ 
     unfolding clutter_at
     clutter_counted m k = k ∙ ap₂ clutter_of nodes_are drawn_are
 
-    pub fitted-left : (s : Size) (qs : List «V») → s ≡ fit_size p.flags cs gs
+    pub fitted_left : (s : Size) (qs : List «V») → s ≡ fit_size p.flags cs gs
         → qs ≡ centres (fit_xs p.flags cs gs (map (λ c. c.x) cs)) (fit_ys p.flags cs gs (map (λ c. c.y) cs))
         → Left (fitted p (placing_of cs)) s qs
     unfolding fitted
-    fitted-left s qs z k =
+    fitted_left s qs z k =
         let xs = map (λ (c : «V»). c.x) cs in
         let ys = map (λ (c : «V»). c.y) cs in
-        let y : s ≡ fit_size p.flags (centres xs ys) (records_at p (placing_of cs)) = z ∙ ap₂ (fit_size p.flags) (sym (centres_back cs)) drawn_are in
+        let y : s ≡ fit_size p.flags (centres xs ys) (records_at p (placing_of cs)) = z
+        ∙ ap₂ (fit_size p.flags) (sym (centres_back cs)) drawn_are in
         record {
           width = ap (λ (t : Size). t.width) y;
           height = ap (λ (t : Size). t.height) y;
-          centres = k ∙ ap₂ (λ (l : List «V») (r : List Geometry). centres (fit_xs p.flags l r xs) (fit_ys p.flags l r ys)) (sym (centres_back cs)) drawn_are;
+          centres = k ∙ ap₂ (λ (l : List «V») (r : List Geometry). centres (fit_xs p.flags l r xs) (fit_ys p.flags l r ys))
+              (sym (centres_back cs)) drawn_are;
         }
 
 -- a count is small
@@ -95,47 +97,18 @@ pub clutter_most : (p : Plan) (c : Placing) → length p.arrows ≤ 256 → clut
 unfolding clutter_at
 clutter_most p c m = clutter-le (plan_frame p c).centres (records_at p c) (omega (arith, records_most (plan_frame p c) p.sizes))
 
--- ---- the choice
-
-module _ (p : Plan) where
-  pub ring-dense : is_dense p ≡ true → true ≡ takes_ring p
-  unfolding takes_ring
-  ring-dense d = rw d
-
-  pub ring_tangled : (r l : ℕ) → is_dense p ≡ false → r ≡ clutter_at p (ring p) → l ≡ clutter_at p (layers p) → ltb (r + 2) l ≡ takes_ring p
-  unfolding takes_ring is_tangled
-  ring_tangled r l d er el = rw (d, er, el)
-
-  pub auto_ring : (c : Placing) → takes_ring p ≡ true → c ≡ ring p → c ≡ chosen zero p
-  unfolding chosen
-  auto_ring c t e = rw t e
-
-  pub auto_layers : (c : Placing) → takes_ring p ≡ false → c ≡ layers p → c ≡ chosen zero p
-  unfolding chosen
-  auto_layers c t e = rw t e
-
--- by kind
-pub kind_auto : (p : Plan) (c : Placing) (k : ℕ) → k ≡ 0 → c ≡ chosen zero p → c ≡ chosen k p
-kind_auto p c k e h = h ∙ ap (λ (j : ℕ). chosen j p) (sym e)
-
-pub kind_layers : (p : Plan) (c : Placing) (k : ℕ) → k ≡ 1 → c ≡ layers p → c ≡ chosen k p
-unfolding chosen
-kind_layers p c k e h = h ∙ ap (λ (j : ℕ). chosen j p) (sym e)
-
-pub kind_ring : (p : Plan) (c : Placing) (k : ℕ) → k ≡ 2 → c ≡ ring p → c ≡ chosen k p
-unfolding chosen
-kind_ring p c k e h = h ∙ ap (λ (j : ℕ). chosen j p) (sym e)
-
 -- ---- the layout
 
 -- no states
-pub left_none : (kind : ℕ) (p : Plan) (r : Size) (cs : List «V») → many p ≡ 0 → length cs ≡ many p → r.width ≡ no_states.width → r.height ≡ no_states.height → Left (layout_of kind p) r cs
+pub left_none : (kind : ℕ) (p : Plan) (r : Size) (cs : List «V») → many p ≡ 0 → length cs ≡ many p → r.width ≡ no_states.width
+    → r.height ≡ no_states.height → Left (layout_of kind p) r cs
 unfolding layout_of zip_by
 left_none kind p r [] n a w h = record { width = rw n w; height = rw n h; centres = rw n refl }
 left_none kind p r (c ∷ cs) n a w h = absurd (omega arith)
 
 -- the fit of what is chosen
-pub left-chosen : (kind : ℕ) (p : Plan) (c : Placing) (r : Size) (cs : List «V») → (many p ≡ 0 → ⊥) → c ≡ chosen kind p → Left (fitted p c) r cs
+pub left_chosen : (kind : ℕ) (p : Plan) (c : Placing) (r : Size) (cs : List «V») → (many p ≡ 0 → ⊥) → c ≡ chosen kind p
+    → Left (fitted p c) r cs
     → Left (layout_of kind p) r cs
 unfolding layout_of
-left-chosen kind p c r cs n e h = rw (ne_eqb _ _ n) (subst (λ (b : Placing). Left (fitted p b) r cs) e h)
+left_chosen kind p c r cs n e h = rw (ne_eqb _ _ n) (subst (λ (b : Placing). Left (fitted p b) r cs) e h)

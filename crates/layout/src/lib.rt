@@ -136,6 +136,7 @@ impl<'a> Plan<'a> {
 
 impl<'a> Plan<'a> {
     // The drawing at these centres, in the room lent for it.
+    #[tactic(auto, using(laws::specs::Filled::front_is, routing_laws::proofs::Decoded::records_most))]
     fn draw<'b>(&self, nodes: &[V], room: &'b mut [Geometry]) -> &'b [Geometry]
         requires whole { C.Whole self.now }
         requires level { length nodes.now ≡ length self.now.flags.now }
@@ -153,6 +154,7 @@ impl<'a> Plan<'a> {
     }
 
     // The clutter at these centres.
+    #[tactic(auto, using(crate::specs::Laws::clutter_counted, routing_laws::proofs::Decoded::records_most))]
     fn clutter(&self, centres: &[V]) -> usize
         requires whole { C.Whole self.now }
         requires level { length centres.now ≡ length self.now.flags.now }
@@ -167,6 +169,7 @@ impl<'a> Plan<'a> {
     }
 
     // The clutter of a placement.
+    #[tactic(auto, using(crate::specs::Laws::placed_points))]
     fn placed_clutter(&self, placement: Placement) -> usize
         requires whole { C.Whole self.now }
         requires some { 0 < length self.now.flags.now }
@@ -193,6 +196,7 @@ impl<'a> Plan<'a> {
     }
 
     // Whether Auto takes the ring.
+    #[tactic(auto, unfolding(crate::specs::Layout::takes_ring, crate::specs::Layout::is_tangled))]
     fn takes_ring(&self) -> bool
         requires whole { C.Whole self.now }
         requires some { 0 < length self.now.flags.now }
@@ -207,6 +211,7 @@ impl<'a> Plan<'a> {
     }
 
     // The placement by kind.
+    #[tactic(auto, unfolding(crate::specs::Layout::chosen))]
     fn choose(&self, kind: Kind) -> Placement
         requires whole { C.Whole self.now }
         requires some { 0 < length self.now.flags.now }
@@ -230,6 +235,7 @@ impl<'a> Plan<'a> {
 
 impl<'a> Plan<'a> {
     // Fits the drawing at these centres.
+    #[tactic(auto, using(crate::specs::Laws::fitted_left))]
     fn fit(&self, centres: &mut [V]) -> Size
         requires whole { C.Whole self.now }
         requires level { length centres.old ≡ length self.now.flags.now }

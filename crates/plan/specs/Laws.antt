@@ -1,78 +1,84 @@
 -- What is read of a sheet is the plan of its graph; refusals one after another; what a layout answers. Assumes nothing.
-use Rattle.std.specs.Prelude.{◌≡◌, Bool, true, List, [], ℕ, zero, ◌≤◌, ◌<◌, ltb, length, Float}
+use Rattle.std.specs.Prelude.{◌≡◌, true, List, [], ◌++◌, map, drop, ℕ, ◌≤◌, ◌<◌, ltb, length, Float}
 use Rattle.std.proofs.Math.Path.{refl, sym, ap}
-use Rattle.std.proofs.Common.{ap₂, ◌∙◌, subst, arith, lt-ltb, le-ltb, ne_eqb}
-use Rattle.std.proofs.Math.Bool.{false, or-false}
+use Rattle.std.proofs.Common.{◌∙◌, subst, arith, lt-ltb, le-ltb}
+use Rattle.std.proofs.Math.Bool.{false}
 use Rattle.std.proofs.Math.ListN.{length-map}
-use Rattle.laws.specs.Put.{put}
+use Rattle.laws.specs.Put.{put, put_front}
 use Rattle.laws.specs.Refusals.{Refusal, decide, decide-first, decide-rest}
-use Rattle.laws.specs.Any.{any_of}
+use Rattle.shape.specs.declared.«V».{«V»}
+use Rattle.shape.specs.Centres.{centres}
 use Rattle.sheet.specs.Sheet.{Graph, meaning, flags_of}
 use Rattle.sheet.specs.Refusals.{check_of}
 use Rattle.sheet.specs.Order.{check-refused, check_accepted}
 use Rattle.sheet.specs.declared.Limits.{Limits}
-use Rattle.meaning.specs.Read.{sources, targets}
-use Rattle.graph.specs.Sizes.{widths, heights}
-use Rattle.routing.specs.Routing.{Frame}
-use Rattle.routing.specs.Routing as Routing
-use Rattle.routing.specs.Sheets.{frame_of, sizes_of, SameFrame}
-use Rattle.routing_laws.specs.Frames.{frame_sheet, sizes_sheet}
+use Rattle.routing.specs.Routing.{Ends, BlockSize}
+use Rattle.routing.specs.Sheets.{ends_of, sizes_of, SameFrame}
 use Rattle.fit.specs.declared.Size.{Size}
-use Rattle.layout.specs.Layout.{Plan, many, plan_of, plan_by, layers, ring, is_dense, last_kind, kind_number, layout_of}
+use Rattle.layout.specs.Layout.{Plan, plan_of, last_kind, kind_number, layout_of}
 use Rattle.layout.specs.declared.Kind.{Kind}
 use Rattle.layout.specs.declared.Kind.TheVariants.{Auto, Layered, Circular}
-use Rattle.layout.specs.Choice as Layout
+use Rattle.layout.specs.Lent as Layout
 use Rattle.layout.specs.Alike.{same-plan}
-use Rattle.plan.specs.Measured.{beyond_at, any_beyond, measured, layout_beyond}
+use Rattle.plan.specs.Measured.{layout_beyond}
 use Rattle.refusal.specs.Refused.{Outcome, values, number}
-use Rattle.plan.specs.Planned.{measured_refusals, sheet_refusals, plan_refusals, laid_out, plan_answer, xs_by, ys_by}
+use Rattle.plan.specs.Planned.{measured_refusals, sheet_refusals, plan_refusals, laid_out, plan_answer, centres_by}
 
 -- ---- what is read
 
-plan_sheet : (g : Graph) → plan_by (flags_of g) (sources g) (targets g) (widths g) (heights g) ≡ plan_of g
-unfolding frame_of widths heights
-plan_sheet g =
-    ap₂ (λ (k : Frame) (z : List Routing.BlockSize). record { flags = k.flags; arrows = k.arrows; sizes = z }) (frame_sheet g [] []) (sizes_sheet g)
+-- the plan that slices hold
+abbrev plan_by : List ℕ → List Ends → List BlockSize → Plan
+plan_by flags arrows sizes = record { flags = flags; arrows = arrows; sizes = sizes }
 
-pub plan-read : (g : Graph) (flags from to : List ℕ) (ws hs : List Float) → flags ≡ flags_of g → from ≡ sources g → to ≡ targets g → ws ≡ widths g → hs ≡ heights g
-    → plan_by flags from to ws hs ≡ plan_of g
-plan-read g flags from to ws hs a b c d e = rw (a, b, c, d, e) (plan_sheet g)
+pub plan-read : (g : Graph) {flags : List ℕ} {arrows : List Ends} {sizes : List BlockSize} → flags ≡ flags_of g
+    → arrows ≡ map ends_of g.arrows → sizes ≡ sizes_of g
+    → plan_by flags arrows sizes ≡ plan_of g
+plan-read g a b c = rw (a, b, c) refl
 
 -- ---- what is answered and left under a list of refusals
 
-abbrev Left : List Refusal → ℕ → Graph → Outcome (ℕ × Float × Float) → List Float → List Float → List Float → List Float → Type 0
-Left rs kind g r xs ys xs' ys' = (r ≡ plan_answer rs kind g) × (xs' ≡ xs_by rs kind g xs) × (ys' ≡ ys_by rs kind g ys)
+abbrev Left : List Refusal → ℕ → Graph → Outcome (ℕ × Float × Float) → List «V» → List «V» → Type 0
+Left rs kind g r cs qs = (r ≡ plan_answer rs kind g) × (qs ≡ centres_by rs kind g cs)
 
-left-refused : (rs : List Refusal) (n kind : ℕ) (g : Graph) (xs ys : List Float) → ((A : Type 0) (refuse : ℕ → A) (accept : A) → refuse n ≡ decide rs refuse accept)
-    → Left rs kind g (number n) xs ys xs ys
-left-refused rs n kind g xs ys e =
-    (e (Outcome (ℕ × Float × Float)) number (values (length g.states, (laid_out kind g).width, (laid_out kind g).height)), e (List Float) (λ k. xs) (put xs 0 (laid_out kind g).xs), e (List Float) (λ k. ys) (put ys 0 (laid_out kind g).ys))
+abbrev answer : ℕ → Graph → Outcome (ℕ × Float × Float)
+answer kind g = values (length g.states, (laid_out kind g).width, (laid_out kind g).height)
 
-left_as : (rs qs : List Refusal) (kind : ℕ) (g : Graph) (r : Outcome (ℕ × Float × Float)) (xs ys xs' ys' : List Float)
-    → ((A : Type 0) (refuse : ℕ → A) (accept : A) → decide rs refuse accept ≡ decide qs refuse accept) → Left rs kind g r xs ys xs' ys' → Left qs kind g r xs ys xs' ys'
-left_as rs qs kind g r xs ys xs' ys' e h =
-    (h.0 ∙ e (Outcome (ℕ × Float × Float)) number (values (length g.states, (laid_out kind g).width, (laid_out kind g).height)), h.1 ∙ e (List Float) (λ k. xs) (put xs 0 (laid_out kind g).xs), h.2 ∙ e (List Float) (λ k. ys) (put ys 0 (laid_out kind g).ys))
+abbrev stored : ℕ → Graph → List «V» → List «V»
+stored kind g cs = put cs 0 (centres (laid_out kind g).xs (laid_out kind g).ys)
 
-module _ (m : Limits) (kind : ℕ) (s : List ℕ) (xs ys : List Float) where
+left-refused : (rs : List Refusal) (n kind : ℕ) (g : Graph) (cs : List «V»)
+    → ((A : Type 0) (refuse : ℕ → A) (accept : A) → refuse n ≡ decide rs refuse accept)
+    → Left rs kind g (number n) cs cs
+left-refused rs n kind g cs e = (e (Outcome (ℕ × Float × Float)) number (answer kind g), e (List «V») (λ k. cs) (stored kind g cs))
+
+left_as : (rs qs : List Refusal) (kind : ℕ) (g : Graph) (r : Outcome (ℕ × Float × Float)) (cs cs' : List «V»)
+    → ((A : Type 0) (refuse : ℕ → A) (accept : A) → decide rs refuse accept ≡ decide qs refuse accept) → Left rs kind g r cs cs'
+    → Left qs kind g r cs cs'
+left_as rs qs kind g r cs cs' e h =
+    (h.0 ∙ e (Outcome (ℕ × Float × Float)) number (answer kind g), h.1 ∙ e (List «V») (λ k. cs) (stored kind g cs))
+
+module _ (m : Limits) (kind : ℕ) (s : List ℕ) (cs : List «V») where
   -- 11
-  pub plan_kind : last_kind < kind → Left (plan_refusals m kind s) kind (meaning s) (number 11) xs ys xs ys
+  pub plan_kind : last_kind < kind → Left (plan_refusals m kind s) kind (meaning s) (number 11) cs cs
   plan_kind h =
-      left-refused (plan_refusals m kind s) 11 kind (meaning s) xs ys
+      left-refused (plan_refusals m kind s) 11 kind (meaning s) cs
       (λ A refuse accept. decide-first 11 (ltb last_kind kind) (sheet_refusals m kind s) refuse accept (lt-ltb last_kind kind h))
 
   -- 1 to 6
-  pub plan-refused : (n : ℕ) → kind ≤ last_kind → number n ≡ check_of m s → Left (plan_refusals m kind s) kind (meaning s) (number n) xs ys xs ys
+  pub plan-refused : (n : ℕ) → kind ≤ last_kind → number n ≡ check_of m s → Left (plan_refusals m kind s) kind (meaning s) (number n) cs cs
   plan-refused n h e =
-      left-refused (plan_refusals m kind s) n kind (meaning s) xs ys
+      left-refused (plan_refusals m kind s) n kind (meaning s) cs
       (λ A refuse accept.
-      check-refused m s (measured_refusals kind (meaning s)) refuse accept n e ∙ decide-rest 11 (ltb last_kind kind) (sheet_refusals m kind s) refuse accept (le-ltb last_kind kind h))
+      check-refused m s (measured_refusals kind (meaning s)) refuse accept n e
+      ∙ decide-rest 11 (ltb last_kind kind) (sheet_refusals m kind s) refuse accept (le-ltb last_kind kind h))
 
-  pub plan_accepted : (r : Outcome (ℕ × Float × Float)) (xs' ys' : List Float) → kind ≤ last_kind → values tt ≡ check_of m s
-      → Left (measured_refusals kind (meaning s)) kind (meaning s) r xs ys xs' ys' → Left (plan_refusals m kind s) kind (meaning s) r xs ys xs' ys'
-  plan_accepted r xs' ys' h e =
-      left_as (measured_refusals kind (meaning s)) (plan_refusals m kind s) kind (meaning s) r xs ys xs' ys'
+  pub plan_accepted : (r : Outcome (ℕ × Float × Float)) (qs : List «V») → kind ≤ last_kind → values tt ≡ check_of m s
+      → Left (measured_refusals kind (meaning s)) kind (meaning s) r cs qs → Left (plan_refusals m kind s) kind (meaning s) r cs qs
+  plan_accepted r qs h e =
+      left_as (measured_refusals kind (meaning s)) (plan_refusals m kind s) kind (meaning s) r cs qs
       (λ A refuse accept.
-      check_accepted m s (measured_refusals kind (meaning s)) refuse accept e ∙ decide-rest 11 (ltb last_kind kind) (sheet_refusals m kind s) refuse accept (le-ltb last_kind kind h))
+      check_accepted m s (measured_refusals kind (meaning s)) refuse accept e
+      ∙ decide-rest 11 (ltb last_kind kind) (sheet_refusals m kind s) refuse accept (le-ltb last_kind kind h))
 
 -- the number of a kind is at most the last
 kind_most : (k : Kind) → kind_number k ≤ last_kind
@@ -81,69 +87,43 @@ kind_most Layered = omega arith
 kind_most Circular = omega arith
 
 -- by a kind with the number that is given
-module _ (m : Limits) (k : Kind) {kind : ℕ} (e : kind_number k ≡ kind) (s : List ℕ) (xs ys : List Float) where
-  pub kind-refused : (n : ℕ) → number n ≡ check_of m s → Left (plan_refusals m kind s) kind (meaning s) (number n) xs ys xs ys
-  kind-refused n = plan-refused m kind s xs ys n (subst (λ (j : ℕ). j ≤ last_kind) e (kind_most k))
+module _ (m : Limits) (k : Kind) {kind : ℕ} (e : kind_number k ≡ kind) (s : List ℕ) (cs : List «V») where
+  pub kind-refused : (n : ℕ) → number n ≡ check_of m s → Left (plan_refusals m kind s) kind (meaning s) (number n) cs cs
+  kind-refused n = plan-refused m kind s cs n (subst (λ (j : ℕ). j ≤ last_kind) e (kind_most k))
 
-  pub kind_accepted : (r : Outcome (ℕ × Float × Float)) (xs' ys' : List Float) → values tt ≡ check_of m s
-      → Left (measured_refusals (kind_number k) (meaning s)) (kind_number k) (meaning s) r xs ys xs' ys' → Left (plan_refusals m kind s) kind (meaning s) r xs ys xs' ys'
-  kind_accepted r xs' ys' a h =
-      subst (λ (j : ℕ). Left (plan_refusals m j s) j (meaning s) r xs ys xs' ys') e (plan_accepted m (kind_number k) s xs ys r xs' ys' (kind_most k) a h)
+  pub kind_accepted : (r : Outcome (ℕ × Float × Float)) (qs : List «V») → values tt ≡ check_of m s
+      → Left (measured_refusals (kind_number k) (meaning s)) (kind_number k) (meaning s) r cs qs
+      → Left (plan_refusals m kind s) kind (meaning s) r cs qs
+  kind_accepted r qs a h =
+      subst (λ (j : ℕ). Left (plan_refusals m j s) j (meaning s) r cs qs) e (plan_accepted m (kind_number k) s cs r qs (kind_most k) a h)
 
--- ---- 9, step by step
-
-module _ (p : Plan) where
-  pub beyond_auto_dense : (r : Bool) → is_dense p ≡ true → r ≡ beyond_at p (ring p) → r ≡ any_beyond p (measured zero p)
-  unfolding any_beyond measured any_of
-  beyond_auto_dense r d e = rw d (e ∙ sym (or-false (beyond_at p (ring p))))
-
-  pub beyond_auto_layers : is_dense p ≡ false → beyond_at p (layers p) ≡ true → true ≡ any_beyond p (measured zero p)
-  unfolding any_beyond measured any_of
-  beyond_auto_layers d b = rw (d, b)
-
-  pub beyond_auto_both : (r : Bool) → is_dense p ≡ false → beyond_at p (layers p) ≡ false → r ≡ beyond_at p (ring p) → r ≡ any_beyond p (measured zero p)
-  unfolding any_beyond measured any_of
-  beyond_auto_both r d b e = rw (d, b) (e ∙ sym (or-false (beyond_at p (ring p))))
-
-  pub beyond_auto : (r : Bool) (k : ℕ) → k ≡ 0 → r ≡ any_beyond p (measured zero p) → r ≡ any_beyond p (measured k p)
-  beyond_auto r k e h = h ∙ ap (λ (j : ℕ). any_beyond p (measured j p)) (sym e)
-
-  pub beyond-layers : (r : Bool) (k : ℕ) → k ≡ 1 → r ≡ beyond_at p (layers p) → r ≡ any_beyond p (measured k p)
-  unfolding any_beyond measured any_of
-  beyond-layers r k e h = h ∙ sym (or-false (beyond_at p (layers p))) ∙ ap (λ (j : ℕ). any_beyond p (measured j p)) (sym e)
-
-  pub beyond-ring : (r : Bool) (k : ℕ) → k ≡ 2 → r ≡ beyond_at p (ring p) → r ≡ any_beyond p (measured k p)
-  unfolding any_beyond measured any_of
-  beyond-ring r k e h = h ∙ sym (or-false (beyond_at p (ring p))) ∙ ap (λ (j : ℕ). any_beyond p (measured j p)) (sym e)
-
-  pub none_refused : (kind : ℕ) → many p ≡ 0 → false ≡ layout_beyond kind p
-  unfolding layout_beyond
-  none_refused kind n = rw n
-
-  pub some_refused : (kind : ℕ) (r : Bool) → (many p ≡ 0 → ⊥) → r ≡ any_beyond p (measured kind p) → r ≡ layout_beyond kind p
-  unfolding layout_beyond
-  some_refused kind r n e = rw (ne_eqb _ _ n) e
+-- ---- 9
 
 -- whatever the label lines, where their sizes are alike, a layout is refused alike
-pub same-refused : (kind : ℕ) (g h : Graph) → SameFrame g h → sizes_of g ≡ sizes_of h → layout_beyond kind (plan_of g) ≡ layout_beyond kind (plan_of h)
+pub same-refused : (kind : ℕ) (g h : Graph) → SameFrame g h → sizes_of g ≡ sizes_of h
+    → layout_beyond kind (plan_of g) ≡ layout_beyond kind (plan_of h)
 same-refused kind g h e z = ap (layout_beyond kind) (same-plan g h e z)
 
 -- ---- what a layout answers
 
 module _ (kind : ℕ) (g : Graph) {p : Plan} (e : p ≡ plan_of g) where
   -- refused by 9: nothing is stored
-  pub plan-beyond : (xs ys : List Float) → layout_beyond kind p ≡ true → Left (measured_refusals kind g) kind g (number 9) xs ys xs ys
-  plan-beyond xs ys b =
-      left-refused (measured_refusals kind g) 9 kind g xs ys
+  pub plan-beyond : (cs : List «V») → layout_beyond kind p ≡ true → Left (measured_refusals kind g) kind g (number 9) cs cs
+  plan-beyond cs b =
+      left-refused (measured_refusals kind g) 9 kind g cs
       (λ A refuse accept. decide-first 9 (layout_beyond kind (plan_of g)) [] refuse accept (ap (layout_beyond kind) (sym e) ∙ b))
 
-  -- laid out
-  pub plan-size : (n : ℕ) (s : Size) (xs ys px py xs' ys' : List Float) → layout_beyond kind p ≡ false → n ≡ length (flags_of g) → Layout.Left (layout_of kind p) s px py
-      → xs' ≡ put xs 0 px → ys' ≡ put ys 0 py → Left (measured_refusals kind g) kind g (values (n, s.width, s.height)) xs ys xs' ys'
+  -- laid out, in the first n of cs
+  pub plan-size : (n : ℕ) (s : Size) (cs qs : List «V») → layout_beyond kind p ≡ false → n ≡ length (flags_of g) → length qs ≡ n
+      → n ≤ length cs → Layout.Left (layout_of kind p) s qs
+      → Left (measured_refusals kind g) kind g (values (n, s.width, s.height)) cs (qs ++ drop n cs)
   unfolding decide
-  plan-size n s xs ys px py xs' ys' b m l ex ey =
+  plan-size n s cs qs b m k f l =
       let t : layout_beyond kind (plan_of g) ≡ false = ap (layout_beyond kind) (sym e) ∙ b in
       let w : s.width ≡ (laid_out kind g).width = l.width ∙ ap (λ (q : Plan). (layout_of kind q).width) e in
       let h : s.height ≡ (laid_out kind g).height = l.height ∙ ap (λ (q : Plan). (layout_of kind q).height) e in
+      let c : qs ≡ centres (laid_out kind g).xs (laid_out kind g).ys = l.centres
+      ∙ ap (λ (q : Plan). centres (layout_of kind q).xs (layout_of kind q).ys) e in
+      let front : put cs 0 qs ≡ qs ++ drop n cs = put_front cs qs (omega arith) ∙ ap (λ (i : ℕ). qs ++ drop i cs) k in
       rw t
-      (rw (m ∙ length-map g.states (λ a. a.flags), w, h) refl, ex ∙ ap (put xs 0) (l.xs_are ∙ ap (λ (q : Plan). (layout_of kind q).xs) e), ey ∙ ap (put ys 0) (l.ys_are ∙ ap (λ (q : Plan). (layout_of kind q).ys) e))
+      (rw (m ∙ length-map g.states (λ a. a.flags), w, h) refl, sym front ∙ ap (put cs 0) c)

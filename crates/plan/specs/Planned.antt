@@ -1,7 +1,9 @@
--- A sheet checked and laid out by kind: what refuses it, what is answered, and what the lent slices then hold.
+-- A sheet checked and laid out by kind: what refuses it, what is answered, and what the lent slice then holds.
 use Rattle.std.specs.Prelude.{List, [], ◌∷◌, ◌++◌, ℕ, ltb, length, Float}
 use Rattle.laws.specs.Put.{put}
 use Rattle.laws.specs.Refusals.{Refusal, refusal, decide}
+use Rattle.shape.specs.declared.«V».{«V»}
+use Rattle.shape.specs.Centres.{centres}
 use Rattle.sheet.specs.Sheet.{Graph, meaning}
 use Rattle.sheet.specs.Refusals.{refusals}
 use Rattle.sheet.specs.declared.Limits.{Limits}
@@ -34,17 +36,11 @@ abbrev pub plan_answer : List Refusal → ℕ → Graph → Outcome (ℕ × Floa
 plan_answer rs kind g = decide rs number (values (length g.states, (laid_out kind g).width, (laid_out kind g).height))
 
 -- the centres from the front on, and behind them what stood there; a refused call leaves all as before
-abbrev pub xs_by : List Refusal → ℕ → Graph → List Float → List Float
-xs_by rs kind g xs = decide rs (λ n. xs) (put xs 0 (laid_out kind g).xs)
-
-abbrev pub ys_by : List Refusal → ℕ → Graph → List Float → List Float
-ys_by rs kind g ys = decide rs (λ n. ys) (put ys 0 (laid_out kind g).ys)
+abbrev pub centres_by : List Refusal → ℕ → Graph → List «V» → List «V»
+centres_by rs kind g cs = decide rs (λ n. cs) (put cs 0 (centres (laid_out kind g).xs (laid_out kind g).ys))
 
 abbrev pub planned : Limits → ℕ → List ℕ → Outcome (ℕ × Float × Float)
 planned m kind s = plan_answer (plan_refusals m kind s) kind (meaning s)
 
-abbrev pub xs_planned : Limits → ℕ → List ℕ → List Float → List Float
-xs_planned m kind s xs = xs_by (plan_refusals m kind s) kind (meaning s) xs
-
-abbrev pub ys_planned : Limits → ℕ → List ℕ → List Float → List Float
-ys_planned m kind s ys = ys_by (plan_refusals m kind s) kind (meaning s) ys
+abbrev pub centres_planned : Limits → ℕ → List ℕ → List «V» → List «V»
+centres_planned m kind s cs = centres_by (plan_refusals m kind s) kind (meaning s) cs

@@ -1,283 +1,164 @@
 // A sheet checked and laid out by kind.
 #![tactic(auto)]
 
-ghost use Rattle.std.specs.Prelude.{◌≡◌, ◌≤◌, length};
+ghost use Rattle.std.specs.Prelude.{◌≡◌, ◌≤◌, ◌<◌, length};
 ghost use Rattle.refusal.specs.Refused.{outcome};
 ghost use Rattle.sheet.specs.Sheet as G;
 ghost use Rattle.layout.specs.Layout as L;
-ghost use Rattle.layout.specs.Choice as C;
+ghost use Rattle.layout.specs.Lent.{Whole, plan_in};
 ghost use Rattle.plan.specs.Measured as M;
 ghost use Rattle.plan.specs.Planned as S;
 
-use layout::{Kind, Placement};
+use curves::Frame;
+use label::Block;
+use layout::{Kind, Placement, Plan};
 use refusal::Refusal;
-use sheet::Limits;
+use shape::V;
+use sheet::{Ends, Limits};
 
-// ---- 9: "A layout is refused by 9 if any drawing it measures is." The slices are room for centres.
+// What fills the room for centres, for arrows, and for the sizes of labels.
+const ORIGIN: V = V { x: 0.0, y: 0.0 };
+
+const NO_ENDS: Ends = Ends {
+    source: 0,
+    target: 0,
+};
+
+const NO_BLOCK: Block = Block {
+    width: 0.0,
+    height: 0.0,
+};
+
+// ---- 9: "A layout is refused by 9 if any drawing it measures is."
 
 // Whether the drawing of a placement is refused.
-fn placed_beyond(
-    placement: Placement,
-    flags: &[u8],
-    sources: &[usize],
-    targets: &[usize],
-    widths: &[f64],
-    heights: &[f64],
-    px: &mut [f64],
-    py: &mut [f64],
-) -> bool
-    requires { C.GraphSlices flags.now sources.now targets.now widths.now heights.now px.old py.old }
-    ensures { let plan = L.plan_by flags.now sources.now targets.now
-        widths.now heights.now in
-        result ≡ M.beyond_at plan (L.placed placement plan) }
+fn placed_beyond(plan: &Plan, placement: Placement) -> bool
+    requires whole { Whole plan.now }
+    requires some { 0 < length plan.now.flags.now }
+    ensures { let p = plan_in plan.now in result ≡ M.beyond_at p (L.placed placement p) }
 {
-    layout::place(placement, flags, sources, targets, widths, heights, px, py);
-    beyond::beyond(flags, sources, targets, px, py)
+    let n = plan.flags.len();
+    let mut space = [ORIGIN; 64];
+    let centres = &mut space[..n];
+    plan.place(placement, centres);
+    let mut room = [ORIGIN; 64];
+    let nodes = &mut room[..n];
+    curves::zeroed(centres, nodes);
+    let frame = Frame {
+        flags: plan.flags,
+        centres: nodes,
+        arrows: plan.arrows,
+    };
+    beyond::beyond(&frame)
 }
 
 // Auto measures the ring, and the layers too where it has to compare.
-fn auto_beyond(
-    flags: &[u8],
-    sources: &[usize],
-    targets: &[usize],
-    widths: &[f64],
-    heights: &[f64],
-    px: &mut [f64],
-    py: &mut [f64],
-) -> bool
-    requires { C.GraphSlices flags.now sources.now targets.now widths.now heights.now px.old py.old }
-    ensures { let plan = L.plan_by flags.now sources.now targets.now
-        widths.now heights.now in
-        result ≡ M.any_beyond plan (M.measured 0 plan) }
+#[tactic(auto, unfolding(crate::specs::Measured::any_beyond, crate::specs::Measured::measured, laws::specs::Any::any_of))]
+fn auto_beyond(plan: &Plan) -> bool
+    requires whole { Whole plan.now }
+    requires some { 0 < length plan.now.flags.now }
+    ensures { let p = plan_in plan.now in result ≡ M.any_beyond p (M.measured 0 p) }
 {
-    if layout::dense(flags.len(), sources.len()) {
-        return placed_beyond(
-            Placement::Ring,
-            flags,
-            sources,
-            targets,
-            widths,
-            heights,
-            px,
-            py,
-        );
+    if plan.dense() {
+        return placed_beyond(plan, Placement::Ring);
     }
-    if placed_beyond(
-        Placement::Layers,
-        flags,
-        sources,
-        targets,
-        widths,
-        heights,
-        px,
-        py,
-    ) {
-        return true;
-    }
-    placed_beyond(
-        Placement::Ring,
-        flags,
-        sources,
-        targets,
-        widths,
-        heights,
-        px,
-        py,
-    )
+    placed_beyond(plan, Placement::Layers) || placed_beyond(plan, Placement::Ring)
 }
 
 // By kind.
-fn kind_beyond(
-    kind: Kind,
-    flags: &[u8],
-    sources: &[usize],
-    targets: &[usize],
-    widths: &[f64],
-    heights: &[f64],
-    px: &mut [f64],
-    py: &mut [f64],
-) -> bool
-    requires { C.GraphSlices flags.now sources.now targets.now widths.now heights.now px.old py.old }
-    ensures { let plan = L.plan_by flags.now sources.now targets.now
-        widths.now heights.now in
-        result ≡ M.any_beyond plan (M.measured (L.kind_number kind) plan) }
+#[tactic(auto, unfolding(crate::specs::Measured::any_beyond, crate::specs::Measured::measured, laws::specs::Any::any_of))]
+fn kind_beyond(plan: &Plan, kind: Kind) -> bool
+    requires whole { Whole plan.now }
+    requires some { 0 < length plan.now.flags.now }
+    ensures { let p = plan_in plan.now in result ≡ M.any_beyond p (M.measured (L.kind_number kind) p) }
 {
     match kind {
-        Kind::Auto => auto_beyond(flags, sources, targets, widths, heights, px, py),
-        Kind::Layered => placed_beyond(
-            Placement::Layers,
-            flags,
-            sources,
-            targets,
-            widths,
-            heights,
-            px,
-            py,
-        ),
-        Kind::Circular => placed_beyond(
-            Placement::Ring,
-            flags,
-            sources,
-            targets,
-            widths,
-            heights,
-            px,
-            py,
-        ),
+        Kind::Auto => auto_beyond(plan),
+        Kind::Layered => placed_beyond(plan, Placement::Layers),
+        Kind::Circular => placed_beyond(plan, Placement::Ring),
     }
 }
 
-// Whether a drawing that the layout measures is refused; without states nothing is drawn. Nothing is said of the
-// room for centres afterwards.
-fn layout_beyond(
-    kind: Kind,
-    flags: &[u8],
-    sources: &[usize],
-    targets: &[usize],
-    widths: &[f64],
-    heights: &[f64],
-    px: &mut [f64],
-    py: &mut [f64],
-) -> bool
-    requires { C.LayoutSlices flags.now sources.now targets.now widths.now heights.now px.old py.old }
-    ensures { let plan = L.plan_by flags.now sources.now targets.now
-        widths.now heights.now in
-        result ≡ M.layout_beyond (L.kind_number kind) plan }
+// Whether a drawing that the layout measures is refused; without states nothing is drawn.
+#[tactic(auto, unfolding(crate::specs::Measured::layout_beyond))]
+fn layout_beyond(plan: &Plan, kind: Kind) -> bool
+    requires whole { Whole plan.now }
+    ensures { result ≡ M.layout_beyond (L.kind_number kind) (plan_in plan.now) }
 {
-    if flags.len() == 0 {
-        return false;
-    }
-    kind_beyond(kind, flags, sources, targets, widths, heights, px, py)
+    !plan.flags.is_empty() && kind_beyond(plan, kind)
 }
 
 // ---- the call
 
-// Lays out a sheet; what is read of it, and its centres, in the slices lent for that.
+// Lays out a sheet; what is read of it, in the slices lent for that.
 fn plan_read(
     s: &[u8],
     kind: Kind,
     flags: &mut [u8],
-    sources: &mut [usize],
-    targets: &mut [usize],
-    widths: &mut [f64],
-    heights: &mut [f64],
-    px: &mut [f64],
-    py: &mut [f64],
-    xs: &mut [f64],
-    ys: &mut [f64],
+    arrows: &mut [Ends],
+    sizes: &mut [Block],
+    centres: &mut [V],
 ) -> Result<(usize, f64, f64), Refusal>
-    requires fact { let states = length (G.states_of s.now) in
-        (length flags.old ≡ states)
-        × (length px.old ≡ states)
-        × (length py.old ≡ states)
-        × (states ≤ 64)
-        × (64 ≤ length xs.old)
-        × (64 ≤ length ys.old) }
-    requires fact_2 { let arrows = length (G.arrows_of s.now) in
-        (length sources.old ≡ arrows)
-        × (length targets.old ≡ arrows)
-        × (length widths.old ≡ arrows)
-        × (length heights.old ≡ arrows)
-        × (arrows ≤ 256) }
+    requires a_state_each { (length flags.old ≡ length (G.states_of s.now)) × (length flags.old ≤ 64) }
+    requires an_arrow_each { let many = length (G.arrows_of s.now) in
+        (length arrows.old ≡ many)
+        × (length sizes.old ≡ many)
+        × (many ≤ 256) }
+    requires room { 64 ≤ length centres.old }
     ensures { let graph = G.meaning s.now in
         let number = L.kind_number kind in
         let refusals = S.measured_refusals number graph in
         (outcome result ≡ S.plan_answer refusals number graph)
-        × (xs.new ≡ S.xs_by refusals number graph xs.old)
-        × (ys.new ≡ S.ys_by refusals number graph ys.old) }
+        × (centres.new ≡ S.centres_by refusals number graph centres.old) }
 {
-    graph::read_graph(s, flags, sources, targets, widths, heights);
-    if layout_beyond(kind, flags, sources, targets, widths, heights, px, py) {
+    graph::read_graph(s, flags, arrows, sizes);
+    let n = flags.len();
+    let plan = Plan {
+        flags,
+        arrows,
+        sizes,
+    };
+    if layout_beyond(&plan, kind) {
         return Err(Refusal::Bow);
     }
-    let size = layout::layout(kind, flags, sources, targets, widths, heights, px, py);
-    slices::copy(px, xs);
-    slices::copy(py, ys);
-    Ok((flags.len(), size.width, size.height))
+    let size = plan.layout(kind, &mut centres[..n]);
+    Ok((n, size.width, size.height))
 }
 
-// Lays out a sheet of n states and m arrows.
-fn plan_sized(
-    s: &[u8],
-    kind: Kind,
-    n: usize,
-    m: usize,
-    xs: &mut [f64],
-    ys: &mut [f64],
-) -> Result<(usize, f64, f64), Refusal>
-    requires { (n ≡ length (G.states_of s.now))
-        × (n ≤ 64)
-        × (m ≡ length (G.arrows_of s.now))
-        × (m ≤ 256)
-        × (64 ≤ length xs.old)
-        × (64 ≤ length ys.old) }
+// Lays out a sheet of at most 64 states and 256 arrows.
+fn plan_accepted(s: &[u8], kind: Kind, centres: &mut [V]) -> Result<(usize, f64, f64), Refusal>
+    requires { (length (G.states_of s.now) ≤ 64)
+        × (length (G.arrows_of s.now) ≤ 256)
+        × (64 ≤ length centres.old) }
     ensures { let graph = G.meaning s.now in
         let number = L.kind_number kind in
         let refusals = S.measured_refusals number graph in
         (outcome result ≡ S.plan_answer refusals number graph)
-        × (xs.new ≡ S.xs_by refusals number graph xs.old)
-        × (ys.new ≡ S.ys_by refusals number graph ys.old) }
+        × (centres.new ≡ S.centres_by refusals number graph centres.old) }
 {
+    let n = meaning::state_count(s);
+    let m = meaning::arrow_count(s);
     let mut flags = [0u8; 64];
-    let mut sources = [0usize; 256];
-    let mut targets = [0usize; 256];
-    let mut widths = [0.0f64; 256];
-    let mut heights = [0.0f64; 256];
-    let mut px = [0.0f64; 64];
-    let mut py = [0.0f64; 64];
+    let mut arrows = [NO_ENDS; 256];
+    let mut sizes = [NO_BLOCK; 256];
     plan_read(
         s,
         kind,
         &mut flags[..n],
-        &mut sources[..m],
-        &mut targets[..m],
-        &mut widths[..m],
-        &mut heights[..m],
-        &mut px[..n],
-        &mut py[..n],
-        xs,
-        ys,
+        &mut arrows[..m],
+        &mut sizes[..m],
+        centres,
     )
 }
 
-// Lays out a sheet of at most 64 states and 256 arrows.
-fn plan_accepted(
-    s: &[u8],
-    kind: Kind,
-    xs: &mut [f64],
-    ys: &mut [f64],
-) -> Result<(usize, f64, f64), Refusal>
-    requires { (length (G.states_of s.now) ≤ 64)
-        × (length (G.arrows_of s.now) ≤ 256)
-        × (64 ≤ length xs.old)
-        × (64 ≤ length ys.old) }
-    ensures { let graph = G.meaning s.now in
-        let number = L.kind_number kind in
-        let refusals = S.measured_refusals number graph in
-        (outcome result ≡ S.plan_answer refusals number graph)
-        × (xs.new ≡ S.xs_by refusals number graph xs.old)
-        × (ys.new ≡ S.ys_by refusals number graph ys.old) }
-{
-    let n = meaning::state_count(s);
-    let m = meaning::arrow_count(s);
-    plan_sized(s, kind, n, m, xs, ys)
-}
-
 // Checks a sheet under the limits and lays it out by the number of a kind: how many states there are, width and height,
-// and the centres from the front of `xs` and `ys` on, or a refusal. There is room for 64 states and 256 arrows.
-pub fn plan(
-    s: &[u8],
-    m: Limits,
-    kind: u8,
-    xs: &mut [f64],
-    ys: &mut [f64],
-) -> Result<(usize, f64, f64), Refusal>
-    requires { (m.states ≤ 64) × (m.arrows ≤ 256) × (64 ≤ length xs.old) × (64 ≤ length ys.old) }
+// and the centres from the front of `centres` on, or a refusal. There is room for 64 states and 256 arrows.
+pub fn plan(s: &[u8], m: Limits, kind: u8, centres: &mut [V]) -> Result<(usize, f64, f64), Refusal>
+    requires { (m.states ≤ 64) × (m.arrows ≤ 256) × (64 ≤ length centres.old) }
     ensures { (outcome result ≡ S.planned m kind s.now)
-        × (xs.new ≡ S.xs_planned m kind s.now xs.old)
-        × (ys.new ≡ S.ys_planned m kind s.now ys.old) }
+        × (centres.new ≡ S.centres_planned m kind s.now centres.old) }
 {
     let kind = Kind::try_from(kind)?;
     sheet_check::check_within(s, m)?;
-    plan_accepted(s, kind, xs, ys)
+    plan_accepted(s, kind, centres)
 }

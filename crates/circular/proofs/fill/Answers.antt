@@ -21,10 +21,12 @@ pub loop-i-preserved : goal.loop-i-preserved
 loop-i-preserved c = let r : Float = c.args.r in
     let n : ℕ = length c.args.centres.now in
     let i : ℕ = c.loop-i.i in
-    let a : c.place_angle-a.result ≡ place_angle n (ring_place n c.args.start i) = c.place_angle-a.ensures ∙ ap (place_angle n) c.ring_place.ensures.0 in
+    let a : c.place_angle-a.result ≡ place_angle n (ring_place n c.args.start i) = c.place_angle-a.ensures
+    ∙ ap (place_angle n) c.ring_place.ensures.0 in
     table-fill (on_ring n c.args.start r) c.loop-i.centres i c.new.result (omega arith) c.loop-i.invariant
     (c.new.ensures ∙ ap₂ (λ (x y : Float). vec (r ⊗ x) (r ⊗ y)) (c.cos.ensures ∙ ap cos a) (c.sin.ensures ∙ ap sin a))
 
 pub returns : goal.returns
 returns c = let n : ℕ = length c.args.centres.now in
-    table_full (on_ring n c.args.start c.args.r) c.loop-i.centres c.loop-i.i n (omega arith) (omega arith) c.loop-i.invariant ∙ ring_filled n c.args.start c.args.r
+    table_full (on_ring n c.args.start c.args.r) c.loop-i.centres c.loop-i.i n (omega arith) (omega arith) c.loop-i.invariant
+    ∙ ring_filled n c.args.start c.args.r

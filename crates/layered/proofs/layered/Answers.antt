@@ -12,5 +12,6 @@ returns c = let a = c.args in
     let l = a.arrows.now in
     let cs = c.breadth_first-columns.result in
     let q : cs ≡ columns n l a.start = c.breadth_first-columns.ensures in
-    centres_are n a.start l cs a.width a.height q c.gap_for.result c.row_for.result c.sweep.new.columns c.put_xs.new.centres c.put_ys.new.centres c.sweep.new.slots c.gap_for.ensures c.row_for.ensures c.put_xs.ensures
+    centres_are n a.start l cs a.width a.height q c.gap_for.result c.row_for.result
+    c.sweep.new.columns c.put_xs.new.centres c.put_ys.new.centres c.sweep.new.slots c.gap_for.ensures c.row_for.ensures c.put_xs.ensures
     (rw (← (take-replicate n 64 f0 (omega arith))) c.sweep.ensures) c.put_ys.ensures

@@ -8,4 +8,5 @@ use Rattle.layered.specs.Layered.{column_of}
 use Rattle.layered.proofs.put_xs.Given as goal
 
 abbrev pub invariant-loop-v : goal.invariant-loop-v
-invariant-loop-v l = take l.v l.centres ≡ take l.v (map (λ (w : ℕ). vec (of_nat (column_of l.columns w) ⊗ l.gap) f0) (state_numbers (length l.initial.centres)))
+invariant-loop-v l = take l.v l.centres
+    ≡ take l.v (map (λ (w : ℕ). vec (of_nat (column_of l.columns w) ⊗ l.gap) f0) (state_numbers (length l.initial.centres)))

@@ -21,11 +21,13 @@ loop-v-preserved c = let l = c.loop-v in
     let none : «V» = vec nan nan in
     let q : «V» = f (get_or l.centres l.v none) (get_or y l.v nan) in (
       fill_more none l.centres (zip_by f p y) l.v q (omega arith) (omega (arith, zip_length f p y c.requires)) l.invariant.0
-          (ap (λ (a : «V»). f a (get_or y l.v nan)) (rest_read l.centres p l.v none l.invariant.1) ∙ sym (zip_at f p y l.v none nan none c.requires (omega arith))),
+          (ap (λ (a : «V»). f a (get_or y l.v nan)) (rest_read l.centres p l.v none l.invariant.1)
+          ∙ sym (zip_at f p y l.v none nan none c.requires (omega arith))),
       rest-set l.centres p l.v q l.invariant.1,
     )
 
 pub returns : goal.returns
 returns c = let l = c.loop-v in
     let f : «V» → Float → «V» = λ a s. vec a.x (s ⊗ c.args.row) in
-    fill_end l.centres (zip_by f c.args.centres.now c.args.slots.now) l.v (omega arith) (omega (arith, zip_length f c.args.centres.now c.args.slots.now c.requires)) l.invariant.0
+    fill_end l.centres (zip_by f c.args.centres.now c.args.slots.now) l.v (omega arith)
+    (omega (arith, zip_length f c.args.centres.now c.args.slots.now c.requires)) l.invariant.0

@@ -8,4 +8,5 @@ use Rattle.layout.specs.Laws.{largest_of}
 use Rattle.layout.proofs.tallest.Goals as goal
 
 pub returns : goal.returns
-returns c = fold_from_yields_List _ (λ a z. max a z.height) f0 _ c.fold.ensures.ran (YieldsList-from_slice c.args.sizes.now (cc)) (λ a x b q k. search rules) ∙ largest_of (λ z. z.height) c.args.sizes.now
+returns c = fold_from_yields_List _ (λ a z. max a z.height) f0 _ c.fold.ensures.ran (YieldsList-from_slice c.args.sizes.now (cc))
+    (λ a x b q k. search rules) ∙ largest_of (λ z. z.height) c.args.sizes.now

@@ -1,10 +1,11 @@
 -- `plan::placed_beyond` meets its contract.
-use mathlib.Core.Path.{ap, ◌∙◌}
-use Rattle.layout.specs.Layout.{Plan, plan_by}
-use Rattle.plan.specs.Measured.{beyond_at}
+use Rattle.std.proofs.Common.{ap, ◌∙◌, arith, length-take-le}
+use Rattle.beyond.specs.Beyond.{beyond}
+use Rattle.layout.specs.Lent.{plan_in}
+use Rattle.layout.specs.Laws.{frame_placed}
 use Rattle.plan.proofs.placed_beyond.Goals as goal
 
 pub returns : goal.returns
-returns c = let a = c.args in
-    let p : Plan = plan_by a.flags.now a.sources.now a.targets.now a.widths.now a.heights.now in
-    c.beyond.ensures ∙ ap (beyond_at p) c.place.ensures
+returns c = c.beyond.ensures
+    ∙ ap beyond (frame_placed (plan_in c.args.plan.now) c.place.new.centres c.zeroed.new.room
+    (c.place.auto.centres ∙ length-take-le _ _ (omega arith)) c.zeroed.ensures c.args.placement c.place.ensures)

@@ -10,19 +10,19 @@ pub returns-in_err-kind : goal.returns-in_err-kind
 returns-in_err-kind c = let a = c.args in
     let e = c.in_err-kind.ensures in
     let p = err_from_is_err_and c.from_residual.result c.from_residual.ensures.1 in
-    rw (p.1, p.2, e.0) (plan_kind a.m a.kind a.s.now a.xs.now a.ys.now e.1)
+    rw (p.1, p.2, e.0) (plan_kind a.m a.kind a.s.now a.centres.now e.1)
 
 pub returns-in_err-check_within : goal.returns-in_err-check_within
 returns-in_err-check_within c = let a = c.args in
     let p = err_from_is_err_and c.from_residual-in_err-check_within.result c.from_residual-in_err-check_within.ensures.1 in
-    rw (p.1, p.2) (kind-refused a.m c.in_ok-kind.kind c.in_ok-kind.ensures a.s.now a.xs.now a.ys.now _ c.in_err-check_within.ensures)
+    rw (p.1, p.2) (kind-refused a.m c.in_ok-kind.kind c.in_ok-kind.ensures a.s.now a.centres.now _ c.in_err-check_within.ensures)
 
 pub plan_accepted-requires : goal.plan_accepted-requires
 plan_accepted-requires c = let a = c.args in
     let q = c.requires in
     let w = within-limits a.m a.s.now (sym c.in_ok-check_within.ensures) in
-    (omega (arith, w.states, q.0), omega (arith, w.arrows, q.1), q.2, q.3)
+    (omega (arith, w.states, q.0), omega (arith, w.arrows, q.1), q.2)
 
 pub returns : goal.returns
 returns c = let a = c.args in
-    kind_accepted a.m c.in_ok-kind.kind c.in_ok-kind.ensures a.s.now a.xs.now a.ys.now _ _ _ c.in_ok-check_within.ensures c.plan_accepted.ensures
+    kind_accepted a.m c.in_ok-kind.kind c.in_ok-kind.ensures a.s.now a.centres.now _ _ c.in_ok-check_within.ensures c.plan_accepted.ensures

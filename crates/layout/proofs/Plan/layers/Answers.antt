@@ -4,4 +4,8 @@ use Rattle.sheet.specs.Starts.{start-below}
 use Rattle.layout.proofs.Plan.layers.Goals as goal
 
 pub layered-requires : goal.layered-requires
-layered-requires c = (omega arith, omega (arith, start-below c.args.self.now.flags.now (omega arith), c.start_index-start.ensures), omega arith)
+layered-requires c = (
+  omega arith,
+  omega (arith, start-below c.args.self.now.flags.now (omega arith), c.start_index-start.ensures),
+  omega arith,
+)
