@@ -14,11 +14,14 @@ use lib.Seq.{drop-cons, take_all, get_or-take, take_at, drop_at}
 use Rattle.laws.specs.Flat.{table}
 use Rattle.laws.specs.Lists.{part_length}
 use Rattle.laws.specs.Loops.{over}
-use Rattle.laws.specs.Split.{split, split_snoc, split-take, flat_split, split_at_column, split-set, length-split, sum_all, sum_snoc, sum_take, sum_fits}
+use Rattle.laws.specs.Split.{split, split_snoc, split-take, flat_split, split_at_column, split-set, length-split, sum_all, sum_snoc}
+use Rattle.laws.specs.Split.{sum_take, sum_fits}
 use Rattle.laws.specs.Put.{put, put_front}
 use Rattle.sheet.specs.declared.Ends.{Ends}
 use Rattle.columns.specs.Columns.{successors, elem, discover, explore, columns_after, reached, unreached, concat, columns, last_column}
-use Rattle.columns.specs.Found.{Fair, Reached, discover_rest, fair_start, explore_one, explore-end, explore_fair, explore_front, explore_grows, after_none, after_more, after-end, follow_yes, follow_no, fair_room, target_in, follows, follow_fair, visit_fair, over_front, over_grows, discover_fair}
+use Rattle.columns.specs.Found.{Fair, Reached, discover_rest, fair_start, explore_one, explore-end, explore_fair, explore_front}
+use Rattle.columns.specs.Found.{explore_grows, after_none, after_more, after-end, follow_yes, follow_no, fair_room, target_in, follows}
+use Rattle.columns.specs.Found.{follow_fair, visit_fair, over_front, over_grows, discover_fair}
 
 -- whether a list has w, as the library says it
 pub elem_list : (w : ℕ) (l : List ℕ) → elem w l ≡ list_any (λ (v : ℕ). eqb v w) l
@@ -71,9 +74,11 @@ module _ (n : ℕ) where
 -- ---- the states of a column, one by one
 module _ (n : ℕ) (arrows : List Ends) (found before : List ℕ) where
   pub explore_step : (i : ℕ) → i < length before → take (length before) found ≡ before
-      → explore n arrows (over discover found (successors n arrows (get_or found i 0))) (drop (i + 1) before) ≡ explore n arrows found (drop i before)
+      → explore n arrows (over discover found (successors n arrows (get_or found i 0))) (drop (i + 1) before)
+      ≡ explore n arrows found (drop i before)
   explore_step i h e =
-      let same : get_or found i 0 ≡ get_or before i 0 = sym (get_or-take (length before) found i 0 h) ∙ ap (λ (x : List ℕ). get_or x i 0) e in
+      let same : get_or found i 0 ≡ get_or before i 0 = sym (get_or-take (length before) found i 0 h)
+      ∙ ap (λ (x : List ℕ). get_or x i 0) e in
       ap (λ (v : ℕ). explore n arrows (over discover found (successors n arrows v)) (drop (i + 1) before)) same
       ∙ explore_one n arrows found (get_or before i 0) (drop (i + 1) before)
       ∙ ap (λ (c : List ℕ). explore n arrows found c) (rw add-one (sym (drop-cons before i 0 h)))
@@ -83,9 +88,11 @@ module _ (n : ℕ) (arrows : List Ends) (found before : List ℕ) where
       sym (ap (λ (c : List ℕ). explore n arrows found c) (drop_of_length-le before {i = i} h) ∙ explore-end n arrows found)
 
 -- columns that were copied to the front of a list
-pub split_copied : (room seen all sizes : List ℕ) → seen ≡ all → length seen ≤ length room → sum_all sizes ≡ length all → split sizes (put room 0 seen) ≡ split sizes all
+pub split_copied : (room seen all sizes : List ℕ) → seen ≡ all → length seen ≤ length room → sum_all sizes ≡ length all
+    → split sizes (put room 0 seen) ≡ split sizes all
 split_copied room seen all sizes e h s =
-    ap (split sizes) (put_front room seen h ∙ ap (λ (l : List ℕ). l ++ drop (length seen) room) e) ∙ split_front sizes all (drop (length seen) room) (omega (arith, s))
+    ap (split sizes) (put_front room seen h ∙ ap (λ (l : List ℕ). l ++ drop (length seen) room) e)
+    ∙ split_front sizes all (drop (length seen) room) (omega (arith, s))
 
 -- ---- column by column: what is done, and what is left
 module _ (n : ℕ) (arrows : List Ends) (start : ℕ) where
@@ -98,16 +105,19 @@ module _ (n : ℕ) (arrows : List Ends) (start : ℕ) where
   unfolding split sum_all reached
   first h = (fair_start n start h, omega arith, refl, omega arith, refl)
 
-  pub search_begin : (none none' order sizes : List ℕ) → start < n → none ≡ [] → none' ≡ [] → order ≡ none ++ (start ∷ []) → sizes ≡ none' ++ (1 ∷ []) → Searching order sizes 0 (n - 0)
+  pub search_begin : (none none' order sizes : List ℕ) → start < n → none ≡ [] → none' ≡ [] → order ≡ none ++ (start ∷ [])
+      → sizes ≡ none' ++ (1 ∷ []) → Searching order sizes 0 (n - 0)
   search_begin none none' order sizes h z z' e f = rw (e, f, z, z', sub-zero n) (first h)
 
   -- what a search from the last column leaves
-  module _ (found found' sizes : List ℕ) (low left : ℕ) (s : Searching found sizes low left) (e : found' ≡ explore n arrows found (drop low found)) where
+  module _ (found found' sizes : List ℕ) (low left : ℕ) (s : Searching found sizes low left)
+      (e : found' ≡ explore n arrows found (drop low found)) where
     pub search_grown : length found ≤ length found'
     search_grown = omega (arith, ap length e, explore_grows n arrows found (drop low found))
 
     front : take (length found) found' ≡ found
-    front = ap (take (length found)) e ∙ explore_front (length found) n arrows found (drop low found) (omega arith) ∙ take_all (length found) found (omega arith)
+    front = ap (take (length found)) e ∙ explore_front (length found) n arrows found (drop low found) (omega arith)
+        ∙ take_all (length found) found (omega arith)
 
     pub search_fair : Fair n found'
     search_fair = subst (Fair n) (sym e) (explore_fair n arrows found (drop low found) s.0)
@@ -121,19 +131,24 @@ module _ (n : ℕ) (arrows : List Ends) (start : ℕ) where
     stop : length found' - length found ≡ 0 → Reached n arrows start found' sizes
     stop z =
         let f = same z in
-        let r = sym (append-nil (split sizes found)) ∙ ap (λ (r : List (List ℕ)). split sizes found ++ r) (sym (after_none n arrows found (drop low found) found' e left (new-length ∙ z))) ∙ s.4 in
+        let r = sym (append-nil (split sizes found))
+        ∙ ap (λ (r : List (List ℕ)). split sizes found ++ r)
+        (sym (after_none n arrows found (drop low found) found' e left (new-length ∙ z))) ∙ s.4 in
         subst (λ (x : List ℕ). Reached n arrows start x sizes) (sym f) (s.0, s.1, s.2, r)
 
-    step : (length found' - length found ≡ 0 → ⊥) → 0 < left → Searching found' (sizes ++ ((length found' - length found) ∷ [])) (length found) (left - 1)
+    step : (length found' - length found ≡ 0 → ⊥) → 0 < left
+        → Searching found' (sizes ++ ((length found' - length found) ∷ [])) (length found) (left - 1)
     step z l =
         let k = length found' - length found in (
           search_fair,
           omega (arith, length-append sizes (k ∷ []), s.1, z, search_grown),
           sum_snoc sizes k ∙ omega (arith, s.2, search_grown),
           search_grown,
-          ap (λ (x : List (List ℕ)). x ++ rest') (split_snoc sizes k found' ∙ ap₂ (λ (x : List (List ℕ)) (y : List ℕ). x ++ (y ∷ [])) before last)
+          ap (λ (x : List (List ℕ)). x ++ rest') (split_snoc sizes k found'
+              ∙ ap₂ (λ (x : List (List ℕ)) (y : List ℕ). x ++ (y ∷ [])) before last)
               ∙ append_assoc (split sizes found) (drop (length found) found' ∷ []) rest'
-              ∙ ap (λ (x : List (List ℕ)). split sizes found ++ x) (sym (after_more n arrows found (drop low found) found' e left l (λ h. z (sym new-length ∙ h))))
+              ∙ ap (λ (x : List (List ℕ)). split sizes found ++ x)
+              (sym (after_more n arrows found (drop low found) found' e left l (λ h. z (sym new-length ∙ h))))
               ∙ s.4,
         )
       where
@@ -144,7 +159,8 @@ module _ (n : ℕ) (arrows : List Ends) (start : ℕ) where
         before = sym (split-take sizes (length found) found' (omega (arith, s.2))) ∙ ap (split sizes) front
 
         last : take (length found' - length found) (drop (sum_all sizes) found') ≡ drop (length found) found'
-        last = ap (λ (j : ℕ). take (length found' - length found) (drop j found')) s.2 ∙ take_all (length found' - length found) (drop (length found) found') (omega (arith, new-length))
+        last = ap (λ (j : ℕ). take (length found' - length found) (drop j found')) s.2
+            ∙ take_all (length found' - length found) (drop (length found) found') (omega (arith, new-length))
 
     -- by what the code reads of both
     module _ (high more : List ℕ) (f : high ≡ found) (g : more ≡ found') where
@@ -154,16 +170,23 @@ module _ (n : ℕ) (arrows : List Ends) (start : ℕ) where
       pub search_stop : length more - length high ≡ 0 → Reached n arrows start found' sizes
       search_stop z = stop (sym less ∙ z)
 
-      pub search_step : (sizes' : List ℕ) (i : ℕ) → left ≡ n - i → i < n → (length more - length high ≡ 0 → ⊥) → sizes' ≡ sizes ++ ((length more - length high) ∷ []) → Searching found' sizes' (length high) (n - (i + 1))
+      pub search_step : (sizes' : List ℕ) (i : ℕ) → left ≡ n - i → i < n → (length more - length high ≡ 0 → ⊥)
+          → sizes' ≡ sizes ++ ((length more - length high) ∷ []) → Searching found' sizes' (length high) (n - (i + 1))
       search_step sizes' i l h z e =
           let next : left - 1 ≡ n - (i + 1) = omega (arith, l, h) in
           subst (λ (k : ℕ). Searching found' sizes' (length high) k) next
           (subst (λ (k : ℕ). Searching found' sizes' k (left - 1)) (sym (ap length f))
-          (subst (λ (x : List ℕ). Searching found' x (length found) (left - 1)) (sym (e ∙ ap (λ (k : ℕ). sizes ++ (k ∷ [])) less)) (step (λ h. z (less ∙ h)) (omega (arith, l, h)))))
+          (subst (λ (x : List ℕ). Searching found' x (length found) (left - 1)) (sym (e ∙ ap (λ (k : ℕ). sizes ++ (k ∷ [])) less))
+          (step (λ h. z (less ∙ h)) (omega (arith, l, h)))))
 
   pub search_all : (found sizes : List ℕ) (low left : ℕ) → Searching found sizes low left → left ≤ 0 → Reached n arrows start found sizes
-  search_all found sizes low left s z =
-      (s.0, s.1, s.2, sym (append-nil (split sizes found)) ∙ ap (λ (r : List (List ℕ)). split sizes found ++ r) (sym (after-end n arrows left found (drop low found) z)) ∙ s.4)
+  search_all found sizes low left s z = (
+    s.0,
+    s.1,
+    s.2,
+    sym (append-nil (split sizes found))
+        ∙ ap (λ (r : List (List ℕ)). split sizes found ++ r) (sym (after-end n arrows left found (drop low found) z)) ∙ s.4,
+  )
 
   -- ---- with the states that are not reached
   module _ (found all sizes : List ℕ) (r : Reached n arrows start found sizes) (e : all ≡ found ++ unreached n found) where
@@ -187,18 +210,22 @@ module _ (n : ℕ) (arrows : List Ends) (start : ℕ) where
     no_rest : n ≤ length found → (sum_all sizes ≡ length all) × (split sizes all ≡ columns n arrows start)
     no_rest h = (
       omega (arith, r.2, all-length, r.0),
-      split-first ∙ sym (append-nil (split sizes found)) ∙ ap (λ (c : List (List ℕ)). split sizes found ++ c) (sym (no_column (unreached n found) (omega (arith, rest-length)))) ∙ sym columns_are,
+      split-first ∙ sym (append-nil (split sizes found))
+          ∙ ap (λ (c : List (List ℕ)). split sizes found ++ c) (sym (no_column (unreached n found) (omega (arith, rest-length))))
+          ∙ sym columns_are,
     )
       where
         no_column : (u : List ℕ) → length u ≡ 0 → last_column u ≡ []
         no_column [] h = refl
         no_column (v ∷ u) h = absurd (omega arith)
 
-    rest : length found < n → (sum_all (sizes ++ ((n - length found) ∷ [])) ≡ length all) × (split (sizes ++ ((n - length found) ∷ [])) all ≡ columns n arrows start)
+    rest : length found < n → (sum_all (sizes ++ ((n - length found) ∷ [])) ≡ length all)
+        × (split (sizes ++ ((n - length found) ∷ [])) all ≡ columns n arrows start)
     rest h = (
       sum_snoc sizes (n - length found) ∙ omega (arith, r.2, all-length, h),
       split_snoc sizes (n - length found) all
-          ∙ ap₂ (λ (x : List (List ℕ)) (y : List (List ℕ)). x ++ y) split-first (ap (λ (x : List ℕ). x ∷ []) last ∙ sym (one_column (unreached n found) (omega (arith, rest-length, h))))
+          ∙ ap₂ (λ (x : List (List ℕ)) (y : List (List ℕ)). x ++ y) split-first
+          (ap (λ (x : List ℕ). x ∷ []) last ∙ sym (one_column (unreached n found) (omega (arith, rest-length, h))))
           ∙ sym columns_are,
     )
       where
@@ -220,7 +247,8 @@ module _ (n : ℕ) (arrows : List Ends) (start : ℕ) where
       module _ (sizes' : List ℕ) (h : length seen < n) (g : sizes' ≡ sizes ++ ((n - length seen) ∷ [])) where
         with_rest : (sum_all sizes' ≡ length all) × (split sizes' all ≡ columns n arrows start)
         with_rest =
-            subst (λ (z : List ℕ). (sum_all z ≡ length all) × (split z all ≡ columns n arrows start)) (sym (g ∙ ap (λ (l : List ℕ). sizes ++ ((n - length l) ∷ [])) f))
+            subst (λ (z : List ℕ). (sum_all z ≡ length all) × (split z all ≡ columns n arrows start))
+            (sym (g ∙ ap (λ (l : List ℕ). sizes ++ ((n - length l) ∷ [])) f))
             (rest (subst (λ (l : List ℕ). length l < n) f h))
 
         pub fill_long : sum_all sizes' ≡ length all
@@ -235,7 +263,8 @@ module _ (sizes order : List ℕ) (l : ℕ) (cs : List (List ℕ)) (v : split si
   inside = omega (arith, h, ap length v, length-split sizes order)
 
   -- where it begins and how many states it has, as the code reads them
-  module _ (a k : ℕ) (seen : List ℕ) (s : seen ≡ sizes) (fit : sum_all sizes ≤ 64) (e : a ≡ sum_all (take l seen)) (f : k ≡ get_or seen l 0) where
+  module _ (a k : ℕ) (seen : List ℕ) (s : seen ≡ sizes) (fit : sum_all sizes ≤ 64) (e : a ≡ sum_all (take l seen))
+      (f : k ≡ get_or seen l 0) where
     start_is : a ≡ sum_all (take l sizes)
     start_is = e ∙ ap (λ (x : List ℕ). sum_all (take l x)) s
 
@@ -249,7 +278,8 @@ module _ (sizes order : List ℕ) (l : ℕ) (cs : List (List ℕ)) (v : split si
     wide = omega (arith, size_is)
 
     pub part_is : take (a + k - a) (drop a order) ≡ get_or cs l []
-    part_is = ap₂ (λ (j b : ℕ). take j (drop b order)) wide start_is ∙ sym (split_at_column sizes l order inside) ∙ ap (λ (x : List (List ℕ)). get_or x l []) v
+    part_is = ap₂ (λ (j b : ℕ). take j (drop b order)) wide start_is ∙ sym (split_at_column sizes l order inside)
+        ∙ ap (λ (x : List (List ℕ)). get_or x l []) v
 
     module _ (room : length order ≡ 64) where
       pub column_long : k ≡ length (get_or cs l [])

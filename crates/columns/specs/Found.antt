@@ -97,7 +97,8 @@ unfolding unreached discover elem
 fair_start n start h = discover_fair n [] start (omega (arith, all_new 0 n)) h
 
 -- states discovered one after another are those that are not found, behind those that are
-pub discover_rest : (k m : ℕ) (found : List ℕ) → over discover found (table (λ (v : ℕ). v) k m) ≡ found ++ filter_by (is_new found) (table (λ (v : ℕ). v) k m)
+pub discover_rest : (k m : ℕ) (found : List ℕ) → over discover found (table (λ (v : ℕ). v) k m)
+    ≡ found ++ filter_by (is_new found) (table (λ (v : ℕ). v) k m)
 unfolding over table filter_by
 discover_rest k zero found = sym (append-nil found)
 discover_rest k (suc m) found =
@@ -176,7 +177,8 @@ discover_front k found w h =
 
 discover_grows : (found : List ℕ) (w : ℕ) → length found ≤ length (discover found w)
 discover_grows found w =
-    by_bool (elem w found) (λ e. rw (discover_old found w e) (omega arith)) (λ e. rw (discover_new found w e) (omega (arith, length-append found (w ∷ []))))
+    by_bool (elem w found) (λ e. rw (discover_old found w e) (omega arith))
+    (λ e. rw (discover_new found w e) (omega (arith, length-append found (w ∷ []))))
 
 pub over_grows : (found l : List ℕ) → length found ≤ length (over discover found l)
 unfolding over

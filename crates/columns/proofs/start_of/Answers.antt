@@ -9,7 +9,8 @@ use Rattle.columns.proofs.start_of.Goals as goal
 pub sum-requires-clause-fits : goal.sum-requires-clause-fits
 sum-requires-clause-fits c = let sizes = c.args.sizes.now in
     let l = take c.args.l sizes in
-    fits_from_yields_list _ 18446744073709551616 (YieldsList-from_slice l c.iter.ensures.rest) (omega (arith, sum_list l, sum_take sizes c.args.l, c.requires.fits))
+    fits_from_yields_list _ 18446744073709551616 (YieldsList-from_slice l c.iter.ensures.rest)
+    (omega (arith, sum_list l, sum_take sizes c.args.l, c.requires.fits))
 
 pub returns : goal.returns
 returns c = let l = take c.args.l c.args.sizes.now in

@@ -10,4 +10,5 @@ invariant-loop-i l =
     × (length l.initial.found ≤ length l.found)
     × (take (length l.initial.found) l.found ≡ l.initial.found)
     × Fair l.self.states l.found
-    × (explore l.self.states l.self.arrows.now l.found (drop l.i l.initial.found) ≡ explore l.self.states l.self.arrows.now l.initial.found (drop l.low l.initial.found))
+    × (explore l.self.states l.self.arrows.now l.found (drop l.i l.initial.found)
+    ≡ explore l.self.states l.self.arrows.now l.initial.found (drop l.low l.initial.found))

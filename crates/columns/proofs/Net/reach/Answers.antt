@@ -7,13 +7,15 @@ use Rattle.columns.proofs.Net.reach.Goals.{else-loop-test, then-loop-test+then-n
 
 pub loop-init : goal.loop-init
 loop-init c = let a = c.args in
-    search_begin a.self.now.states a.self.now.arrows.now a.start _ _ c.push.new.self c.push-2.new.self c.requires.state c.new-order.ensures c.new-sizes.ensures c.push.ensures c.push-2.ensures
+    search_begin a.self.now.states a.self.now.arrows.now a.start _ _ c.push.new.self c.push-2.new.self c.requires.state
+    c.new-order.ensures c.new-sizes.ensures c.push.ensures c.push-2.ensures
 
 pub loop-preserved : goal.loop-preserved
 loop-preserved c = let a = c.args in
     let l = c.loop in
     let n = a.self.now.states in
-    search_step n a.self.now.arrows.now a.start l.order c.explore.new.found l.sizes l.low (n - l.counter) l.invariant c.explore.ensures _ _ c.as_slice-high.ensures.all c.as_slice.ensures.all
+    search_step n a.self.now.arrows.now a.start l.order c.explore.new.found l.sizes l.low (n - l.counter) l.invariant
+    c.explore.ensures _ _ c.as_slice-high.ensures.all c.as_slice.ensures.all
     c.push-in-loop.new.self l.counter refl c.loop-test.true c.if-new-eq0.false c.push-in-loop.ensures
 
 pub returns : goal.returns
@@ -22,7 +24,9 @@ returns c = let a = c.args in
     let n = a.self.now.states in
     let done : List ℕ → Type 0 = λ (x : List ℕ). Reached n a.self.now.arrows.now a.start x l.sizes in
     elim c.loop-test.branch [
-      | else-loop-test w ↦ subst done (sym w.order-is) (search_all n a.self.now.arrows.now a.start l.order l.sizes l.low (n - l.counter) l.invariant (omega (arith, w.loop-test.false)))
+      | else-loop-test w ↦ subst done (sym w.order-is)
+          (search_all n a.self.now.arrows.now a.start l.order l.sizes l.low (n - l.counter) l.invariant (omega (arith, w.loop-test.false)))
       | then-loop-test+then-new-eq0 w ↦ subst done (sym w.order-is)
-          (search_stop n a.self.now.arrows.now a.start l.order w.explore.new.found l.sizes l.low (n - l.counter) l.invariant w.explore.ensures _ _ w.as_slice-high.ensures.all w.as_slice.ensures.all w.if-new-eq0.true)
+          (search_stop n a.self.now.arrows.now a.start l.order w.explore.new.found l.sizes l.low (n - l.counter) l.invariant
+          w.explore.ensures _ _ w.as_slice-high.ensures.all w.as_slice.ensures.all w.if-new-eq0.true)
     ]
