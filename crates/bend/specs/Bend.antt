@@ -1,11 +1,12 @@
 -- The offset of an arrow's control point.
 use Rattle.std.specs.Prelude.{Bool, cond, List, [], ◌∷◌, Float}
 use Rattle.float.specs.Ops.{◌⊕◌, ◌⊗◌, lt, neg}
-use Rattle.float.specs.Constants.{f0, f1, f24, f28, f48, f64_0, f160, f0_3, f1_5, eps}
+use Rattle.float.specs.Constants.{f0, f24, f28, f48, f64_0, f160, f0_3, f1_5, eps}
 use Rattle.float.specs.Standins.{abs, max, clamp, copysign}
 use Rattle.shape.specs.declared.«V».{«V»}
 use Rattle.free.specs.declared.Chord.{Chord}
 use Rattle.free.specs.declared.Span.{Span}
+use Rattle.free.specs.declared.Search.TheVariants as Search
 use Rattle.free.specs.Blocked.{blocked}
 use Rattle.free.specs.Free.{inside_some, first_free}
 use Rattle.bend.specs.Clear.{clearance, verified}
@@ -27,7 +28,7 @@ base c = clamp (f0_3 ⊗ c.len) f28 f64_0
 
 -- the first free bow, upwards
 abbrev pub pair_up : Chord → List Span → Float
-pair_up c l = first_free f1 l (base c)
+pair_up c l = first_free Search.Up l (base c)
 
 -- the three candidates of a two-way pair
 abbrev pub pair_bows : Float → List Float
@@ -41,10 +42,10 @@ pair_bow c ps l = verified (clearance c ps) (pair_bows (pair_up c l))
 
 -- the first free bow upwards from 24, and downwards from −24
 abbrev pub single_up : List Span → Float
-single_up l = first_free f1 l f24
+single_up l = first_free Search.Up l f24
 
 abbrev pub single_down : List Span → Float
-single_down l = first_free (neg f1) l (neg f24)
+single_down l = first_free Search.Down l (neg f24)
 
 -- down comes first where it is smaller by more than 1e-9
 abbrev pub down_first : List Span → Bool

@@ -8,12 +8,13 @@ use Rattle.std.specs.Float.Ieee.{up, down, of_bits}
 use Rattle.std.specs.Float.Ieee as Ieee
 use Rattle.laws.specs.Cases.{by_bool}
 use Rattle.float.specs.Ops.{◌⊕◌, ◌⊗◌, lt, eq, ne}
-use Rattle.float.specs.Constants.{f0, f1, f24, f28, f48, f64_0, f0_3}
+use Rattle.float.specs.Constants.{f0, f24, f28, f48, f64_0, f0_3}
 use Rattle.float.specs.Standins.{clamp}
 use Rattle.laws.specs.Nan.{is_nan_lem}
 use Rattle.shape.specs.declared.«V».{«V»}
 use Rattle.free.specs.declared.Chord.{Chord}
 use Rattle.free.specs.declared.Span.{Span}
+use Rattle.free.specs.declared.Search.TheVariants as Search
 use Rattle.free.specs.Blocked.{blocked}
 use Rattle.free.specs.Free.{inside_some, first_free}
 use Rattle.free.specs.Moves.{ahead, free_keeps}
@@ -77,15 +78,15 @@ base-up c = go (f0_3 ⊗ c.len)
         (λ n. inr (ap (λ (y : Float). clamp y f28 f64_0) (is_nan_lem x n) ∙ unfold Ieee.lt in refl))
         (λ n. inl (clamp_above x n))
 
-free_nan : (l : List Span) → first_free f1 l nan ≡ nan
+free_nan : (l : List Span) → first_free Search.Up l nan ≡ nan
 unfolding ahead Ieee.lt
-free_nan l = free_keeps f1 l (λ h. h ≡ nan) (λ h t e a. absurd (still t (subst (λ (x : Float). T (ahead (lt f0 f1) x t)) e a))) nan refl
+free_nan l = free_keeps Search.Up l (λ h. h ≡ nan) (λ h t e a. absurd (still t (subst (λ (x : Float). T (ahead Search.Up x t)) e a))) nan refl
   where
-    still : (t : Float) → T (ahead (lt f0 f1) nan t) → ⊥
+    still : (t : Float) → T (ahead Search.Up nan t) → ⊥
     still t a = unfold of_bits in a
 
 pair_up_lem : (c : Chord) (l : List Span) → Up (pair_up c l)
-pair_up_lem c l = up_on (first_free f1 l) (free_above l) (free_nan l) (base c) (base-up c)
+pair_up_lem c l = up_on (first_free Search.Up l) (free_above l) (free_nan l) (base c) (base-up c)
 
 -- ---- the theorem
 

@@ -16,7 +16,7 @@ use Rattle.laws.specs.Between.{lt-between, above_num, below_num, self_inf}
 use Rattle.laws.specs.Order.{float_lt_trans}
 use Rattle.root.specs.Plain.{plain, root-plain}
 use Rattle.float.specs.Ops.{◌⊕◌, ◌⊗◌, lt, ne, neg}
-use Rattle.float.specs.Constants.{f0, f1, f24, f28, f48, f64_0, f160, f0_3, f1_5}
+use Rattle.float.specs.Constants.{f0, f24, f28, f48, f64_0, f160, f0_3, f1_5}
 use Rattle.float.specs.Standins.{negative, abs, max, clamp, root}
 use Rattle.laws.specs.Nan.{is_num}
 use Rattle.float.specs.Sizes.{round_form, equals_itself}
@@ -26,6 +26,7 @@ use Rattle.shape.specs.Plane.{dist, dist_squared}
 use Rattle.shape.specs.Squares.{dist-plain as squared-plain, dist-root}
 use Rattle.free.specs.declared.Chord.{Chord}
 use Rattle.free.specs.declared.Span.{Span}
+use Rattle.free.specs.declared.Search.TheVariants as Search
 use Rattle.free.specs.Chords.{chord}
 use Rattle.free.specs.Blocked.{blocked}
 use Rattle.free.specs.Free.{inside_some, first_free}
@@ -92,19 +93,11 @@ clamp_above x n =
 
 -- ---- upwards the search stays above 0, downwards below
 
-one_up : lt f0 f1 ≡ true
-unfolding Ieee.lt of_bits
-one_up = refl
+pub free_above : (l : List Span) (h : Float) → T (lt f0 h) → T (lt f0 (first_free Search.Up l h))
+free_above l h t = free_keeps Search.Up l (λ x. T (lt f0 x)) (λ x y k a. float_lt_trans f0 x y k (unfold ahead in a)) h t
 
-one_down : lt f0 (neg f1) ≡ false
-unfolding Ieee.lt of_bits Ieee.neg
-one_down = refl
-
-pub free_above : (l : List Span) (h : Float) → T (lt f0 h) → T (lt f0 (first_free f1 l h))
-free_above l h t = free_keeps f1 l (λ x. T (lt f0 x)) (λ x y k a. float_lt_trans f0 x y k (unfold ahead in (rw one_up at a))) h t
-
-pub free-below : (l : List Span) (h : Float) → T (lt h f0) → T (lt (first_free (neg f1) l h) f0)
-free-below l h t = free_keeps (neg f1) l (λ x. T (lt x f0)) (λ x y k a. float_lt_trans y x f0 (unfold ahead in (rw one_down at a)) k) h t
+pub free-below : (l : List Span) (h : Float) → T (lt h f0) → T (lt (first_free Search.Down l h) f0)
+free-below l h t = free_keeps Search.Down l (λ x. T (lt x f0)) (λ x y k a. float_lt_trans y x f0 (unfold ahead in a) k) h t
 
 -- ---- a single arrow, with any chord
 

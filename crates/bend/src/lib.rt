@@ -11,7 +11,7 @@ ghost use Rattle.bend.specs.Between as W;
 ghost use Rattle.bend.specs.Leads as D;
 ghost use Rattle.bend.specs.Steps as S;
 
-use free::{CLEARANCE, Chord, Span};
+use free::{CLEARANCE, Chord, Search, Span};
 use shape::{Curve, EPS, NODE_RADIUS, V};
 use sheet::Ends;
 
@@ -136,7 +136,7 @@ pub fn pair_up(c: Chord, spans: &[Span]) -> f64
     ensures { result ≡ B.pair_up c spans.now }
 {
     let base = float::clamp(0.3 * c.len, 28.0, 64.0);
-    free::first_free(spans, base, 1.0)
+    free::first_free(spans, base, Search::Up)
 }
 
 // A two-way pair: upwards, and not capped.
@@ -162,8 +162,8 @@ fn single_bow(nodes: &[V], c: Chord, spans: &[Span]) -> f64
     ensures { result ≡ B.single_bow c nodes.now spans.now }
 {
     let cap = float::max(1.5 * c.len, 160.0);
-    let up = free::first_free(spans, 24.0, 1.0);
-    let down = free::first_free(spans, -24.0, -1.0);
+    let up = free::first_free(spans, 24.0, Search::Up);
+    let down = free::first_free(spans, -24.0, Search::Down);
     let high = capped(cap, up);
     let low = capped(cap, down);
     if float::abs(down) + EPS < float::abs(up) {

@@ -93,12 +93,29 @@ pub fn blocked<'a>(nodes: &[V], c: Chord, room: &'a mut [Span]) -> &'a [Span]
     &room[..n]
 }
 
+// The way that the search for a free bow goes.
+#[derive(Clone, Copy, Debug, PartialEq, Eq)]
+pub enum Search {
+    Up,
+    Down,
+}
+
 impl Span {
     // Whether h lies inside the open interval.
     fn contains(self, h: f64) -> bool
         ensures { result ≡ F.inside self h }
     {
         self.lo < h && h < self.hi
+    }
+
+    // Where the search leaves the interval.
+    fn end(self, way: Search) -> f64
+        ensures { result ≡ F.sent_to way self }
+    {
+        match way {
+            Search::Up => self.hi,
+            Search::Down => self.lo,
+        }
     }
 }
 
@@ -116,36 +133,37 @@ pub struct Pass {
     pub moved: bool,
 }
 
-// One interval's step: an h inside it goes to its upper end where dir is above 0, else to its lower.
+// One interval's step: an h inside it goes to the end where the search leaves it.
 #[tactic(auto, unfolding(crate::specs::Free::visit))]
-fn visit(dir: f64, p: Pass, s: Span) -> Pass
-    ensures { result ≡ F.visit dir p s }
+fn visit(way: Search, p: Pass, s: Span) -> Pass
+    ensures { result ≡ F.visit way p s }
 {
     if s.contains(p.h) {
-        let h = if dir > 0.0 { s.hi } else { s.lo };
-        return Pass { h, moved: true };
+        return Pass {
+            h: s.end(way),
+            moved: true,
+        };
     }
     p
 }
 
 // One pass over all intervals.
 #[tactic(auto, unfolding(crate::specs::Free::pass))]
-fn full_pass(dir: f64, spans: &[Span], h: f64) -> Pass
-    ensures { result ≡ F.pass dir spans.now h }
+fn full_pass(way: Search, spans: &[Span], h: f64) -> Pass
+    ensures { result ≡ F.pass way spans.now h }
 {
     spans
         .iter()
-        .fold(Pass { h, moved: false }, |p, s| visit(dir, p, *s))
+        .fold(Pass { h, moved: false }, |p, s| visit(way, p, *s))
 }
 
-// The first h from `start` upwards (dir > 0) or downwards that is inside no interval: passes over all intervals,
-// until one moves nothing.
-pub fn first_free(spans: &[Span], start: f64, dir: f64) -> f64
-    ensures { result ≡ F.first_free dir spans.now start }
+// The first h from `start` that way that is inside no interval: passes over all intervals, until one moves nothing.
+pub fn first_free(spans: &[Span], start: f64, way: Search) -> f64
+    ensures { result ≡ F.first_free way spans.now start }
 {
     let mut h = start;
     loop {
-        let p = full_pass(dir, spans, h);
+        let p = full_pass(way, spans, h);
         h = p.h;
         if !p.moved {
             return h;

@@ -9,25 +9,16 @@ use Rattle.laws.specs.Cases.{by_bool}
 use Rattle.laws.specs.Loops.{over, over_join}
 use Rattle.laws.specs.Any.{any_of}
 use Rattle.laws.specs.Bools.{and_second}
-use Rattle.float.specs.Ops.{◌⊕◌}
 use Rattle.float.specs.Constants.{f0}
 use Rattle.float.specs.Standins.{max}
 use Rattle.text.specs.Utf8.{well_formed}
 use Rattle.sheet.specs.Sheet.{chain, piece, first_text, line_of, lines_from}
-use Rattle.text.specs.Automaton.{feed_of, gather_of}
+use Rattle.text.specs.Automaton.{is_whole}
 use Rattle.label.specs.declared.Measure.{Measure}
 use Rattle.label.specs.declared.Block.{Block}
-use Rattle.refusal.specs.Refused.{Outcome, values, number}
-use Rattle.label.specs.Label.{char_width, line_width, wider_line, block_height, block, block_width, cut, total_length}
-use Rattle.label.specs.Measuring.{measure, measure_of, measure_all, measure_start, measured_formed, measured-width, lengths_fit, lines_size}
-
-pub step_done : (m : Measure) (b st v : ℕ) (w : Float) → st ≡ feed_of m.st b → v ≡ gather_of m.st m.value b → st ≡ 0 → w ≡ char_width v → measure st v (m.width ⊕ w) ≡ measure_of m b
-unfolding measure_of
-step_done m b st v w e g z k = rw (← e, ← g, eq-eqb st 0 z, k)
-
-pub step-more : (m : Measure) (b st v : ℕ) → st ≡ feed_of m.st b → v ≡ gather_of m.st m.value b → (st ≡ 0 → ⊥) → measure st v m.width ≡ measure_of m b
-unfolding measure_of
-step-more m b st v e g z = rw (← e, ← g, ne_eqb st 0 z)
+use Rattle.refusal.specs.Refused.{values, number}
+use Rattle.label.specs.Label.{line_width, wider_line, block_height, block, block_width, cut, total_length}
+use Rattle.label.specs.Measuring.{measure_of, measure_all, measure_start, measured_formed, measured-width, lengths_fit, lines_size}
 
 -- ---- the lengths from i on
 and_no : (a : Bool) → (a && false) ≡ false
@@ -92,16 +83,16 @@ module _ (h w : Float) (text lengths : List ℕ) (i : ℕ) where
   cut_at k = rw (drop-cons lengths i 0 k, add-one i)
 
   -- a line that is not well-formed, and one that is
-  pub line_ill : i < length lengths → (m : ℕ) → m ≡ (measure_all measure_start line).st → (m ≡ 0 → ⊥) → number 6 ≡ lines_size h w rest
+  pub line_ill : i < length lengths → (m : Measure) → m ≡ measure_all measure_start line → is_whole m.awaiting ≡ false → number 6 ≡ lines_size h w rest
   unfolding lines_size any_of
-  line_ill k m e z = let f : well_formed line ≡ false = measured_formed line ∙ sym (ap (λ (n : ℕ). eqb n 0) e) ∙ ne_eqb m 0 z in rw (cut_at k, f)
+  line_ill k m e z = let f : well_formed line ≡ false = measured_formed line ∙ sym (ap (λ (n : Measure). is_whole n.awaiting) e) ∙ z in rw (cut_at k, f)
 
-  pub line_well : i < length lengths → (m : ℕ) (v : Float) → m ≡ (measure_all measure_start line).st → v ≡ (measure_all measure_start line).width → m ≡ 0
-      → lines_size h (max w v) later ≡ lines_size h w rest
+  pub line_well : i < length lengths → (m : Measure) → m ≡ measure_all measure_start line → is_whole m.awaiting ≡ true
+      → lines_size h (max w m.width) later ≡ lines_size h w rest
   unfolding lines_size any_of over wider_line
-  line_well k m v e d z =
-      let f : well_formed line ≡ true = measured_formed line ∙ sym (ap (λ (n : ℕ). eqb n 0) e) ∙ eq-eqb m 0 z in
-      let u : v ≡ line_width line = d ∙ measured-width line in
+  line_well k m e z =
+      let f : well_formed line ≡ true = measured_formed line ∙ sym (ap (λ (n : Measure). is_whole n.awaiting) e) ∙ z in
+      let u : m.width ≡ line_width line = ap (λ (n : Measure). n.width) e ∙ measured-width line in
       rw (cut_at k, f, u)
 
   pub lines_end : length lengths ≤ i → values (w, h) ≡ lines_size h w rest

@@ -7,7 +7,9 @@ use Rattle.laws.specs.Refusals.{decide}
 use Rattle.laws.specs.Any.{any_of}
 use Rattle.float.specs.Constants.{f0}
 use Rattle.text.specs.Utf8.{well_formed}
-use Rattle.text.specs.Automaton.{feed_of, gather_of, feed_all, read_by}
+use Rattle.text.specs.declared.Awaiting.{Awaiting}
+use Rattle.text.specs.declared.Awaiting.TheVariants.{First}
+use Rattle.text.specs.Automaton.{is_whole, feed_of, gather_of, feed_all, read_by}
 use Rattle.text.specs.Table.{well_formed_is}
 use Rattle.text.specs.Codes.{read_codes}
 use Rattle.sheet.specs.declared.Limits.{Limits}
@@ -16,37 +18,37 @@ use Rattle.label.specs.declared.Measure.{Measure}
 use Rattle.refusal.specs.Refused.{Outcome, values, number}
 use Rattle.label.specs.Label.{widened, line_width, wider_line, block_height, cut, total_length, sized}
 
-abbrev pub measure : ℕ → ℕ → Float → Measure
-measure st value width = record { st = st; value = value; width = width }
+abbrev pub measure : Awaiting → ℕ → Float → Measure
+measure w value width = record { awaiting = w; value = value; width = width }
 
 -- before the first byte of a line
 abbrev pub measure_start : Measure
-measure_start = measure 0 0 f0
+measure_start = measure First 0 f0
 
 -- one byte: the width grows where a character is complete
 unfoldable pub measure_of : Measure → ℕ → Measure
 measure_of m b =
-    let st = feed_of m.st b in
-    let value = gather_of m.st m.value b in
-    measure st value (cond (st == 0) (widened m.width value) m.width)
+    let w = feed_of m.awaiting b in
+    let value = gather_of m.awaiting m.value b in
+    measure w value (cond (is_whole w) (widened m.width value) m.width)
 
 -- all bytes of a piece
 abbrev pub measure_all : Measure → List ℕ → Measure
 measure_all m s = over measure_of m s
 
-measure_st : (m : Measure) (s : List ℕ) → (measure_all m s).st ≡ feed_all m.st s
+measure_awaiting : (m : Measure) (s : List ℕ) → (measure_all m s).awaiting ≡ feed_all m.awaiting s
 unfolding over measure_of
-measure_st m [] = refl
-measure_st m (b ∷ s) = measure_st (measure_of m b) s
+measure_awaiting m [] = refl
+measure_awaiting m (b ∷ s) = measure_awaiting (measure_of m b) s
 
-measure-width : (m : Measure) (s : List ℕ) → (measure_all m s).width ≡ read_by widened m.st m.value m.width s
+measure-width : (m : Measure) (s : List ℕ) → (measure_all m s).width ≡ read_by widened m.awaiting m.value m.width s
 unfolding over measure_of read_by
 measure-width m [] = refl
 measure-width m (b ∷ s) = measure-width (measure_of m b) s
 
--- the line is well-formed exactly where its measure ends in state 0
-pub measured_formed : (line : List ℕ) → well_formed line ≡ ((measure_all measure_start line).st == 0)
-measured_formed line = well_formed_is line ∙ ap (λ (st : ℕ). nat_eq st 0) (sym (measure_st measure_start line))
+-- the line is well-formed exactly where its measure ends with a whole character
+pub measured_formed : (line : List ℕ) → well_formed line ≡ is_whole (measure_all measure_start line).awaiting
+measured_formed line = well_formed_is line ∙ ap is_whole (sym (measure_awaiting measure_start line))
 
 -- and its width is the measure's
 pub measured-width : (line : List ℕ) → (measure_all measure_start line).width ≡ line_width line

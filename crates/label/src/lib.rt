@@ -11,6 +11,7 @@ ghost use Rattle.label.specs.Measuring as M;
 use meaning::piece_at;
 use reader::Chain;
 use refusal::Refusal;
+use text::Awaiting;
 
 // The font size of labels; the width of an ASCII character, 0.6 em of a monospace font, and of any other that is no accent; the distance
 // between lines.
@@ -22,10 +23,10 @@ const LABEL_WIDE_CHAR_WIDTH: f64 = LABEL_FONT_SIZE;
 
 const LABEL_LINE_HEIGHT: f64 = 15.0;
 
-// A line measured so far: the state of its UTF-8, the value of the character that has begun, and the width.
+// A line measured so far: what it awaits, the value of the character that has begun, and the width.
 #[derive(Clone, Copy)]
 pub struct Measure {
-    pub st: u8,
+    pub awaiting: Awaiting,
     pub value: u32,
     pub width: f64,
 }
@@ -62,24 +63,29 @@ fn measure_start() -> Measure
     ensures { result ≡ M.measure_start }
 {
     Measure {
-        st: 0,
+        awaiting: Awaiting::First,
         value: 0,
         width: 0.0,
     }
 }
 
 // One byte of a line.
+#[tactic(auto, unfolding(crate::specs::Measuring::measure_of))]
 fn measure_byte(m: Measure, b: u8) -> Measure
     ensures { result ≡ M.measure_of m b }
 {
-    let st = text::feed(m.st, b);
-    let value = text::gather(m.st, m.value, b);
-    if st == 0 {
+    let awaiting = text::feed(m.awaiting, b);
+    let value = text::gather(m.awaiting, m.value, b);
+    if awaiting.is_whole() {
         let width = m.width + char_width(value);
-        return Measure { st, value, width };
+        return Measure {
+            awaiting,
+            value,
+            width,
+        };
     }
     Measure {
-        st,
+        awaiting,
         value,
         width: m.width,
     }
@@ -150,7 +156,7 @@ fn lines_size(text: &[u8], lengths: &[usize]) -> Result<(f64, f64), Refusal>
     for n in lengths {
         let (line, behind) = rest.split_at(*n);
         let m = measure_part(line, measure_start());
-        if m.st != 0 {
+        if !m.awaiting.is_whole() {
             return Err(Refusal::Utf8);
         }
         width = float::max(width, m.width);

@@ -84,20 +84,6 @@ module _ {A : Type 0} (p : A → Bool) where
   any_without (x ∷ l) zero d e = rw e
   any_without (x ∷ l) (suc k) d e = ap (λ (b : Bool). p x || b) (any_without l k d e)
 
--- ---- a search from a place on, step by step: l is what is left, x the next, and t what was found of x
-module _ {A : Type 0} (p : A → Bool) (l r : List A) (x : A) (e : l ≡ x ∷ r) (t : Bool) (q : t ≡ p x) where
-  pub some_hit : t ≡ true → true ≡ any_of p l
-  unfolding any_of
-  some_hit h = rw (e, ← q, h)
-
-  pub some_miss : t ≡ false → any_of p r ≡ any_of p l
-  unfolding any_of
-  some_miss h = rw (e, ← q, h)
-
-pub some_none : {A : Type 0} (p : A → Bool) (l : List A) → l ≡ [] → false ≡ any_of p l
-unfolding any_of
-some_none p l e = rw e
-
 -- ---- a search among the first n of a list, step by step
 module _ {A : Type 0} (p : A → Bool) (d : A) (l : List A) (i : ℕ) where
   pub any_step : (n : ℕ) → i < length l → 0 < n → p (get_or l i d) ≡ false → any_of p (take (n - 1) (drop (i + 1) l)) ≡ any_of p (take n (drop i l))

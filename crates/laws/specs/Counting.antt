@@ -1,15 +1,13 @@
 -- How many of a list pass a test, and sums with a weight for each that does: whole, and cut at a limit; a step of a loop over such a sum, and its end. Assumes nothing.
 use Rattle.std.specs.Prelude.{◌≡◌, Bool, true, false, cond, not, ◌&&◌, length}
 use Rattle.std.proofs.Math.Path.{refl}
-use Rattle.std.proofs.Common.{sym, ap, ap₂, ◌∙◌, not-suc-le-zero, arith}
+use Rattle.std.proofs.Common.{ap, ap₂, ◌∙◌, arith}
 use mathlib.Core.List.{List, [], ◌∷◌, ◌++◌, map, flat_map}
-use Prim.Native.Nat.{ℕ, zero, suc, ◌+◌, ◌-◌, ◌*◌, ◌≤◌, ◌<◌}
-use Rattle.std.proofs.Math.Numerals.{add-one}
+use Prim.Native.Nat.{ℕ, zero, suc, ◌+◌, ◌*◌, ◌≤◌, ◌<◌}
 use borrow.Author.Tests.{le-leb, lt-leb}
 use Rattle.laws.specs.Cases.{by_bool, by_lt}
 use Rattle.laws.specs.Best.{total_from, cut_total}
 use Rattle.laws.specs.Flat.{table}
-use Rattle.laws.specs.Loops.{less_one}
 
 -- ---- counting
 
@@ -20,9 +18,6 @@ how_many p (x ∷ l) = cond (p x) 1 0 + how_many p l
 -- m for a thing that passes, else 0
 abbrev pub worth : {A : Type 0} → (A → Bool) → ℕ → A → ℕ
 worth p m x = cond (p x) m 0
-
-pub worth_of : {A : Type 0} (p : A → Bool) (m : ℕ) (x : A) (b : Bool) → b ≡ p x → cond b m 0 ≡ worth p m x
-worth_of p m x b e = ap (λ (t : Bool). cond t m 0) e
 
 pub worth-le : {A : Type 0} (p : A → Bool) (m : ℕ) (x : A) → worth p m x ≤ m
 worth-le p m x = go (p x)
@@ -44,10 +39,6 @@ how_many-step p m a b x l r e f = rw (e, f) (go (p x))
     go : (t : Bool) → (a + cond t m 0) + m * how_many p r ≡ a + m * (cond t 1 0 + how_many p r)
     go true = omega arith
     go false = omega arith
-
-pub how_many_none : {A : Type 0} (p : A → Bool) (m a : ℕ) (l : List A) → l ≡ [] → a ≡ a + m * how_many p l
-unfolding how_many
-how_many_none p m a l e = rw e (omega arith)
 
 -- ---- of lists joined, and made of others; by several tests
 
@@ -107,24 +98,7 @@ unfolding cut_total
 cut-append l a [] ys = refl
 cut-append l a (x ∷ xs) ys = by_lt a l (λ (h : a < l). rw (lt-leb _ _ h) (cut-append l (a + x) xs ys)) (λ (h : l ≤ a). rw (le-leb _ _ h) (cut-over l a ys h))
 
--- ---- a loop over n things from k on, that stops at the limit
-
 pub table-length : {A : Type 0} (g : ℕ → A) (k n : ℕ) → length (table g k n) ≡ n
 unfolding table
 table-length g k zero = refl
 table-length g k (suc n) = ap suc (table-length g (suc k) n)
-
-module _ {A : Type 0} (f : A → ℕ) (g : ℕ → A) where
-  -- b is what thing k adds
-  pub cut_step : (l a b k n : ℕ) → 0 < n → a < l → b ≡ f (g k) → cut_total l (a + b) (map f (table g (k + 1) (n - 1))) ≡ cut_total l a (map f (table g k n))
-  unfolding cut_total table
-  cut_step l a b k zero h e q = absurd (not-suc-le-zero h)
-  cut_step l a b k (suc n) h e q = rw (q, less_one, add-one, lt-leb _ _ e)
-
-  pub cut_stop : (l a k n : ℕ) → l ≤ a → a ≡ cut_total l a (map f (table g k n))
-  cut_stop l a k n e = sym (cut-over l a (map f (table g k n)) e)
-
-  pub cut-end : (l a k n : ℕ) → n ≤ 0 → a ≡ cut_total l a (map f (table g k n))
-  unfolding cut_total table
-  cut-end l a k zero h = refl
-  cut-end l a k (suc n) h = absurd (not-suc-le-zero h)

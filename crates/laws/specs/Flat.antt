@@ -1,7 +1,7 @@
 -- Records of w numbers each, one after another in one list: how they are read, and what a store of one leaves. Assumes nothing.
 use Rattle.std.specs.Prelude.{◌≡◌, length, drop, set}
 use Rattle.std.proofs.Math.Path.{refl, ap, ap₂}
-use Rattle.std.proofs.Common.{sym, ◌∙◌, zero-add, add-suc, suc-add, mul-le-mul_left, add-one, length-take-le, take_at, drop_at, drop-drop}
+use Rattle.std.proofs.Common.{sym, ◌∙◌, zero-add, add-suc, suc-add, add-one, length-take-le, take_at, drop_at}
 use mathlib.Core.List.{List, [], ◌∷◌, ◌++◌, append_assoc}
 use Prim.Native.Nat.{ℕ, zero, suc, ◌+◌, ◌-◌, ◌*◌, ◌≤◌, ◌<◌}
 use Rattle.std.proofs.Math.Nat.{add-zero}
@@ -56,21 +56,3 @@ module _ {A : Type 0} where
       ∙ ap (take w) (drop_at (take at xs) (vs ++ drop (at + length vs) xs) at (length-take-le at xs (omega arith)))
       ∙ take_at vs (drop (at + length vs) xs) w e
 
--- One record more: the list of records grows by exactly that one.
-pub records_push : {A B : Type 0} (decode : List A → B) (w n : ℕ) (xs vs : List A) → length vs ≡ w → w * n + w ≤ length xs
-    → decode_flat decode w (n + 1) (put xs (w * n) vs) ≡ decode_flat decode w n xs ++ (decode vs ∷ [])
-records_push {A} {B} decode w n xs vs e h =
-    rw (add-one, table_snoc, zero-add)
-    (ap₂ (λ (l : List B) (x : B). l ++ (x ∷ []))
-    (table_agree _ _ 0 n (λ j i. ap decode (part_before w (w * j) xs (w * n) vs (omega (arith, mul-le-mul_left w i)))))
-    (ap decode (part-new w (w * n) xs vs e h)))
-
--- The same where record n is lent, `&mut xs[w * n..w * n + w]`, to a function that leaves p there.
-pub records_lend : {A B : Type 0} (decode : List A → B) (w n : ℕ) (xs p : List A) → length p ≡ w → w * n + w ≤ length xs
-    → decode_flat decode w (n + 1) (take (w * n) xs ++ (p ++ drop w (drop (w * n) xs))) ≡ decode_flat decode w n xs ++ (decode p ∷ [])
-records_lend {A} decode w n xs p e h =
-    ap (λ (l : List A). decode_flat decode w (n + 1) l)
-    (sym
-    (put-eq xs (w * n) p (omega arith) ∙ append_assoc (take (w * n) xs) p (drop (w * n + length p) xs)
-    ∙ ap (λ (r : List A). take (w * n) xs ++ (p ++ r)) (ap (λ (k : ℕ). drop (w * n + k) xs) e ∙ sym (drop-drop w (w * n) xs))))
-    ∙ records_push decode w n xs p e h

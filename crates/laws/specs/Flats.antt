@@ -1,13 +1,13 @@
 -- Records of w numbers each: one of many, one stored anew, and things written one after another and read back. Assumes nothing.
 use Rattle.std.specs.Prelude.{◌≡◌, ◌⊎◌, set, take, drop}
 use Rattle.std.proofs.Math.Path.{refl, sym, ap, ap₂}
-use Rattle.std.proofs.Common.{◌∙◌, inl, inr, ⊎_elim, mul-zero, mul-le-mul_left, not-suc-le-zero, arith, take_at, drop_at, drop-drop}
+use Rattle.std.proofs.Common.{◌∙◌, inl, inr, ⊎_elim, mul-zero, not-suc-le-zero, arith, take_at, drop_at, drop-drop}
 use mathlib.Core.List.{List, [], ◌∷◌, ◌++◌, append_assoc, flat_map}
 use Prim.Native.Nat.{ℕ, zero, suc, ◌+◌, ◌*◌, ◌≤◌, ◌<◌}
 use Rattle.std.proofs.Math.Nat.{mul-suc, add_comm, zero-add}
 use Rattle.std.proofs.Math.ListN.{length, get_or, length-append, get_or-append}
 use Rattle.std.proofs.Math.Seq.{get_or-append-add, drop-set-lt}
-use Rattle.laws.specs.Flat.{table, part, decode_flat, part_before}
+use Rattle.laws.specs.Flat.{table, part, decode_flat}
 use Rattle.laws.specs.Tables.{table_at, table-next}
 use Rattle.laws.specs.Put.{put, put-eq, put-put}
 use Rattle.laws.specs.Joined.{flat_snoc}
@@ -28,14 +28,6 @@ module _ {A : Type 0} where
   unfolding put
   part-after at xs i [] h = refl
   part-after at xs i (a ∷ vs) h = part-after at (set xs i a) (suc i) vs (omega arith) ∙ drop-set-lt at xs i a (omega arith)
-
-  -- a record stored leaves the others
-  pub part-kept : (w j k : ℕ) (xs vs : List A) → length vs ≡ w → (j ≡ k → ⊥) → part w j (put xs (w * k) vs) ≡ part w j xs
-  part-kept w j k xs vs e o =
-      ⊎_elim
-      (λ h. part_before w (w * j) xs (w * k) vs (omega (arith, mul-suc w j, mul-le-mul_left w h)))
-      (λ h. ap (take w) (part-after (w * j) xs (w * k) vs (omega (arith, mul-suc w k, mul-le-mul_left w h))))
-      (apart j k o)
 
 module _ {A B : Type 0} (encode : B → List A) (w : ℕ) (width : (b : B) → length (encode b) ≡ w) where
   pub length_flat : (bs : List B) → length (flat_map encode bs) ≡ w * length bs

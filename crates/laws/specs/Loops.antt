@@ -1,12 +1,11 @@
 -- What a loop computes, as a definition, with the laws that the loop's proof needs: one step, and the end.
 -- Assumes nothing.
-use Rattle.std.specs.Prelude.{◌≡◌, Bool, true, false, ◌||◌, length, get_or, take, drop}
+use Rattle.std.specs.Prelude.{◌≡◌, Bool, true, false, ◌||◌, length, get_or}
 use Rattle.std.proofs.Math.Path.{refl}
-use Rattle.std.proofs.Common.{◌∙◌, drop_of_length-le, drop-cons, add-one}
+use Rattle.std.proofs.Common.{◌∙◌, add-one}
 use mathlib.Core.List.{List, [], ◌∷◌, ◌++◌, map}
 use Prim.Native.Nat.{ℕ, zero, suc, ◌+◌, ◌-◌, ◌≤◌, ◌<◌}
 use Rattle.std.proofs.Math.Nat.{sub-zero}
-use Rattle.std.proofs.Math.Seq.{take-nil}
 use native.Mathlib.Omega.{arith}
 
 -- one thing less is left
@@ -121,20 +120,3 @@ module _ {A B : Type 0} (g : A → B → A) (d : B) where
   pub up-over : (l : List B) (a : A) → up (λ j b. g b (get_or l j d)) 0 (length l) a ≡ over g a l
   unfolding up
   up-over l a = rw (sub-zero (length l)) (turns-over l a)
-
--- A fold over the n elements of l from i on, or as many as there are, that comes to b: after a step, and at the two ends.
-pub record Folds {A B : Type 0} (g : A → B → A) (l : List B) (b : A) (i n : ℕ) (a : A) : Type 0 where
-  pub rest : over g a (take n (drop i l)) ≡ b
-
-module _ {A B : Type 0} {g : A → B → A} {l : List B} {b : A} {i n : ℕ} {a : A} (x : Folds g l b i n a) where
-  pub folds_step : (d : B) {a' : A} → i < length l → 0 < n → a' ≡ g a (get_or l i d) → Folds g l b (i + 1) (n - 1) a'
-  unfolding over
-  folds_step d h k q = let e : n ≡ suc (n - 1) = omega arith in record { rest = rw (q, add-one) (rw (drop-cons l i d h, e) at x.rest) }
-
-  pub folds_none : n ≤ 0 → a ≡ b
-  unfolding over
-  folds_none h = let e : n ≡ 0 = omega arith in rw e at x.rest
-
-  pub folds_past : length l ≤ i → a ≡ b
-  unfolding over
-  folds_past h = rw (drop_of_length-le l h, take-nil n) at x.rest

@@ -1,13 +1,12 @@
 -- Things by number, f k, f (k + 1) .., as a list: one read, the first and the rest, another function, what a map and a fold make of them. Assumes nothing.
 use Rattle.std.specs.Prelude.{◌≡◌, length, get_or, take}
 use Rattle.std.proofs.Math.Path.{refl, ap, ap₂}
-use Rattle.std.proofs.Common.{sym, ◌∙◌, not-suc-le-zero, le_of_suc-le-suc, add-one}
-use mathlib.Core.List.{List, [], ◌∷◌, map, flat_map}
+use Rattle.std.proofs.Common.{◌∙◌, not-suc-le-zero, le_of_suc-le-suc, add-one}
+use mathlib.Core.List.{List, [], ◌∷◌, map}
 use Prim.Native.Nat.{ℕ, zero, suc, ◌+◌, ◌-◌, ◌≤◌, ◌<◌}
-use Rattle.std.proofs.Math.Nat.{add-zero, sub-zero}
+use Rattle.std.proofs.Math.Nat.{add-zero}
 use native.Mathlib.Omega.{arith}
 use Rattle.laws.specs.Flat.{table}
-use Rattle.laws.specs.Loops.{over, over_join}
 use Rattle.laws.specs.Zip.{zip_by}
 
 module _ {A : Type 0} where
@@ -46,10 +45,6 @@ module _ {A : Type 0} (g : ℕ → A) where
   table_none k zero h = refl
   table_none k (suc n) h = absurd (not-suc-le-zero h)
 
-  -- the same of those from k to n - 1
-  pub table_from : (n : ℕ) → table g 0 (n - 0) ≡ table g 0 n
-  table_from n = ap (table g 0) (sub-zero n)
-
   pub table_front : (k n : ℕ) → k < n → table g k (n - k) ≡ g k ∷ table g (k + 1) (n - (k + 1))
   table_front k n h = let e : n - k - 1 ≡ n - (k + 1) = omega arith in table-first k (n - k) (omega arith) ∙ ap (λ (m : ℕ). g k ∷ table g (k + 1) m) e
 
@@ -73,23 +68,3 @@ pub zip_tables : {A B C : Type 0} (f : A → B → C) (g : ℕ → A) (h : ℕ �
 unfolding zip_by table
 zip_tables f g h k zero = refl
 zip_tables {C = C} f g h k (suc n) = ap (λ (l : List C). f (g k) (h k) ∷ l) (zip_tables f g h (suc k) n)
-
--- ---- a fold over n things from k on: one step, and the end
-module _ {B S : Type 0} (g : S → B → S) where
-  pub table_step : (t : ℕ → B) (s s' : S) (k n : ℕ) → 0 < n → s' ≡ g s (t k) → over g s' (table t (k + 1) (n - 1)) ≡ over g s (table t k n)
-  unfolding over
-  table_step t s s' k n h e = rw (table-first t k n h, e)
-
-  pub table-end : (t : ℕ → B) (s : S) (k n : ℕ) → n ≤ 0 → s ≡ over g s (table t k n)
-  unfolding over
-  table-end t s k n h = rw (table_none t k n h)
-
-  -- each thing is a list
-  module _ {A : Type 0} (f : A → List B) (t : ℕ → A) where
-    pub flat_step : (s s' : S) (k n : ℕ) → 0 < n → s' ≡ over g s (f (t k)) → over g s' (flat_map f (table t (k + 1) (n - 1))) ≡ over g s (flat_map f (table t k n))
-    unfolding flat_map
-    flat_step s s' k n h e = rw (table-first t k n h, e) (sym (over_join g s (f (t k)) (flat_map f (table t (k + 1) (n - 1)))))
-
-    pub flat_end : (s : S) (k n : ℕ) → n ≤ 0 → s ≡ over g s (flat_map f (table t k n))
-    unfolding over flat_map
-    flat_end s k n h = rw (table_none t k n h)

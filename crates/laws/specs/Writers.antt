@@ -58,10 +58,6 @@ module _ {A : Type 0} where
   pub measured-length : {l out : List A} {n : ℕ} {txt : List A} → Wrote l 0 out n txt → n ≡ as_usize (length txt)
   measured-length {txt = txt} w = w.next_is ∙ ap as_usize (zero-add (length txt))
 
-  -- an empty part stays empty
-  pub empty : {out : List A} {n : ℕ} {txt : List A} → Wrote [] 0 out n txt → out ≡ []
-  empty {txt = txt} w = w.list ∙ put-past [] 0 txt (omega arith)
-
   -- written where it fits
   pub written_fits : {l out : List A} {n : ℕ} {txt : List A} → Wrote l 0 out n txt → length txt ≤ length l → (n ≡ length txt) × (out ≡ txt ++ drop (length txt) l)
   written_fits {l} {out} {n} {txt} w h = (
@@ -69,7 +65,7 @@ module _ {A : Type 0} where
     w.list ∙ put-eq l 0 txt (omega arith) ∙ ap (λ (i : ℕ). txt ++ drop i l) (zero-add (length txt)),
   )
 
-  -- ---- a call that measures on an empty part and then writes, or refuses and changes nothing
+  -- ---- a call that measures and then writes, or refuses and changes nothing
 
   -- the text and what stood after it, where it fits
   abbrev pub written_over : List A → List A → List A
@@ -78,20 +74,6 @@ module _ {A : Type 0} where
   -- the answer: the length where the text fits in `room`, else the refusal
   abbrev pub answer : {R : Type 0} → (ℕ → R) → R → List A → ℕ → R
   answer written refused txt room = cond (leb (length txt) room) (written (length txt)) refused
-
-  -- p is what the empty part came back as, n the length measured on it
-  module _ {R : Type 0} (written : ℕ → R) (refused : R) {p : List A} {n : ℕ} (txt out : List A) (w : Wrote [] 0 p n txt) (room : length out < 18446744073709551615) where
-    pub refuses : length (p ++ out) < n → (refused ≡ answer written refused txt (length out)) × (p ++ out ≡ written_over txt out)
-    refuses h =
-        let e : length out < length txt = omega (arith, measured-length w, length-append p out) in
-        (rw (lt-leb _ _ e), rw (lt-leb _ _ e) (ap (λ (l : List A). l ++ out) (empty w)))
-
-    pub writes : {q : List A} {m : ℕ} → n ≤ length (p ++ out) → Wrote (p ++ out) 0 q m txt → (written m ≡ answer written refused txt (length out)) × (q ≡ written_over txt out)
-    writes {q} {m} h v =
-        let k : length (p ++ out) ≡ length out = ap (λ (l : List A). length (l ++ out)) (empty w) in
-        let e : length txt ≤ length out = omega (arith, measured-length w) in
-        let f : (m ≡ length txt) × (q ≡ txt ++ drop (length txt) out) = written_fits (subst (λ (l : List A). Wrote (l ++ out) 0 q m txt) (empty w) v) e in
-        (rw (le-leb _ _ e) (ap written f.0), rw (le-leb _ _ e) f.1)
 
   -- n is what was measured, and then the text was written, or nothing
   module _ {R : Type 0} (written : ℕ → R) (refused : R) {n : ℕ} (txt out : List A) (room : length out < 18446744073709551615) (measured : n ≡ as_usize (length txt)) where

@@ -1,10 +1,9 @@
 -- Two lists as one: element by element, as far as both go. What a read finds and what a store at the end of the first n leaves. Assumes nothing.
-use Rattle.std.specs.Prelude.{◌≡◌, length, get_or, take, drop, set}
-use Rattle.std.proofs.Math.Path.{refl, sym, ap, ap₂}
-use Rattle.std.proofs.Common.{◌∙◌, add-one, arith, drop_of_length-le, take-suc-set, length-take-le, drop-cons}
+use Rattle.std.specs.Prelude.{◌≡◌, length, get_or, take}
+use Rattle.std.proofs.Math.Path.{refl, ap, ap₂}
+use Rattle.std.proofs.Common.{arith}
 use mathlib.Core.List.{List, [], ◌∷◌, ◌++◌, map}
-use Prim.Native.Nat.{ℕ, zero, suc, ◌+◌, ◌≤◌, ◌<◌}
-use Rattle.laws.specs.Loops.{over}
+use Prim.Native.Nat.{ℕ, zero, suc, ◌<◌}
 
 unfoldable pub zip_by : {A B C : Type 0} → (A → B → C) → List A → List B → List C
 zip_by f [] ys = []
@@ -31,34 +30,6 @@ module _ {A B C : Type 0} (f : A → B → C) where
   zip_join [] us (y ∷ ys) vs h = absurd (omega arith)
   zip_join (x ∷ xs) us [] vs h = absurd (omega arith)
   zip_join (x ∷ xs) us (y ∷ ys) vs h = ap (λ (l : List C). f x y ∷ l) (zip_join xs us ys vs (omega arith))
-
-  -- one element more, stored behind the first n of each list
-  pub zip_push : (xs : List A) (ys : List B) (n : ℕ) (a : A) (b : B) → length ys ≡ length xs → n < length xs
-      → zip_by f (take (n + 1) (set xs n a)) (take (n + 1) (set ys n b)) ≡ zip_by f (take n xs) (take n ys) ++ (f a b ∷ [])
-  zip_push xs ys n a b h k =
-      let k' : n < length ys = omega arith in
-      rw (add-one, take-suc-set xs n a, take-suc-set ys n b)
-      (zip_join (take n xs) (a ∷ []) (take n ys) (b ∷ []) (length-take-le n ys (omega arith) ∙ sym (length-take-le n xs (omega arith))) ∙ unfold zip_by in refl)
-
-  -- from place i on: one element and the rest, or nothing
-  pub zip_drop : (xs : List A) (ys : List B) (i : ℕ) (a : A) (b : B) → length ys ≡ length xs → i < length xs → drop i (zip_by f xs ys) ≡ f (get_or xs i a) (get_or ys i b) ∷ drop (i + 1) (zip_by f xs ys)
-  zip_drop xs ys i a b h k =
-      let n : i < length (zip_by f xs ys) = omega (arith, zip_length xs ys h) in
-      rw (add-one, drop-cons (zip_by f xs ys) i (f a b), zip_at xs ys i a b (f a b) h k)
-
-  pub zip_past : (xs : List A) (ys : List B) (i : ℕ) → length ys ≡ length xs → length xs ≤ i → drop i (zip_by f xs ys) ≡ []
-  zip_past xs ys i h k = let n : length (zip_by f xs ys) ≤ i = omega (arith, zip_length xs ys h) in drop_of_length-le (zip_by f xs ys) n
-
-  -- a fold over them: one step, and the end
-  module _ {S : Type 0} (g : S → C → S) where
-    pub zip_over_step : (xs : List A) (ys : List B) (i : ℕ) (a : A) (b : B) (s : S) → length ys ≡ length xs → i < length xs
-        → over g (g s (f (get_or xs i a) (get_or ys i b))) (drop (i + 1) (zip_by f xs ys)) ≡ over g s (drop i (zip_by f xs ys))
-    unfolding over
-    zip_over_step xs ys i a b s h k = sym (ap (over g s) (zip_drop xs ys i a b h k))
-
-    pub zip_over_end : (xs : List A) (ys : List B) (i : ℕ) (s : S) → length ys ≡ length xs → length xs ≤ i → s ≡ over g s (drop i (zip_by f xs ys))
-    unfolding over
-    zip_over_end xs ys i s h k = sym (ap (over g s) (zip_past xs ys i h k))
 
   -- the first and the second of each
   pub map_zip_first : (p : C → A) → ((a : A) (b : B) → p (f a b) ≡ a) → (xs : List A) (ys : List B) → length ys ≡ length xs → map p (zip_by f xs ys) ≡ xs

@@ -5,6 +5,7 @@ ghost use Rattle.std.specs.Prelude.{◌≡◌, ◌≤◌, length, map};
 ghost use Rattle.laws.specs.Any.{any_of};
 ghost use Rattle.laws.specs.Put.{put};
 ghost use Rattle.text.specs.Automaton.{feed_all};
+ghost use Rattle.text.specs.declared.Awaiting.TheVariants.{First};
 ghost use Rattle.reader.specs.Reading.{chain_rest};
 ghost use Rattle.sheet.specs.Sheet as S;
 ghost use Rattle.sheet.specs.Refusals as R;
@@ -12,6 +13,7 @@ ghost use Rattle.meaning.specs.Read as M;
 
 use reader::{Chain, record_at};
 use sheet::{LONGEST_LINE, Limits, first_line_at, first_text_at, one_at, place_of, word_at};
+use text::Awaiting;
 
 // How many records the chain from record `first` on has.
 pub fn chain_length(s: &[u8], first: u16) -> usize
@@ -52,7 +54,7 @@ fn some_long(s: &[u8], first: u16) -> bool
 }
 
 // Whether arrow record k has more lines than the limit, or one that is too long.
-#[tactic(auto, using(crate::proofs::Laws::length_lines, crate::proofs::Laws::lines_of_arrow), unfolding(sheet::specs::Refusals::large_arrow))]
+#[tactic(auto, using(crate::proofs::Laws::large_of))]
 fn large_arrow(s: &[u8], k: u16, m: Limits) -> bool
     ensures { result ≡ R.large_arrow m (S.arrow_of s.now k) }
 {
@@ -74,11 +76,14 @@ pub fn over_limits(s: &[u8], m: Limits) -> bool
     m.states < state_count(s) || m.arrows < arrow_count(s) || some_large(s, m)
 }
 
-// The state of the UTF-8 automaton after the line of record k.
-fn feed_line(s: &[u8], k: u16) -> u8
-    ensures { result ≡ feed_all 0 (S.line_of s.now k) }
+// What is awaited after the line of record k.
+fn feed_line(s: &[u8], k: u16) -> Awaiting
+    ensures { result ≡ feed_all First (S.line_of s.now k) }
 {
-    Chain::new(s, first_text_at(s, k)).fold(0, |st, i| text::feed_part(piece_at(s, i), st))
+    Chain::new(s, first_text_at(s, k)).fold(
+        Awaiting::First,
+        |w, i| text::feed_part(piece_at(s, i), w),
+    )
 }
 
 // Whether the line of record k is not well-formed UTF-8.
@@ -86,7 +91,7 @@ fn feed_line(s: &[u8], k: u16) -> u8
 fn ill_line(s: &[u8], k: u16) -> bool
     ensures { result ≡ R.ill_line (S.line_of s.now k) }
 {
-    feed_line(s, k) != 0
+    !feed_line(s, k).is_whole()
 }
 
 // Whether a line of arrow record k is not well-formed UTF-8.
@@ -122,7 +127,8 @@ pub fn arrow_count(s: &[u8]) -> usize
 // The value of each record of a chain, into `out` as far as it reaches.
 pub fn each_into<T: Copy + Drop, F: Fn(u16) -> T>(mut chain: Chain, out: &mut [T], value: F)
     requires { F.IsAlwaysCallable value }
-    ensures { (f : _) → M.Computes (F.post value) f → out.new ≡ put out.old 0 (map f (chain_rest chain.entry)) }
+    ensures { (f : _) → M.Computes (F.post value) f
+        → out.new ≡ put out.old 0 (map f (chain_rest chain.entry)) }
 {
     for place in out.iter_mut() {
         let Some(k) = chain.next() else {

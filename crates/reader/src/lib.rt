@@ -40,7 +40,8 @@ pub struct Chain<'a> {
 }
 
 impl<'a> Chain<'a> {
-    // The chain from record `first` on. It gives one record more than the sheet has at most: a longer one meets a record twice or leaves the sheet.
+    // The chain from record `first` on. It gives one record more than the sheet has at most: a longer one meets a record
+    // twice or leaves the sheet.
     #[tactic(auto, using(sheet::specs::Chains::chain_within), unfolding(crate::specs::Reading::chain_rest))]
     pub fn new(sheet: &'a [u8], first: u16) -> Chain<'a>
         ensures list { R.chain_rest result ≡ S.chain sheet.now first }
@@ -62,7 +63,7 @@ impl<'a> Chain<'a> {
     }
 }
 
-#[tactic(auto, using(sheet::specs::Chains::chain_end, sheet::specs::Chains::chain_cut, sheet::specs::Chains::chain_step), unfolding(crate::specs::Reading::chain_rest))]
+#[tactic(auto, using(crate::proofs::Laws::rest_end, crate::proofs::Laws::rest_cut, crate::proofs::Laws::rest_step))]
 impl<'a> Iterator for Chain<'a> {
     type Item = u16;
 

@@ -1,5 +1,9 @@
 -- A method sheet: its fields, its chains, the records that its chains meet, and what it means. A sheet is its list of bytes.
-use Rattle.std.specs.Prelude.{cond, ℕ, zero, suc, ◌+◌, ◌*◌, eqb, get_or, take, drop}
+use Rattle.std.specs.Prelude.{◌≡◌, Result, cond, ℕ, zero, suc, ◌+◌, ◌*◌, ◌<◌, eqb, get_or, take, drop, MatchResult, ◌⊎◌}
+use Rattle.sheet.specs.declared.RecordKind.{RecordKind}
+use Rattle.sheet.specs.declared.RecordKind.TheVariants as K
+use Rattle.refusal.specs.declared.Refusal.{Refusal}
+use Rattle.refusal.specs.declared.Refusal.TheVariants as R
 use mathlib.Core.List.{List, [], ◌∷◌, ◌++◌, map, flat_map}
 
 -- ---- fields
@@ -28,6 +32,16 @@ first_arrow s = le16 s 6
 -- 'Records of 16 bytes follow, numbered from 1. Byte 0 is the kind; bytes 2 and 3 the next index; zero ends the chain.'
 abbrev pub kind_of : List ℕ → ℕ → ℕ
 kind_of s k = byte_at s (16 * k)
+
+abbrev pub kind_byte : RecordKind → ℕ
+kind_byte K.State = 1
+kind_byte K.Arrow = 2
+kind_byte K.Line = 3
+kind_byte K.Text = 4
+
+-- the kind that has this byte; a byte that no kind has is refused by 4
+abbrev pub GivesRecordKind : ℕ → Result RecordKind Refusal → Type 0
+GivesRecordKind n r = MatchResult r (λ kind. kind_byte kind ≡ n) (λ e. (e ≡ R.Bytes) × ((n ≡ 0) ⊎ (4 < n)))
 
 abbrev pub byte_one : List ℕ → ℕ → ℕ
 byte_one s k = byte_at s (16 * k + 1)

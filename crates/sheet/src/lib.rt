@@ -7,6 +7,8 @@ ghost use Rattle.sheet.specs.Sheet as S;
 ghost use Rattle.sheet.specs.Meaning as M;
 ghost use Rattle.sheet.specs.Refusals as R;
 
+use refusal::Refusal;
+
 // The most that a screen opens: states, arrows, and lines of an arrow.
 #[derive(Clone, Copy)]
 pub struct Limits {
@@ -44,6 +46,44 @@ pub fn service_panel() -> Limits
         states: 24,
         arrows: 64,
         lines: 4,
+    }
+}
+
+// The kinds of records.
+#[derive(Clone, Copy, Debug, PartialEq, Eq)]
+pub enum RecordKind {
+    State,
+    Arrow,
+    Line,
+    Text,
+}
+
+impl From<RecordKind> for u8 {
+    ghost from_gives = { λ kind n. n ≡ S.kind_byte kind };
+
+    fn from(kind: RecordKind) -> u8 {
+        match kind {
+            RecordKind::State => 1,
+            RecordKind::Arrow => 2,
+            RecordKind::Line => 3,
+            RecordKind::Text => 4,
+        }
+    }
+}
+
+impl TryFrom<u8> for RecordKind {
+    type Error = Refusal;
+
+    ghost try_from_gives = { S.GivesRecordKind };
+
+    fn try_from(byte: u8) -> Result<RecordKind, Refusal> {
+        match byte {
+            1 => Ok(RecordKind::State),
+            2 => Ok(RecordKind::Arrow),
+            3 => Ok(RecordKind::Line),
+            4 => Ok(RecordKind::Text),
+            _ => Err(Refusal::Bytes),
+        }
     }
 }
 
@@ -114,12 +154,14 @@ fn wrong_record(s: &[u8], k: u16) -> bool
 {
     let b = place_of(k);
     let one = one_at(s, k);
-    match kind_at(s, k) {
-        1 => 3 < one || some_set(s, b + 4, b + 16),
-        2 => 0 < one || some_set(s, b + 10, b + 16),
-        3 => 0 < one || some_set(s, b + 6, b + 16),
-        4 => one < 1 || 12 < one || some_set(s, b + 4 + usize::from(one), b + 16),
-        _ => true,
+    match RecordKind::try_from(kind_at(s, k)) {
+        Ok(RecordKind::State) => 3 < one || some_set(s, b + 4, b + 16),
+        Ok(RecordKind::Arrow) => 0 < one || some_set(s, b + 10, b + 16),
+        Ok(RecordKind::Line) => 0 < one || some_set(s, b + 6, b + 16),
+        Ok(RecordKind::Text) => one < 1
+            || 12 < one
+            || some_set(s, b + 4 + usize::from(one), b + 16),
+        Err(_) => true,
     }
 }
 

@@ -2,15 +2,9 @@
 use mathlib.Core.Path.{◌≡◌, refl, sym, ap, ◌∙◌}
 use mathlib.Core.Bool.{Bool, true, false, cond, true≢false}
 use mathlib.Core.List.{List, [], ◌∷◌, ◌++◌, flat_map}
-use Prim.Native.Nat.{ℕ, ◌≤◌, ◌<◌}
-use lib.ListN.{length, get_or, set, get_or-eq_default}
-use borrow.Author.Tests.{lt-leb, le-leb, eq-eqb, ne_eqb}
-use Rattle.laws.specs.Refusals.{Refusal, refusal, decide, decide-first, decide-rest}
-use Rattle.laws.specs.Lists.{get_d_any}
-use Rattle.sheet.specs.Refusals.{refusals, check_of}
-use Rattle.sheet.specs.declared.Limits.{Limits}
-use Rattle.refusal.specs.Refused.{Outcome, values, number}
-use Rattle.sheet.specs.Sheet.{kind_of, count, Met, met_alone}
+use Prim.Native.Nat.{ℕ}
+use lib.ListN.{set}
+use Rattle.sheet.specs.Sheet.{Met}
 use Rattle.sheet_check.specs.Walk.{Walked, walked, fresh, walk}
 
 -- ---- two lists in a row
@@ -51,30 +45,6 @@ module _ (s : List ℕ) (f : ℕ → List Met) (m : List ℕ) {rest : List ℕ} 
     pub walks_stop : b ≡ false → walked false m' ≡ a
     walks_stop t = walk_stop s (f i) (flat_map f more) m m' (rw t at q) ∙ turned
 
--- ---- one record
-module _ (s : List ℕ) (k i : ℕ) (m : List ℕ) where
-  pub meet_above : count s < i → walked false m ≡ walk s (met_alone k i) m
-  unfolding walk fresh
-  meet_above h = rw (lt-leb i (count s) h)
-
-  module _ (h : i ≤ count s) where
-    pub meet-other : (kind_of s i ≡ k → ⊥) → walked false m ≡ walk s (met_alone k i) m
-    unfolding walk fresh
-    meet-other e = rw (le-leb i (count s) h, ne_eqb (kind_of s i) k e)
-
-    module _ (e : kind_of s i ≡ k) where
-      pub meet-past : length m ≤ i → walked false m ≡ walk s (met_alone k i) m
-      unfolding walk fresh
-      meet-past l = rw (le-leb i (count s) h, eq-eqb (kind_of s i) k e, get_or-eq_default m 1 l)
-
-      pub meet_again : i < length m → (get_or m i 0 ≡ 0 → ⊥) → walked false m ≡ walk s (met_alone k i) m
-      unfolding walk fresh
-      meet_again l g = rw (le-leb i (count s) h, eq-eqb (kind_of s i) k e, get_d_any m i 1 0 l, ne_eqb (get_or m i 0) 0 g)
-
-      pub meet-first : i < length m → get_or m i 0 ≡ 0 → walked true (set m i 1) ≡ walk s (met_alone k i) m
-      unfolding walk fresh
-      meet-first l g = rw (le-leb i (count s) h, eq-eqb (kind_of s i) k e, get_d_any m i 1 0 l, g)
-
 -- ---- records that are met, and then others
 module _ (s : List ℕ) (xs ys : List Met) (m m' : List ℕ) (b : Bool) (q : walked b m' ≡ walk s xs m) where
   pub then_bad : b ≡ false → walked b m' ≡ walk s (xs ++ ys) m
@@ -82,22 +52,3 @@ module _ (s : List ℕ) (xs ys : List Met) (m m' : List ℕ) (b : Bool) (q : wal
 
   pub then_on : (a : Walked) → b ≡ true → a ≡ walk s ys m' → a ≡ walk s (xs ++ ys) m
   then_on a t r = r ∙ walk_then s xs ys m m' (rw t at q)
-
--- ---- one refusal after another: what a check answers by the first of a list, by the rest of it, and at its end
-pub record Answers (rs : List Refusal) (x : Outcome (Unit {0})) : Type 0 where
-  pub is : x ≡ decide rs number (values tt)
-
-module _ {n : ℕ} {b : Bool} {rs : List Refusal} where
-  pub refusal_given : b ≡ true → Answers (refusal n b ∷ rs) (number n)
-  refusal_given e = record { is = decide-first n b rs number (values tt) e }
-
-  pub refusal-passed : {x : Outcome (Unit {0})} → b ≡ false → Answers rs x → Answers (refusal n b ∷ rs) x
-  refusal-passed e q = record { is = q.is ∙ decide-rest n b rs number (values tt) e }
-
-pub accepted : Answers [] (values tt)
-unfolding decide
-accepted = record { is = refl }
-
-pub answers-check : (m : Limits) (s : List ℕ) (x : Outcome (Unit {0})) → Answers (refusals m s) x → x ≡ check_of m s
-unfolding check_of
-answers-check m s x a = a.is

@@ -12,17 +12,18 @@ ghost use Rattle.sheet_check.specs.Walk as W;
 
 use reader::Chain;
 use refusal::Refusal;
-use sheet::{Limits, first_line_at, first_text_at, kind_at, word_at};
+use sheet::{Limits, RecordKind, first_line_at, first_text_at, kind_at, word_at};
 
 // Meets record i in a chain of the kind: whether it may be met, and its mark.
-fn meet(s: &[u8], kind: u8, i: u16, marks: &mut [u8]) -> bool
-    ensures { W.walked result marks.new ≡ W.walk s.now (S.met_alone kind i) marks.old }
+#[tactic(auto, unfolding(crate::specs::Walk::walk, crate::specs::Walk::fresh))]
+fn meet(s: &[u8], kind: RecordKind, i: u16, marks: &mut [u8]) -> bool
+    ensures { W.walked result marks.new ≡ W.walk s.now (S.met_alone (S.kind_byte kind) i) marks.old }
 {
     let at = usize::from(i);
     if word_at(s, 2) < i {
         return false;
     }
-    if kind_at(s, i) != kind {
+    if kind_at(s, i) != u8::from(kind) {
         return false;
     }
     if marks.len() <= at {
@@ -38,7 +39,8 @@ fn meet(s: &[u8], kind: u8, i: u16, marks: &mut [u8]) -> bool
 // Visits the records of a chain until a visit fails.
 fn walk<F: Fn(u16, &mut [u8]) -> bool>(chain: Chain, marks: &mut [u8], visit: F) -> bool
     requires { F.IsAlwaysCallable visit }
-    ensures { (s : _) (met : _) → W.Visits (F.post visit) s met → W.walked result marks.new ≡ W.walk s (flat_map met (chain_rest chain.entry)) marks.old }
+    ensures { (s : _) (met : _) → W.Visits (F.post visit) s met
+        → W.walked result marks.new ≡ W.walk s (flat_map met (chain_rest chain.entry)) marks.old }
 {
     for i in chain {
         if !visit(i, marks) {
@@ -49,8 +51,8 @@ fn walk<F: Fn(u16, &mut [u8]) -> bool>(chain: Chain, marks: &mut [u8], visit: F)
 }
 
 // Walks a chain whose records begin no other: states or texts.
-fn walk_alone(s: &[u8], kind: u8, first: u16, marks: &mut [u8]) -> bool
-    ensures { let met = flat_map (S.met_alone kind) (S.chain s.now first) in
+fn walk_alone(s: &[u8], kind: RecordKind, first: u16, marks: &mut [u8]) -> bool
+    ensures { let met = flat_map (S.met_alone (S.kind_byte kind)) (S.chain s.now first) in
         W.walked result marks.new ≡ W.walk s.now met marks.old }
 {
     walk(
@@ -64,14 +66,15 @@ fn walk_alone(s: &[u8], kind: u8, first: u16, marks: &mut [u8]) -> bool
 fn visit_line(s: &[u8], i: u16, marks: &mut [u8]) -> bool
     ensures { W.walked result marks.new ≡ W.walk s.now (S.met_line s.now i) marks.old }
 {
-    meet(s, 3, i, marks) && walk_alone(s, 4, first_text_at(s, i), marks)
+    meet(s, RecordKind::Line, i, marks)
+        && walk_alone(s, RecordKind::Text, first_text_at(s, i), marks)
 }
 
 // Meets arrow record i and its lines.
 fn visit_arrow(s: &[u8], i: u16, marks: &mut [u8]) -> bool
     ensures { W.walked result marks.new ≡ W.walk s.now (S.met_arrow s.now i) marks.old }
 {
-    meet(s, 2, i, marks)
+    meet(s, RecordKind::Arrow, i, marks)
         && walk(
             Chain::new(s, first_line_at(s, i)),
             marks,
@@ -83,7 +86,7 @@ fn visit_arrow(s: &[u8], i: u16, marks: &mut [u8]) -> bool
 fn walk_all(s: &[u8], marks: &mut [u8]) -> bool
     ensures { W.walked result marks.new ≡ W.walk s.now (S.met s.now) marks.old }
 {
-    walk_alone(s, 1, word_at(s, 4), marks)
+    walk_alone(s, RecordKind::State, word_at(s, 4), marks)
         && walk(
             Chain::new(s, word_at(s, 6)),
             marks,
@@ -99,6 +102,7 @@ fn some_unmarked(marks: &[u8], n: u16) -> bool
 }
 
 // Whether the chains refuse a sheet of at most 4,095 records.
+#[tactic(auto, using(crate::specs::Marks::chains_marked))]
 fn wrong_chains(s: &[u8]) -> bool
     requires { S.count s.now < 4096 }
     ensures { result ≡ R.wrong_chains s.now }
@@ -118,6 +122,7 @@ fn wrong_length(s: &[u8]) -> bool
 }
 
 // Whether a sheet is one for a screen with the limits, or why not.
+#[tactic(auto, using(sheet::specs::Accepted::few), unfolding(sheet::specs::Refusals::check_of, laws::specs::Refusals::decide))]
 pub fn check_within(sheet: &[u8], m: Limits) -> Result<(), Refusal>
     ensures { outcome result ≡ R.check_of m sheet.now }
 {

@@ -1,29 +1,26 @@
 -- The automaton agrees with the table: one test over every state and byte, and what follows for texts. Assumes nothing.
-use Rattle.std.specs.Prelude.{◌≡◌, refl, Bool, true, false, cond, ◌&&◌, List, [], ◌∷◌, ◌++◌, ℕ, zero, suc, ◌<◌, ◌≤◌, T, eqb, leb, get_or}
-use Rattle.std.proofs.Common.{sym, ap, ap₂, ◌∙◌, subst, not-suc-le-zero, arith, eqb→eq, eqb-true, ne_eqb}
+use Rattle.std.specs.Prelude.{◌≡◌, refl, Bool, true, false, ◌&&◌, List, [], ◌∷◌, ◌++◌, ℕ, zero, suc, ◌<◌, ◌≤◌, T, eqb, leb}
+use Rattle.std.proofs.Common.{sym, ap, ap₂, ◌∙◌, subst, not-suc-le-zero, arith, eqb→eq, eqb-true}
 use Rattle.std.proofs.Math.Option.{none, some}
 use Rattle.std.proofs.lemmas.Bool.{eqb-false, lt-leb}
-use Rattle.std.proofs.Math.ListN.{get_or-eq_default}
 use Rattle.laws.specs.Cases.{by_bool, by_lt}
 use Rattle.laws.specs.Loops.{over, over_join}
 use Rattle.text.specs.Utf8.{Range, to, Awaited, in_range, lookup, by_table, rows, well_formed, is_done}
-use Rattle.text.specs.Automaton.{next_within, feed_of, lead, feed_all}
+use Rattle.text.specs.declared.Awaiting.{Awaiting}
+use Rattle.text.specs.declared.Awaiting.TheVariants.{First, One, Two, Three, AfterE0, AfterEd, AfterF0, AfterF4, Nothing}
+use Rattle.text.specs.Automaton.{is_whole, next_within, feed_of, lead, feed_all}
 
--- what each numbered state awaits, from 0; state 8 and what is above it are `none`
-abbrev pub awaited_by : List Awaited
-awaited_by =
-    some []
-    ∷ some (to 0x80 0xbf ∷ [])
-    ∷ some (to 0x80 0xbf ∷ to 0x80 0xbf ∷ [])
-    ∷ some (to 0x80 0xbf ∷ to 0x80 0xbf ∷ to 0x80 0xbf ∷ [])
-    ∷ some (to 0xa0 0xbf ∷ to 0x80 0xbf ∷ [])
-    ∷ some (to 0x80 0x9f ∷ to 0x80 0xbf ∷ [])
-    ∷ some (to 0x90 0xbf ∷ to 0x80 0xbf ∷ to 0x80 0xbf ∷ [])
-    ∷ some (to 0x80 0x8f ∷ to 0x80 0xbf ∷ to 0x80 0xbf ∷ [])
-    ∷ []
-
-abbrev pub awaits : ℕ → Awaited
-awaits st = get_or awaited_by st none
+-- what the automaton awaits, by the table
+abbrev pub awaits : Awaiting → Awaited
+awaits First = some []
+awaits One = some (to 0x80 0xbf ∷ [])
+awaits Two = some (to 0x80 0xbf ∷ to 0x80 0xbf ∷ [])
+awaits Three = some (to 0x80 0xbf ∷ to 0x80 0xbf ∷ to 0x80 0xbf ∷ [])
+awaits AfterE0 = some (to 0xa0 0xbf ∷ to 0x80 0xbf ∷ [])
+awaits AfterEd = some (to 0x80 0x9f ∷ to 0x80 0xbf ∷ [])
+awaits AfterF0 = some (to 0x90 0xbf ∷ to 0x80 0xbf ∷ to 0x80 0xbf ∷ [])
+awaits AfterF4 = some (to 0x80 0x8f ∷ to 0x80 0xbf ∷ to 0x80 0xbf ∷ [])
+awaits Nothing = none
 
 -- ---- equal as a test
 and_l : (a b : Bool) → T (a && b) → T a
@@ -81,15 +78,23 @@ below_at f (suc n) k t h = go (eqb k n) refl (λ l. below_at f n k (and_r (f n) 
     go true e r = subst (λ (x : ℕ). T (f x)) (sym (eqb-true k n e)) (and_l (f n) (each_below f n) t)
     go false e r = let d : k ≡ n → ⊥ = eqb-false k n e in r (omega arith)
 
-agrees : ℕ → ℕ → Bool
+agrees : Awaiting → ℕ → Bool
 unfolding feed_of lead
-agrees st b = same (awaits (feed_of st b)) (by_table (awaits st) b)
+agrees w b = same (awaits (feed_of w b)) (by_table (awaits w) b)
 
-all_agree : T (each_below (λ st. each_below (λ b. agrees st b) 256) 8)
+all_agree : (w : Awaiting) → T (each_below (λ b. agrees w b) 256)
 unfolding agrees feed_of lead
-all_agree = tt
+all_agree First = tt
+all_agree One = tt
+all_agree Two = tt
+all_agree Three = tt
+all_agree AfterE0 = tt
+all_agree AfterEd = tt
+all_agree AfterF0 = tt
+all_agree AfterF4 = tt
+all_agree Nothing = tt
 
--- ---- numbers that are no byte, and states above 7: both say ill-formed
+-- ---- a number that is no byte is ill-formed
 and_no : (a b : Bool) → b ≡ false → (a && b) ≡ false
 and_no true b e = e
 and_no false b e = refl
@@ -112,27 +117,27 @@ no_lead b h =
       not_in b (to 0xf4 0xf4) (omega arith),
     )
 
--- no numbered state awaits a number above 255
+-- none is awaited
 high : (hi : ℕ) → hi < 256 → (b : ℕ) → 256 ≤ b → (lo : ℕ) (row : List Range) → by_table (some (to lo hi ∷ row)) b ≡ none
 high hi l b h lo row = rw (not_in b (to lo hi) (omega arith))
 
-all_high : (st b : ℕ) → st < 8 → 256 ≤ b → by_table (awaits st) b ≡ none
-all_high zero b k h = no_lead b h
-all_high (suc zero) b k h = high 0xbf (omega arith) b h 0x80 []
-all_high (suc (suc zero)) b k h = high 0xbf (omega arith) b h 0x80 (to 0x80 0xbf ∷ [])
-all_high (suc (suc (suc zero))) b k h = high 0xbf (omega arith) b h 0x80 (to 0x80 0xbf ∷ to 0x80 0xbf ∷ [])
-all_high (suc (suc (suc (suc zero)))) b k h = high 0xbf (omega arith) b h 0xa0 (to 0x80 0xbf ∷ [])
-all_high (suc (suc (suc (suc (suc zero))))) b k h = high 0x9f (omega arith) b h 0x80 (to 0x80 0xbf ∷ [])
-all_high (suc (suc (suc (suc (suc (suc zero)))))) b k h = high 0xbf (omega arith) b h 0x90 (to 0x80 0xbf ∷ to 0x80 0xbf ∷ [])
-all_high (suc (suc (suc (suc (suc (suc (suc zero))))))) b k h = high 0x8f (omega arith) b h 0x80 (to 0x80 0xbf ∷ to 0x80 0xbf ∷ [])
-all_high (suc (suc (suc (suc (suc (suc (suc (suc st)))))))) b k h = absurd (omega arith)
+all_high : (w : Awaiting) (b : ℕ) → 256 ≤ b → by_table (awaits w) b ≡ none
+all_high First b h = no_lead b h
+all_high One b h = high 0xbf (omega arith) b h 0x80 []
+all_high Two b h = high 0xbf (omega arith) b h 0x80 (to 0x80 0xbf ∷ [])
+all_high Three b h = high 0xbf (omega arith) b h 0x80 (to 0x80 0xbf ∷ to 0x80 0xbf ∷ [])
+all_high AfterE0 b h = high 0xbf (omega arith) b h 0xa0 (to 0x80 0xbf ∷ [])
+all_high AfterEd b h = high 0x9f (omega arith) b h 0x80 (to 0x80 0xbf ∷ [])
+all_high AfterF0 b h = high 0xbf (omega arith) b h 0x90 (to 0x80 0xbf ∷ to 0x80 0xbf ∷ [])
+all_high AfterF4 b h = high 0x8f (omega arith) b h 0x80 (to 0x80 0xbf ∷ to 0x80 0xbf ∷ [])
+all_high Nothing b h = refl
 
-out : (b lo hi next : ℕ) → hi < b → next_within b lo hi next ≡ 8
+out : (b lo hi : ℕ) (next : Awaiting) → hi < b → next_within b lo hi next ≡ Nothing
 out b lo hi next h = by_bool (leb lo b) (λ e. rw (e, lt-leb b hi h)) (λ e. rw e)
 
-pub feed_high : (st b : ℕ) → 256 ≤ b → feed_of st b ≡ 8
+pub feed_high : (w : Awaiting) (b : ℕ) → 256 ≤ b → feed_of w b ≡ Nothing
 unfolding feed_of lead
-feed_high st b h =
+feed_high First b h =
     rw (
       lt-leb b 0x7f (omega arith),
       lt-leb b 0xc1 (omega arith),
@@ -144,72 +149,47 @@ feed_high st b h =
       lt-leb b 0xf0 (omega arith),
       lt-leb b 0xf3 (omega arith),
       lt-leb b 0xf4 (omega arith),
-      out b 0x80 0xbf 0 (omega arith),
-      out b 0x80 0xbf 1 (omega arith),
-      out b 0x80 0xbf 2 (omega arith),
-      out b 0xa0 0xbf 1 (omega arith),
-      out b 0x80 0x9f 1 (omega arith),
-      out b 0x90 0xbf 2 (omega arith),
-      out b 0x80 0x8f 2 (omega arith),
     )
-    (eight (eqb st 0) (eqb st 1) (eqb st 2) (eqb st 3) (eqb st 4) (eqb st 5) (eqb st 6) (eqb st 7) 8)
-  where
-    same : (t : Bool) (x : ℕ) → cond t x x ≡ x
-    same true x = refl
-    same false x = refl
-
-    eight : (a b c d e f g h : Bool) (x : ℕ) → cond a x (cond b x (cond c x (cond d x (cond e x (cond f x (cond g x (cond h x x))))))) ≡ x
-    eight a b c d e f g h x = simp same
-
-pub feed-over : (st b : ℕ) → 8 ≤ st → feed_of st b ≡ 8
-unfolding feed_of
-feed-over st b h =
-    rw (
-      ne_eqb st 0 (λ e. omega arith),
-      ne_eqb st 1 (λ e. omega arith),
-      ne_eqb st 2 (λ e. omega arith),
-      ne_eqb st 3 (λ e. omega arith),
-      ne_eqb st 4 (λ e. omega arith),
-      ne_eqb st 5 (λ e. omega arith),
-      ne_eqb st 6 (λ e. omega arith),
-      ne_eqb st 7 (λ e. omega arith),
-    )
-
-pub awaits-over : (st : ℕ) → 8 ≤ st → awaits st ≡ none
-awaits-over st h = get_or-eq_default awaited_by none h
+feed_high One b h = out b 0x80 0xbf First (omega arith)
+feed_high Two b h = out b 0x80 0xbf One (omega arith)
+feed_high Three b h = out b 0x80 0xbf Two (omega arith)
+feed_high AfterE0 b h = out b 0xa0 0xbf One (omega arith)
+feed_high AfterEd b h = out b 0x80 0x9f One (omega arith)
+feed_high AfterF0 b h = out b 0x90 0xbf Two (omega arith)
+feed_high AfterF4 b h = out b 0x80 0x8f Two (omega arith)
+feed_high Nothing b h = refl
 
 -- The automaton's step is the table's.
-pub feed-table : (st b : ℕ) → awaits (feed_of st b) ≡ by_table (awaits st) b
+pub feed-table : (w : Awaiting) (b : ℕ) → awaits (feed_of w b) ≡ by_table (awaits w) b
 unfolding agrees
-feed-table st b =
-    by_lt st 8
-    (λ (h : st < 8). by_lt b 256
-    (λ (k : b < 256). same_is (awaits (feed_of st b)) (by_table (awaits st) b) (below_at (λ b. agrees st b) 256 b (below_at (λ st. each_below (λ b. agrees st b) 256) 8 st all_agree h) k))
-    (λ (k : 256 ≤ b). ap awaits (feed_high st b k) ∙ sym (all_high st b h k)))
-    (λ (h : 8 ≤ st). ap awaits (feed-over st b h) ∙ sym (ap (λ (w : Awaited). by_table w b) (awaits-over st h)))
+feed-table w b =
+    by_lt b 256
+    (λ (k : b < 256). same_is (awaits (feed_of w b)) (by_table (awaits w) b) (below_at (λ b. agrees w b) 256 b (all_agree w) k))
+    (λ (k : 256 ≤ b). ap awaits (feed_high w b k) ∙ sym (all_high w b k))
 
 -- ---- texts
-pub feed_all-table : (st : ℕ) (s : List ℕ) → awaits (feed_all st s) ≡ over by_table (awaits st) s
+pub feed_all-table : (w : Awaiting) (s : List ℕ) → awaits (feed_all w s) ≡ over by_table (awaits w) s
 unfolding over
-feed_all-table st [] = refl
-feed_all-table st (b ∷ s) = feed_all-table (feed_of st b) s ∙ ap (λ (w : Awaited). over by_table w s) (feed-table st b)
+feed_all-table w [] = refl
+feed_all-table w (b ∷ s) = feed_all-table (feed_of w b) s ∙ ap (λ (r : Awaited). over by_table r s) (feed-table w b)
 
--- no byte is lacking exactly in state 0
-pub done_is : (st : ℕ) → is_done (awaits st) ≡ eqb st 0
-done_is zero = refl
-done_is (suc zero) = refl
-done_is (suc (suc zero)) = refl
-done_is (suc (suc (suc zero))) = refl
-done_is (suc (suc (suc (suc zero)))) = refl
-done_is (suc (suc (suc (suc (suc zero))))) = refl
-done_is (suc (suc (suc (suc (suc (suc zero)))))) = refl
-done_is (suc (suc (suc (suc (suc (suc (suc zero))))))) = refl
-done_is (suc (suc (suc (suc (suc (suc (suc (suc st)))))))) = sym (ne_eqb (suc (suc (suc (suc (suc (suc (suc (suc st)))))))) 0 (λ e. omega arith))
+-- no byte is lacking
+pub done_is : (w : Awaiting) → is_done (awaits w) ≡ is_whole w
+unfolding is_whole
+done_is First = refl
+done_is One = refl
+done_is Two = refl
+done_is Three = refl
+done_is AfterE0 = refl
+done_is AfterEd = refl
+done_is AfterF0 = refl
+done_is AfterF4 = refl
+done_is Nothing = refl
 
--- a text is well-formed exactly where the automaton ends in state 0
-pub well_formed_is : (s : List ℕ) → well_formed s ≡ eqb (feed_all 0 s) 0
-well_formed_is s = ap is_done (sym (feed_all-table 0 s)) ∙ done_is (feed_all 0 s)
+-- a text is well-formed exactly where it ends with a whole character
+pub well_formed_is : (s : List ℕ) → well_formed s ≡ is_whole (feed_all First s)
+well_formed_is s = ap is_done (sym (feed_all-table First s)) ∙ done_is (feed_all First s)
 
 -- a text in two pieces is fed one piece after the other
-pub feed_all_join : (st : ℕ) (p q : List ℕ) → feed_all st (p ++ q) ≡ feed_all (feed_all st p) q
-feed_all_join st p q = over_join feed_of st p q
+pub feed_all_join : (w : Awaiting) (p q : List ℕ) → feed_all w (p ++ q) ≡ feed_all (feed_all w p) q
+feed_all_join w p q = over_join feed_of w p q

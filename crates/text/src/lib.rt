@@ -4,107 +4,114 @@
 ghost use Rattle.std.specs.Prelude.{◌≡◌, [], ◌∷◌, ◌+◌, ◌<◌, take, drop, set};
 ghost use Rattle.text.specs.Writing.{Adds};
 ghost use Rattle.text.specs.Utf8 as U;
-ghost use Rattle.text.specs.Automaton.{next_within, lead, feed_of, feed_all, gather_of};
+ghost use Rattle.text.specs.Automaton.{is_whole, next_within, lead, feed_of, feed_all, gather_of};
 ghost use Rattle.text.specs.Digits.{digits};
 
-// The state next where b is in the range, and 8 where it is not.
-fn in_range(b: u8, lo: u8, hi: u8, next: u8) -> u8
+// What a text that has been read so far awaits.
+#[derive(Clone, Copy, Debug, PartialEq, Eq)]
+pub enum Awaiting {
+    // a character's first byte
+    First,
+    // one, two or three bytes that continue a character
+    One,
+    Two,
+    Three,
+    // the second byte of a character, in a range of its own
+    AfterE0,
+    AfterEd,
+    AfterF0,
+    AfterF4,
+    // nothing: the text is ill-formed
+    Nothing,
+}
+
+impl Awaiting {
+    // Whether the text so far is a run of whole characters.
+    #[tactic(auto, unfolding(crate::specs::Automaton::is_whole))]
+    pub fn is_whole(self) -> bool
+        ensures { result ≡ is_whole self }
+    {
+        self == Awaiting::First
+    }
+}
+
+// What is next awaited where b is in the range, and nothing where it is not.
+fn in_range(b: u8, lo: u8, hi: u8, next: Awaiting) -> Awaiting
     ensures { result ≡ next_within b lo hi next }
 {
-    if lo <= b {
-        if b <= hi {
-            return next;
-        }
+    if lo <= b && b <= hi {
+        next
+    } else {
+        Awaiting::Nothing
     }
-    8
 }
 
-// The state after a character's first byte.
-fn first(b: u8) -> u8
+// What is awaited after a character's first byte.
+#[tactic(auto, unfolding(crate::specs::Automaton::lead))]
+fn first(b: u8) -> Awaiting
     ensures { result ≡ lead b }
 {
-    if b <= 0x7f {
-        return 0;
-    }
-    if b <= 0xc1 {
-        return 8;
-    }
-    if b <= 0xdf {
-        return 1;
-    }
-    if b <= 0xe0 {
-        return 4;
-    }
-    if b <= 0xec {
-        return 2;
-    }
-    if b <= 0xed {
-        return 5;
-    }
-    if b <= 0xef {
-        return 2;
-    }
-    if b <= 0xf0 {
-        return 6;
-    }
-    if b <= 0xf3 {
-        return 3;
-    }
-    if b <= 0xf4 {
-        return 7;
-    }
-    8
-}
-
-// The automaton's state after the byte b.
-pub fn feed(st: u8, b: u8) -> u8
-    ensures { result ≡ feed_of st b }
-{
-    match st {
-        0 => first(b),
-        1 => in_range(b, 0x80, 0xbf, 0),
-        2 => in_range(b, 0x80, 0xbf, 1),
-        3 => in_range(b, 0x80, 0xbf, 2),
-        4 => in_range(b, 0xa0, 0xbf, 1),
-        5 => in_range(b, 0x80, 0x9f, 1),
-        6 => in_range(b, 0x90, 0xbf, 2),
-        7 => in_range(b, 0x80, 0x8f, 2),
-        _ => 8,
+    match b {
+        0x00..=0x7f => Awaiting::First,
+        0xc2..=0xdf => Awaiting::One,
+        0xe0 => Awaiting::AfterE0,
+        0xe1..=0xec => Awaiting::Two,
+        0xed => Awaiting::AfterEd,
+        0xee..=0xef => Awaiting::Two,
+        0xf0 => Awaiting::AfterF0,
+        0xf1..=0xf3 => Awaiting::Three,
+        0xf4 => Awaiting::AfterF4,
+        _ => Awaiting::Nothing,
     }
 }
 
-// The state after the bytes of s.
-#[tactic(auto, using(laws::specs::Chains::over_list), unfolding(crate::specs::Automaton::feed_all))]
-pub fn feed_part(s: &[u8], st: u8) -> u8
-    ensures { result ≡ feed_all st s.now }
+// What is awaited after the byte b.
+#[tactic(auto, unfolding(crate::specs::Automaton::feed_of))]
+pub fn feed(awaiting: Awaiting, b: u8) -> Awaiting
+    ensures { result ≡ feed_of awaiting b }
 {
-    s.iter().fold(st, |t, b| feed(t, *b))
+    match awaiting {
+        Awaiting::First => first(b),
+        Awaiting::One => in_range(b, 0x80, 0xbf, Awaiting::First),
+        Awaiting::Two => in_range(b, 0x80, 0xbf, Awaiting::One),
+        Awaiting::Three => in_range(b, 0x80, 0xbf, Awaiting::Two),
+        Awaiting::AfterE0 => in_range(b, 0xa0, 0xbf, Awaiting::One),
+        Awaiting::AfterEd => in_range(b, 0x80, 0x9f, Awaiting::One),
+        Awaiting::AfterF0 => in_range(b, 0x90, 0xbf, Awaiting::Two),
+        Awaiting::AfterF4 => in_range(b, 0x80, 0x8f, Awaiting::Two),
+        Awaiting::Nothing => Awaiting::Nothing,
+    }
+}
+
+// What is awaited after the bytes of s.
+pub fn feed_part(s: &[u8], awaiting: Awaiting) -> Awaiting
+    ensures { result ≡ feed_all awaiting s.now }
+{
+    s.iter().fold(awaiting, |w, b| feed(w, *b))
 }
 
 // The bits of a code point that a character's first byte brings.
+#[tactic(auto, unfolding(crate::specs::Utf8::payload))]
 fn payload(b: u8) -> u8
     ensures { result ≡ U.payload b }
 {
-    if b < 0x80 {
-        return b;
+    match b {
+        0x00..=0x7f => b,
+        0x80..=0xdf => b % 32,
+        0xe0..=0xef => b % 16,
+        0xf0..=0xff => b % 8,
     }
-    if b < 0xe0 {
-        return b % 32;
-    }
-    if b < 0xf0 {
-        return b % 16;
-    }
-    b % 8
 }
 
-// The value of the character so far, after the byte b in state st: its code point where `feed(st, b)` is 0.
-pub fn gather(st: u8, v: u32, b: u8) -> u32
-    ensures { result ≡ gather_of st v b }
+// The value of the character so far, after the byte b: its code point where `feed(awaiting, b)` is whole.
+#[tactic(auto, unfolding(crate::specs::Automaton::gather_of))]
+pub fn gather(awaiting: Awaiting, v: u32, b: u8) -> u32
+    ensures { result ≡ gather_of awaiting v b }
 {
-    if st == 0 {
-        return payload(b) as u32;
+    if awaiting.is_whole() {
+        return u32::from(payload(b));
     }
-    64 * (v % 32768) + (b % 64) as u32
+    64 * (v % 32768) + u32::from(b % 64)
 }
 
 // b at place k, where there is one.

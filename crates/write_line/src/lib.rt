@@ -10,11 +10,12 @@ ghost use Rattle.write_line.specs.Writing as W;
 
 use meaning::{line_length, piece_at};
 use reader::{Chain, Record};
-use sheet::{first_text_at, place_of};
+use sheet::{RecordKind, first_text_at, place_of};
 
 // ---- one record
 
 // The sixteen bytes of a record: kind, byte 1, next index, the words from byte 4 on, then zeros.
+#[tactic(auto, unfolding(laws::specs::Put::put))]
 fn fill(p: &mut [u8], d: Record, next: u16)
     requires { 16 ≤ length p.old }
     ensures { p.new ≡ put p.old 0 (W.record_bytes d next) }
@@ -65,7 +66,7 @@ fn put_piece(piece: &[u8], out: &mut [u8], k: u16, next: u16)
         out,
         usize::from(k),
         Record {
-            kind: 4,
+            kind: u8::from(RecordKind::Text),
             one: piece.len() as u8,
             word4: 0,
             word6: 0,
@@ -76,7 +77,8 @@ fn put_piece(piece: &[u8], out: &mut [u8], k: u16, next: u16)
     copy_to(piece, out, place_of(k) + 4);
 }
 
-// The pieces of a line, from record k on; the record after them. No `chunks`, since a piece has the index of the next one only where bytes are left.
+// The pieces of a line, from record k on; the record after them. No `chunks`, since a piece has the index of the next one
+// only where bytes are left.
 fn write_pieces(line: &[u8], out: &mut [u8], k: u16) -> u16
     requires { let behind = k + E.space_of E.piece_size (E.pieces line.now) in
         (behind < 65536) × (16 * behind ≤ length out.old) }
@@ -140,7 +142,7 @@ pub fn write_line(s: &[u8], i: u16, out: &mut [u8], k: u16, more: bool) -> u16
         out,
         usize::from(k),
         Record {
-            kind: 3,
+            kind: u8::from(RecordKind::Line),
             one: 0,
             word4: (0 < n).then_some(k + 1).unwrap_or(0),
             word6: 0,

@@ -12,7 +12,7 @@ ghost use Rattle.write_sheet.specs.Sheets as Q;
 
 use meaning::chain_length;
 use reader::{Chain, Record, record_at};
-use sheet::{first_line_at, one_at, word_at};
+use sheet::{RecordKind, first_line_at, one_at, word_at};
 use write_line::{line_size, put_record, write_line};
 
 // ---- how many records are written
@@ -49,6 +49,7 @@ pub fn arrows_size(s: &[u8]) -> usize
 }
 
 // ---- writing
+// By `while let`: a record holds the index of the next one, so each turn asks the chain whether it goes on.
 
 // The states, from record k on.
 fn write_states(s: &[u8], out: &mut [u8], k: u16)
@@ -65,7 +66,7 @@ fn write_states(s: &[u8], out: &mut [u8], k: u16)
             out,
             usize::from(at),
             Record {
-                kind: 1,
+                kind: u8::from(RecordKind::State),
                 one: one_at(s, i),
                 word4: 0,
                 word6: 0,
@@ -113,7 +114,7 @@ fn write_arrow(s: &[u8], i: u16, out: &mut [u8], k: u16, more: bool) -> u16
         out,
         usize::from(k),
         Record {
-            kind: 2,
+            kind: u8::from(RecordKind::Arrow),
             one: 0,
             word4: d.word4,
             word6: d.word6,

@@ -8,14 +8,14 @@ use Rattle.free.proofs.first_free.Goals as goal
 pub returns-then-not-p : goal.returns-then-not-p
 returns-then-not-p c = let a = c.args in
     let e = c.full_pass-p.ensures in
-    rw e (sym (free_still a.dir a.spans.now c.loop-start.h (sym (ap (λ (s : Pass). s.moved) e) ∙ not-true _ c.if-not-p.true)) ∙ c.loop-start.invariant)
+    rw e (sym (free_still a.way a.spans.now c.loop-way.h (sym (ap (λ (s : Pass). s.moved) e) ∙ not-true _ c.if-not-p.true)) ∙ c.loop-way.invariant)
 
-pub loop-start-smaller : goal.loop-start-smaller
-loop-start-smaller c = let a = c.args in
+pub loop-way-smaller : goal.loop-way-smaller
+loop-way-smaller c = let a = c.args in
     let e = c.full_pass-p.ensures in
-    rw e (pass_falls a.dir a.spans.now c.loop-start.h (sym (ap (λ (s : Pass). s.moved) e) ∙ not-false _ c.if-not-p.false))
+    rw e (pass_falls a.way a.spans.now c.loop-way.h (sym (ap (λ (s : Pass). s.moved) e) ∙ not-false _ c.if-not-p.false))
 
-pub loop-start-preserved : goal.loop-start-preserved
-loop-start-preserved c = let a = c.args in
+pub loop-way-preserved : goal.loop-way-preserved
+loop-way-preserved c = let a = c.args in
     let e = c.full_pass-p.ensures in
-    rw e (sym (free_moved a.dir a.spans.now c.loop-start.h (sym (ap (λ (s : Pass). s.moved) e) ∙ not-false _ c.if-not-p.false)) ∙ c.loop-start.invariant)
+    rw e (sym (free_moved a.way a.spans.now c.loop-way.h (sym (ap (λ (s : Pass). s.moved) e) ∙ not-false _ c.if-not-p.false)) ∙ c.loop-way.invariant)

@@ -4,8 +4,8 @@ use Rattle.free.specs.Free.{first_free}
 use Rattle.free.specs.Moves.{spans_ahead}
 use Rattle.free.proofs.first_free.Given as goal
 
-abbrev pub invariant-loop-start : goal.invariant-loop-start
-invariant-loop-start l = first_free l.dir l.spans l.h ≡ first_free l.dir l.spans l.start
+abbrev pub invariant-loop-way : goal.invariant-loop-way
+invariant-loop-way l = first_free l.way l.spans l.h ≡ first_free l.way l.spans l.start
 
-abbrev pub decreases-loop-start : goal.decreases-loop-start
-decreases-loop-start l = spans_ahead l.dir l.spans l.h
+abbrev pub decreases-loop-way : goal.decreases-loop-way
+decreases-loop-way l = spans_ahead l.way l.spans l.h

@@ -1,8 +1,8 @@
-use Rattle.std.proofs.Common.{◌+◌, ℕ, List, length, drop, ap, ◌∙◌, arith}
+use Rattle.std.proofs.Common.{◌+◌, ℕ, List, length, drop, sym, ap, ◌∙◌, arith}
 use Rattle.float.specs.Standins.{max}
 use lib.Ieee.{Float}
 use Rattle.label.specs.declared.Measure.{Measure}
-use Rattle.refusal.specs.Refused.{Outcome, values}
+use Rattle.refusal.specs.Refused.{values}
 use Rattle.label.specs.Label.{block_height, cut}
 use Rattle.label.specs.Measuring.{measure_all, measure_start, lines_size}
 use Rattle.label.proofs.Laws.{line_ill, line_well, lines_end, total-at}
@@ -11,12 +11,12 @@ use Rattle.label.proofs.lines_size.Goals as goal
 pub split_at-requires : goal.split_at-requires
 split_at-requires c = omega (arith, total-at 0 0 c.args.lengths.now c.loop-n.n-index (omega arith))
 
-pub returns-then-m-ne0 : goal.returns-then-m-ne0
-returns-then-m-ne0 c =
+pub returns-then-not-is_whole : goal.returns-then-not-is_whole
+returns-then-not-is_whole c =
     let lengths = c.args.lengths.now in
     let h = block_height (length lengths) in
     let e = c.measure_part-m.ensures ∙ ap (λ (m : Measure). measure_all m c.split_at.result.0.now) c.measure_start.ensures ∙ ap (measure_all measure_start) c.split_at.ensures.front in
-    line_ill h c.loop-n.width c.loop-n.rest.now lengths c.loop-n.n-index (omega arith) c.measure_part-m.result.st (ap (λ (m : Measure). m.st) e) c.if-m-ne0.true ∙ c.loop-n.invariant.size
+    line_ill h c.loop-n.width c.loop-n.rest.now lengths c.loop-n.n-index (omega arith) c.measure_part-m.result e (sym c.is_whole.ensures ∙ c.if-not-is_whole.true) ∙ c.loop-n.invariant.size
 
 pub loop-n-preserved : goal.loop-n-preserved
 loop-n-preserved c =
@@ -28,8 +28,7 @@ loop-n-preserved c =
       size =
           ap (λ (w : Float). lines_size h w (cut c.split_at.result.1.now (drop (c.loop-n.n-index + 1) lengths))) c.max-width.ensures
           ∙ ap (λ (l : List ℕ). lines_size h (max c.loop-n.width c.measure_part-m.result.width) (cut l (drop (c.loop-n.n-index + 1) lengths))) c.split_at.ensures.back
-          ∙ line_well h c.loop-n.width c.loop-n.rest.now lengths c.loop-n.n-index (omega arith) c.measure_part-m.result.st c.measure_part-m.result.width
-          (ap (λ (m : Measure). m.st) e) (ap (λ (m : Measure). m.width) e) c.if-m-ne0.false
+          ∙ line_well h c.loop-n.width c.loop-n.rest.now lengths c.loop-n.n-index (omega arith) c.measure_part-m.result e (sym c.is_whole.ensures ∙ c.if-not-is_whole.false)
           ∙ c.loop-n.invariant.size;
     }
 

@@ -30,4 +30,4 @@ returns c = let a = c.args in
     let p = c.write_pieces-behind.ensures in
     let f = index_is _ _ _ _ c.then_some.ensures c.unwrap_or.ensures in
     let n = index_is a.more _ _ _ c.then_some-2.ensures c.unwrap_or-2.ensures in
-    line-put a.out.now l x a.k e t.ensures.1 f n p.0 p.1 (rw c.from.ensures at c.put_record.ensures)
+    line-put a.out.now l x a.k e t.ensures.1 f n p.0 p.1 (rw (c.from.ensures, c.from-2.ensures) at c.put_record.ensures)

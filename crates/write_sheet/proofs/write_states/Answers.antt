@@ -46,7 +46,7 @@ loop-i-preserved c = let s = c.args.s.now in
     let l = c.loop-i in
     let n = c.unwrap_or-next in
     let p = index_is c.goes_on.result (l.at + 1) n.result c.then_some.result c.then_some.ensures n.ensures ∙ ap (λ (b : Bool). index_if b (l.at + 1)) c.goes_on.ensures in
-    let q = rw c.from.ensures at c.put_record.ensures in
+    let q = rw (c.from.ensures, c.from-in-Some.ensures) at c.put_record.ensures in
     follows_step (state_form never) never (state_of s) l.invariant c.in-Some.ensures.steps refl p (q ∙ ap (λ (b : ℕ). put l.out (16 * l.at) (state_bytes b n.result)) c.one_at.ensures)
 
 pub returns : goal.returns

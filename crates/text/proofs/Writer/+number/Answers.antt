@@ -1,4 +1,4 @@
-use Rattle.std.proofs.Common.{◌≡◌, ℕ, [], ◌∷◌, ◌++◌, ◌/◌, sym, ap, ◌∙◌}
+use Rattle.std.proofs.Common.{ℕ, [], ◌∷◌, ◌++◌, ◌/◌, sym, ap, ◌∙◌}
 use Rattle.text.specs.Writing.{adds_as, adds-more}
 use Rattle.text.specs.Digits.{digits, digits_one, digits_more}
 use Rattle.text.proofs.Writer.+number.Goals as goal
