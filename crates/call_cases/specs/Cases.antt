@@ -1,12 +1,15 @@
 -- The cases of the eight calls: whether the answer, and everything that the call leaves in what it is lent, are the definitions'. A lent output is
 -- the middle of a longer one: sixteen places stand before it and more behind it. Before the call every byte is 170 and every number `unset`.
-use Rattle.std.specs.Prelude.{◌≡◌, refl, Bool, true, false, cond, not, ◌&&◌, List, [], ◌∷◌, ◌++◌, ℕ, ◌+◌, ◌*◌, ◌^◌, eqb, leb, length, get_or, take, drop, replicate, Float}
+use Rattle.std.specs.Prelude.{◌≡◌, refl, Bool, true, false, not, ◌&&◌, List, [], ◌∷◌, ◌++◌, ℕ, ◌+◌, ◌*◌, ◌^◌, eqb, leb, length, get_or, take, drop, replicate, Float, Option, Some, None, find}
 use Rattle.std.specs.Float.{binary64}
 use Rattle.std.specs.Float.Ieee.{of_bits, round}
 use Rattle.laws.specs.Loops.{any_up}
 use Rattle.sheet.specs.declared.Limits.{Limits}
 use Rattle.calls.specs.Calls.{Outcome, values, number, main_screen, check, label_size, write_num, write_num_after, route, records_after, text_after, clutter, layout, xs_after, ys_after, list, list_after, write_sheet, write_sheet_after}
-use Rattle.cases.specs.Payload.{payload_byte, word_at, long_at, bits_at, float_at, floats_at, sizes_at, alike, same_float, kind_row, row_right}
+use Rattle.cases.specs.Payload.{payload_byte, word_at, long_at, bits_at, float_at, floats_at, sizes_at, alike, same_float}
+use Rattle.cases.specs.Kinds.{call_number}
+use Rattle.cases.specs.declared.kind.Call.{Call}
+use Rattle.cases.specs.declared.kind.Call.TheVariants as call
 
 -- ---- the answer
 
@@ -142,52 +145,52 @@ clutter_agrees a s m xs ys rest = outcome_right a (λ n. eqb n (long_at rest 0))
 
 -- ---- given centres: the number of xs and of ys; the xs, the ys; and the rest. No case has more than 80 of either.
 
-unfoldable pub drawn_agrees : ℕ → ℕ → List ℕ → Limits → List Float → List Float → List ℕ → Bool
-drawn_agrees kind a s m xs ys rest = row_right kind (kind_row 60 (route_agrees a s m xs ys rest) ∷ kind_row 62 (clutter_agrees a s m xs ys rest) ∷ [])
-
-unfoldable pub at_centres : ℕ → ℕ → List ℕ → Limits → List ℕ → Bool
-at_centres kind a s m rest =
+unfoldable pub at_centres : (List Float → List Float → List ℕ → Bool) → List ℕ → Bool
+at_centres drawn rest =
     let nx = word_at rest 0 in
     let ny = word_at rest 2 in
     let end = 4 + 8 * nx + 8 * ny in
     leb nx 80
     && (leb ny 80
     && (leb end (length rest)
-    && drawn_agrees kind a s m (floats_at rest 4 nx) (floats_at rest (4 + 8 * nx) ny) (drop end rest)))
+    && drawn (floats_at rest 4 nx) (floats_at rest (4 + 8 * nx) ny) (drop end rest)))
 
 -- ---- a call under the limits m: the answer and the layout's kind, a byte each; the length of the sheet, or of the label's text, four bytes; the sheet; and the rest
 
-unfoldable pub called : ℕ → ℕ → ℕ → List ℕ → Limits → List ℕ → Bool
-called kind a by s m rest =
-    row_right kind
-    (kind_row 60 (at_centres 60 a s m rest)
-    ∷ kind_row 61 (layout_agrees a by s m rest)
-    ∷ kind_row 62 (at_centres 62 a s m rest)
-    ∷ kind_row 63 (list_agrees a by s m rest)
-    ∷ kind_row 64 (check_is a s m)
-    ∷ kind_row 65 (label_agrees a s m rest)
-    ∷ kind_row 66 (number_agrees a rest)
-    ∷ kind_row 67 (sheet_agrees a s m rest)
-    ∷ [])
+unfoldable pub called : Call → ℕ → ℕ → List ℕ → Limits → List ℕ → Bool
+called call.Route a by s m rest = at_centres (route_agrees a s m) rest
+called call.Layout a by s m rest = layout_agrees a by s m rest
+called call.Clutter a by s m rest = at_centres (clutter_agrees a s m) rest
+called call.List a by s m rest = list_agrees a by s m rest
+called call.Check a by s m rest = check_is a s m
+called call.LabelSize a by s m rest = label_agrees a s m rest
+called call.WriteNum a by s m rest = number_agrees a rest
+called call.WriteSheet a by s m rest = sheet_agrees a s m rest
 
-unfoldable pub called_under : Limits → ℕ → List ℕ → Bool
-called_under m kind p =
+unfoldable pub called_under : Limits → Call → List ℕ → Bool
+called_under m c p =
     let n = long_at p 2 in
-    leb (6 + n) (length p) && called kind (payload_byte p 0) (payload_byte p 1) (take n (drop 6 p)) m (drop (6 + n) p)
+    leb (6 + n) (length p) && called c (payload_byte p 0) (payload_byte p 1) (take n (drop 6 p)) m (drop (6 + n) p)
 
 -- the limits: states, arrows and lines, eight bytes each
 unfoldable pub limits_at : List ℕ → Limits
 limits_at p = record { states = bits_at p 0; arrows = bits_at p 8; lines = bits_at p 16 }
 
--- a case of kind 68 has limits of its own, and behind them the call's kind and what that kind has; 60 to 67 are under the main screen's (66 takes none)
-unfoldable pub case_limits : ℕ → List ℕ → Limits
-case_limits kind p = cond (eqb kind 68) (limits_at p) main_screen
+-- a case of a call is under the main screen's limits (`write_num` takes none)
+abbrev pub call_agrees : Call → List ℕ → Bool
+call_agrees c p = called_under main_screen c p
 
-unfoldable pub case_kind : ℕ → List ℕ → ℕ
-case_kind kind p = cond (eqb kind 68) (payload_byte p 24) kind
+-- the call of a number
+unfoldable pub call_of : ℕ → Option Call
+call_of n =
+    find (λ c. eqb (call_number c) n)
+    (call.Route ∷ call.Layout ∷ call.Clutter ∷ call.List ∷ call.Check ∷ call.LabelSize ∷ call.WriteNum ∷ call.WriteSheet ∷ [])
 
-unfoldable pub case_front : ℕ → ℕ
-case_front kind = cond (eqb kind 68) 25 0
+-- a case of no call is never right
+abbrev pub right_of : (Call → Bool) → Option Call → Bool
+right_of right (Some c) = right c
+right_of right None = false
 
-unfoldable pub call_agrees : ℕ → List ℕ → Bool
-call_agrees kind p = leb (case_front kind) (length p) && called_under (case_limits kind p) (case_kind kind p) (drop (case_front kind) p)
+-- a case with limits of its own has them in front, then the call's number, a byte, and what that call's case has
+unfoldable pub under_limits_agrees : List ℕ → Bool
+under_limits_agrees p = leb 25 (length p) && right_of (λ c. called_under (limits_at p) c (drop 25 p)) (call_of (payload_byte p 24))

@@ -1,11 +1,13 @@
 -- What a call leaves around the middle that it was lent, the first of some floats, and tests that were made. Assumes nothing.
-use Rattle.std.specs.Prelude.{◌≡◌, Bool, false, List, ◌++◌, ℕ, ◌+◌, ◌≤◌, length, take, drop, Float}
+use Rattle.std.specs.Prelude.{◌≡◌, ◌≢◌, refl, Bool, List, ◌++◌, Some, None, ℕ, ◌+◌, ◌≤◌, length, take, drop, Float}
 use Rattle.std.proofs.Common.{sym, ap, ◌∙◌, arith, length-drop, length-take-le}
 use borrow.Author.Tests.{ne_eqb}
-use Rattle.sheet.specs.declared.Limits.{Limits}
-use Rattle.cases.specs.Payload.{float_at, floats_at, row_right}
+use Rattle.cases.specs.Kinds.{call_number}
+use Rattle.cases.specs.declared.kind.Call.{Call}
+use Rattle.cases.specs.declared.kind.Call.TheVariants as call
+use Rattle.cases.specs.Payload.{float_at, floats_at}
 use Rattle.cases.specs.Laws.{each_first}
-use Rattle.call_cases.specs.Cases.{around, called, at_centres, layout_agrees, list_agrees, check_is, label_agrees, number_agrees, sheet_agrees}
+use Rattle.call_cases.specs.Cases.{around, call_of}
 
 -- the middle has as many places as were lent
 pub lent-many : {A : Type 0} (room k : ℕ) (l : List A) → k ≡ room → 16 + room ≤ length l → length (take k (drop 16 l)) ≡ room
@@ -24,41 +26,30 @@ tested f x y r b e h g = ap f (sym h) ∙ sym e ∙ g
 pub of_three : {A B C : Type 0} (f : A → B → C → Bool) (x x' : A) (y y' : B) (z z' : C) → x ≡ x' → y ≡ y' → z ≡ z' → f x y z ≡ f x' y' z'
 of_three f x x' y y' z z' e₁ e₂ e₃ = rw (e₁, e₂, e₃)
 
--- ---- a case by its kind
+-- ---- a call by its number
 
-module _ (a by : ℕ) (s : List ℕ) (m : Limits) (rest : List ℕ) where
-  pub kind_60 : (k : ℕ) → k ≡ 60 → called k a by s m rest ≡ at_centres 60 a s m rest
-  unfolding called row_right
-  kind_60 k e = rw e
+module _ (n : ℕ) where
+  pub call_found : (c : Call) → call_number c ≡ n → call_of n ≡ Some c
+  unfolding call_of
+  call_found call.Route e = rw (← e) refl
+  call_found call.Layout e = rw (← e) refl
+  call_found call.Clutter e = rw (← e) refl
+  call_found call.List e = rw (← e) refl
+  call_found call.Check e = rw (← e) refl
+  call_found call.LabelSize e = rw (← e) refl
+  call_found call.WriteNum e = rw (← e) refl
+  call_found call.WriteSheet e = rw (← e) refl
 
-  pub kind_61 : (k : ℕ) → k ≡ 61 → called k a by s m rest ≡ layout_agrees a by s m rest
-  unfolding called row_right
-  kind_61 k e = rw e
-
-  pub kind_62 : (k : ℕ) → k ≡ 62 → called k a by s m rest ≡ at_centres 62 a s m rest
-  unfolding called row_right
-  kind_62 k e = rw e
-
-  pub kind_63 : (k : ℕ) → k ≡ 63 → called k a by s m rest ≡ list_agrees a by s m rest
-  unfolding called row_right
-  kind_63 k e = rw e
-
-  pub kind_64 : (k : ℕ) → k ≡ 64 → called k a by s m rest ≡ check_is a s m
-  unfolding called row_right
-  kind_64 k e = rw e
-
-  pub kind_65 : (k : ℕ) → k ≡ 65 → called k a by s m rest ≡ label_agrees a s m rest
-  unfolding called row_right
-  kind_65 k e = rw e
-
-  pub kind_66 : (k : ℕ) → k ≡ 66 → called k a by s m rest ≡ number_agrees a rest
-  unfolding called row_right
-  kind_66 k e = rw e
-
-  pub kind_67 : (k : ℕ) → k ≡ 67 → called k a by s m rest ≡ sheet_agrees a s m rest
-  unfolding called row_right
-  kind_67 k e = rw e
-
-  pub no_kind : (k : ℕ) → (k ≡ 60 → ⊥) → (k ≡ 61 → ⊥) → (k ≡ 62 → ⊥) → (k ≡ 63 → ⊥) → (k ≡ 64 → ⊥) → (k ≡ 65 → ⊥) → (k ≡ 66 → ⊥) → (k ≡ 67 → ⊥) → called k a by s m rest ≡ false
-  unfolding called row_right
-  no_kind k h₀ h₁ h₂ h₃ h₄ h₅ h₆ h₇ = rw (ne_eqb k 60 h₀, ne_eqb k 61 h₁, ne_eqb k 62 h₂, ne_eqb k 63 h₃, ne_eqb k 64 h₄, ne_eqb k 65 h₅, ne_eqb k 66 h₆, ne_eqb k 67 h₇)
+  pub no_call : ((c : Call) → call_number c ≢ n) → call_of n ≡ None
+  unfolding call_of
+  no_call h =
+      rw (
+        ne_eqb 60 n (h call.Route),
+        ne_eqb 61 n (h call.Layout),
+        ne_eqb 62 n (h call.Clutter),
+        ne_eqb 63 n (h call.List),
+        ne_eqb 64 n (h call.Check),
+        ne_eqb 65 n (h call.LabelSize),
+        ne_eqb 66 n (h call.WriteNum),
+        ne_eqb 67 n (h call.WriteSheet),
+      )

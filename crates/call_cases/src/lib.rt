@@ -1,5 +1,5 @@
-// Cases of the eight calls, under the main screen's limits, or (kind 68) under limits that the case has
-// in front of the call's kind and payload. The answer, 0 or the refusal's number, and the layout's kind, a byte each;
+// Cases of the eight calls, under the main screen's limits, or under limits that the case has
+// in front of the call's byte and payload. The answer, 0 or the refusal's number, and the layout's kind, a byte each;
 // the length of the sheet, or of a label's text, four bytes; the sheet; and what the call is given
 // besides, with what it must write. A lent output is the middle of a longer one, which holds 170 in
 // every byte, or UNSET in every number, before the call.
@@ -11,7 +11,7 @@ ghost use Rattle.calls.specs.Calls as C;
 ghost use Rattle.cases.specs.Payload.{word_at, long_at};
 ghost use Rattle.call_cases.specs.Cases as S;
 
-use cases::{byte, fill_floats, fill_sizes, float, index, long, same, same_float, size};
+use cases::{Call, byte, fill, float, index, long, same, same_float, size};
 use refusal::Refusal;
 use sheet::Limits;
 
@@ -79,7 +79,7 @@ fn numbers_in(p: &[u8], at: usize, n: usize, out: &[f64]) -> bool
         return false;
     }
     let mut numbers = [0.0f64; 5120];
-    fill_floats(p, at, &mut numbers);
+    fill(at, &mut numbers, |place| float(p, place));
     numbers_stand(out, &numbers[..n])
 }
 
@@ -120,7 +120,7 @@ fn label_agrees(answer: u8, text: &[u8], m: Limits, rest: &[u8]) -> bool
         return false;
     }
     let mut lengths = [0usize; 16];
-    fill_sizes(rest, 18, &mut lengths);
+    fill(18, &mut lengths, |place| size(rest, place));
     outcome_is(
         calls::label_size(text, &lengths[..lines], m),
         answer,
@@ -425,27 +425,12 @@ fn length_at(p: &[u8], at: usize) -> usize
     long(p, at) as usize
 }
 
-fn drawn_agrees(
-    kind: u8,
-    answer: u8,
-    sheet: &[u8],
-    m: Limits,
-    xs: &[f64],
-    ys: &[f64],
-    rest: &[u8],
-) -> bool
-    ensures { result ≡ S.drawn_agrees kind answer sheet.now m xs.now ys.now rest.now }
-{
-    match kind {
-        60 => route_agrees(answer, sheet, m, xs, ys, rest),
-        62 => clutter_agrees(answer, sheet, m, xs, ys, rest),
-        _ => false,
-    }
-}
-
-// A call at given centres.
-fn at_centres(kind: u8, answer: u8, sheet: &[u8], m: Limits, rest: &[u8]) -> bool
-    ensures { result ≡ S.at_centres kind answer sheet.now m rest.now }
+// Whether `drawn` holds of the centres that a case gives and of what it has behind them.
+fn at_centres<F: FnOnce(&[f64], &[f64], &[u8]) -> bool>(rest: &[u8], drawn: F) -> bool
+    requires { F.IsAlwaysCallable drawn }
+    ensures { (good : List Float → List Float → List ℕ → Bool)
+        → ((xs ys behind b : _) → F.post drawn xs ys behind b → b ≡ good xs.now ys.now behind.now)
+        → result ≡ S.at_centres good rest.now }
 {
     let nx = index(rest, 0);
     let ny = index(rest, 2);
@@ -461,36 +446,42 @@ fn at_centres(kind: u8, answer: u8, sheet: &[u8], m: Limits, rest: &[u8]) -> boo
     }
     let mut xs = [0.0f64; 80];
     let mut ys = [0.0f64; 80];
-    fill_floats(rest, 4, &mut xs);
-    fill_floats(rest, 4 + 8 * nx, &mut ys);
-    drawn_agrees(kind, answer, sheet, m, &xs[..nx], &ys[..ny], &rest[end..])
+    fill(4, &mut xs, |place| float(rest, place));
+    fill(4 + 8 * nx, &mut ys, |place| float(rest, place));
+    drawn(&xs[..nx], &ys[..ny], &rest[end..])
 }
 
-fn called(kind: u8, answer: u8, by: u8, sheet: &[u8], m: Limits, rest: &[u8]) -> bool
-    ensures { result ≡ S.called kind answer by sheet.now m rest.now }
+// The answer stays a byte, which is compared with the number of a refusal. So does the layout's kind, `by`: a call takes any
+// byte, and refuses by 11 those that are no kind's.
+#[tactic(auto, unfolding(crate::specs::Cases::called))]
+fn called(call: Call, answer: u8, by: u8, sheet: &[u8], m: Limits, rest: &[u8]) -> bool
+    ensures { result ≡ S.called call answer by sheet.now m rest.now }
 {
-    match kind {
-        60 => at_centres(60, answer, sheet, m, rest),
-        61 => layout_agrees(answer, by, sheet, m, rest),
-        62 => at_centres(62, answer, sheet, m, rest),
-        63 => list_agrees(answer, by, sheet, m, rest),
-        64 => check_is(answer, sheet, m),
-        65 => label_agrees(answer, sheet, m, rest),
-        66 => number_agrees(answer, rest),
-        67 => sheet_agrees(answer, sheet, m, rest),
-        _ => false,
+    match call {
+        Call::Route => at_centres(rest, |xs, ys, behind| {
+            route_agrees(answer, sheet, m, xs, ys, behind)
+        }),
+        Call::Layout => layout_agrees(answer, by, sheet, m, rest),
+        Call::Clutter => at_centres(rest, |xs, ys, behind| {
+            clutter_agrees(answer, sheet, m, xs, ys, behind)
+        }),
+        Call::List => list_agrees(answer, by, sheet, m, rest),
+        Call::Check => check_is(answer, sheet, m),
+        Call::LabelSize => label_agrees(answer, sheet, m, rest),
+        Call::WriteNum => number_agrees(answer, rest),
+        Call::WriteSheet => sheet_agrees(answer, sheet, m, rest),
     }
 }
 
 // A case of a call under the limits m.
-fn called_under(m: Limits, kind: u8, p: &[u8]) -> bool
-    ensures { result ≡ S.called_under m kind p.now }
+fn called_under(m: Limits, call: Call, p: &[u8]) -> bool
+    ensures { result ≡ S.called_under m call p.now }
 {
     let end = 6 + length_at(p, 2);
     if p.len() < end {
         return false;
     }
-    called(kind, byte(p, 0), byte(p, 1), &p[6..end], m, &p[end..])
+    called(call, byte(p, 0), byte(p, 1), &p[6..end], m, &p[end..])
 }
 
 // The limits at the front of a payload.
@@ -504,39 +495,22 @@ fn limits_at(p: &[u8]) -> Limits
     }
 }
 
-// The limits of a case: its own, or the main screen's.
-fn case_limits(kind: u8, p: &[u8]) -> Limits
-    ensures { result ≡ S.case_limits kind p.now }
+// A case of a call under the main screen's limits.
+pub fn agrees(call: Call, p: &[u8]) -> bool
+    ensures { result ≡ S.call_agrees call p.now }
 {
-    if kind == 68 {
-        return limits_at(p);
-    }
-    sheet::main_screen()
+    called_under(sheet::main_screen(), call, p)
 }
 
-// The kind of its call.
-fn case_kind(kind: u8, p: &[u8]) -> u8
-    ensures { result ≡ S.case_kind kind p.now }
+// A case that has limits, a call's byte and what that call's case has.
+pub fn agrees_under_limits(p: &[u8]) -> bool
+    ensures { result ≡ S.under_limits_agrees p.now }
 {
-    if kind == 68 {
-        return byte(p, 24);
-    }
-    kind
-}
-
-// The bytes before what the call's kind has.
-fn case_front(kind: u8) -> usize
-    ensures { result ≡ S.case_front kind }
-{
-    if kind == 68 { 25 } else { 0 }
-}
-
-pub fn agrees(kind: u8, p: &[u8]) -> bool
-    ensures { result ≡ S.call_agrees kind p.now }
-{
-    let at = case_front(kind);
-    if p.len() < at {
+    if p.len() < 25 {
         return false;
     }
-    called_under(case_limits(kind, p), case_kind(kind, p), &p[at..])
+    match Call::try_from(byte(p, 24)) {
+        Ok(call) => called_under(limits_at(p), call, &p[25..]),
+        Err(_) => false,
+    }
 }

@@ -1,5 +1,5 @@
 -- What stands in a case's payload, a list of bytes, and document 01's comparison of numbers.
-use Rattle.std.specs.Prelude.{ℕ, zero, suc, ◌+◌, ◌*◌, ◌%◌, ◌^◌, Bool, false, cond, ◌&&◌, List, [], ◌∷◌, length, ◌==◌, from_bits, slice_index, to_bits, Float}
+use Rattle.std.specs.Prelude.{ℕ, zero, suc, ◌+◌, ◌*◌, ◌%◌, ◌^◌, Bool, cond, ◌&&◌, List, [], ◌∷◌, length, ◌==◌, from_bits, slice_index, to_bits, Float}
 use Rattle.std.specs.Float.{binary64}
 use Rattle.float.specs.Constants.{f0}
 use Rattle.float.specs.Ops.{eq}
@@ -51,18 +51,3 @@ same_float p at v = alike (float_at p at) v
 -- the answer, a float, stands at a place, and nothing behind it
 unfoldable pub answer_stands : List ℕ → ℕ → Float → Bool
 answer_stands p at v = length p == at + 8 && same_float p at v
-
--- ---- cases by their kind
-
--- a kind of case, and whether a payload of that kind holds the right answer
-pub record Row : Type 0 where
-  pub kind : ℕ
-  pub right : Bool
-
-abbrev pub kind_row : ℕ → Bool → Row
-kind_row k b = record { kind = k; right = b }
-
--- the row of a kind; a kind that is not listed is never right
-unfoldable pub row_right : ℕ → List Row → Bool
-row_right k [] = false
-row_right k (r ∷ rows) = let rest = row_right k rows in cond (k == r.kind) r.right rest

@@ -1,4 +1,4 @@
-// Reading the cases that the program `vectors` compares. A case's payload is a slice of bytes; a
+// Reading the cases that the program `vectors` compares: their kinds, and what is in them. A case's payload is a slice of bytes; a
 // read past its end gives 0, so a payload that is too short is found by its length, not here.
 #![tactic(auto)]
 
@@ -6,13 +6,16 @@ ghost use Rattle.std.specs.Prelude.{◌≡◌, ℕ, ◌<◌, length, from_bits};
 ghost use Rattle.std.specs.Float.{binary64};
 ghost use Rattle.cases.specs.Payload as S;
 
+mod kind;
+
+pub use kind::{Call, Kind, StandIn, UnknownKind};
 use root::{INFINITY_BITS, SIGN};
 
 // The place n bytes on.
 fn after(at: usize, n: usize) -> usize
     ensures { result ≡ S.after at n }
 {
-    std::num::wrapping_add_usize(at, n)
+    at.wrapping_add(n)
 }
 
 // The byte at a place.
@@ -75,7 +78,7 @@ pub fn float(p: &[u8], at: usize) -> f64
 }
 
 // What `read` has at places eight bytes apart, from one on, as many as `out` holds.
-fn fill<T: Copy, F: Fn(usize) -> T>(at: usize, out: &mut [T], read: F)
+pub fn fill<T: Copy, F: Fn(usize) -> T>(at: usize, out: &mut [T], read: F)
     requires { F.IsAlwaysCallable read }
     ensures { (r : ℕ → T) → ((place x : _) → F.post read place x → x ≡ r place) → out.new ≡ S.each 8 r at (length out.old) }
 {
@@ -84,32 +87,6 @@ fn fill<T: Copy, F: Fn(usize) -> T>(at: usize, out: &mut [T], read: F)
         *value = read(from);
         from = after(from, 8);
     }
-}
-
-// The floats from a place on, as many as `out` holds.
-pub fn fill_floats(p: &[u8], at: usize, out: &mut [f64])
-    ensures { out.new ≡ S.floats_at p.now at (length out.old) }
-{
-    fill(
-        at,
-        out,
-        |place: usize| -> f64
-            ensures { result ≡ S.float_at p.entry.now place }
-        { float(p, place) },
-    );
-}
-
-// The lengths from a place on, as many as `out` holds.
-pub fn fill_sizes(p: &[u8], at: usize, out: &mut [usize])
-    ensures { out.new ≡ S.sizes_at p.now at (length out.old) }
-{
-    fill(
-        at,
-        out,
-        |place: usize| -> usize
-            ensures { result ≡ S.bits_at p.entry.now place }
-        { size(p, place) },
-    );
 }
 
 // Bit for bit, but zeros of either sign are equal; NaN is the one NaN. `==` of floats says neither, and no order of theirs does.

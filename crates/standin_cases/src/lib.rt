@@ -4,7 +4,7 @@
 ghost use Rattle.std.specs.Prelude.{◌≡◌};
 ghost use Rattle.standin_cases.specs.Cases as S;
 
-use cases::{answered, byte, float as at};
+use cases::{StandIn, answered, byte, float as at};
 use std::cmp::Ordering;
 
 fn number(o: Ordering) -> u8
@@ -27,57 +27,27 @@ fn ordered(p: &[u8], o: Ordering) -> bool
     byte(p, 16) == number(o)
 }
 
-#[tactic(auto, unfolding(crate::specs::Cases::one_agrees, cases::specs::Payload::row_right))]
-fn one_agrees(kind: u8, p: &[u8]) -> bool
-    ensures { result ≡ S.one_agrees kind p.now }
+// Whether the answer that a case has behind the arguments is the stand-in's.
+#[tactic(auto, unfolding(crate::specs::Cases::standin_agrees))]
+pub fn agrees(stand_in: StandIn, p: &[u8]) -> bool
+    ensures { result ≡ S.standin_agrees stand_in p.now }
 {
-    match kind {
-        1 => answered(p, 8, float::root(at(p, 0))),
-        4 => answered(p, 8, float::rem_euclid(at(p, 0))),
-        5 => answered(p, 8, float::sin(at(p, 0))),
-        6 => answered(p, 8, float::cos(at(p, 0))),
-        10 => answered(p, 8, float::round(at(p, 0))),
-        11 => answered(p, 8, float::abs(at(p, 0))),
-        13 => answered(p, 8, float::signum(at(p, 0))),
-        16 => answered(p, 8, remainder::rem_tau(at(p, 0))),
-        _ => false,
+    match stand_in {
+        StandIn::Root => answered(p, 8, float::root(at(p, 0))),
+        StandIn::Hypot => answered(p, 16, float::hypot(at(p, 0), at(p, 8))),
+        StandIn::Midpoint => answered(p, 16, float::midpoint(at(p, 0), at(p, 8))),
+        StandIn::RemEuclid => answered(p, 8, float::rem_euclid(at(p, 0))),
+        StandIn::Sin => answered(p, 8, float::sin(at(p, 0))),
+        StandIn::Cos => answered(p, 8, float::cos(at(p, 0))),
+        StandIn::Atan2 => answered(p, 16, float::atan2(at(p, 0), at(p, 8))),
+        StandIn::Min => answered(p, 16, float::min(at(p, 0), at(p, 8))),
+        StandIn::Max => answered(p, 16, float::max(at(p, 0), at(p, 8))),
+        StandIn::Round => answered(p, 8, float::round(at(p, 0))),
+        StandIn::Abs => answered(p, 8, float::abs(at(p, 0))),
+        StandIn::Clamp => answered(p, 24, float::clamp(at(p, 0), at(p, 8), at(p, 16))),
+        StandIn::Signum => answered(p, 8, float::signum(at(p, 0))),
+        StandIn::Copysign => answered(p, 16, float::copysign(at(p, 0), at(p, 8))),
+        StandIn::TotalCmp => ordered(p, float::total_cmp(at(p, 0), at(p, 8))),
+        StandIn::RemTau => answered(p, 8, remainder::rem_tau(at(p, 0))),
     }
-}
-
-fn two_agrees(kind: u8, p: &[u8]) -> bool
-    ensures { result ≡ S.two_agrees kind p.now }
-{
-    let a = at(p, 0);
-    let b = at(p, 8);
-    match kind {
-        2 => answered(p, 16, float::hypot(a, b)),
-        3 => answered(p, 16, float::midpoint(a, b)),
-        7 => answered(p, 16, float::atan2(a, b)),
-        8 => answered(p, 16, float::min(a, b)),
-        9 => answered(p, 16, float::max(a, b)),
-        14 => answered(p, 16, float::copysign(a, b)),
-        15 => ordered(p, float::total_cmp(a, b)),
-        _ => false,
-    }
-}
-
-fn clamp_agrees(kind: u8, p: &[u8]) -> bool
-    ensures { result ≡ S.clamp_agrees kind p.now }
-{
-    if kind != 12 {
-        return false;
-    }
-    answered(p, 24, float::clamp(at(p, 0), at(p, 8), at(p, 16)))
-}
-
-pub fn agrees(kind: u8, p: &[u8]) -> bool
-    ensures { result ≡ S.standin_agrees kind p.now }
-{
-    if one_agrees(kind, p) {
-        return true;
-    }
-    if two_agrees(kind, p) {
-        return true;
-    }
-    clamp_agrees(kind, p)
 }

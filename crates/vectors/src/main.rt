@@ -2,49 +2,58 @@
 // how many there were and how many differ. `oracle/README.md` says how the stream is made.
 #![tactic(auto)]
 
+ghost use Rattle.vectors.specs.Count.{AddsCounts};
+
+use cases::Kind;
 use std::io::Read;
+use std::ops::AddAssign;
 use std::{fmt, io};
 
 // One case more than any stream has; a longer stream counts as cut short.
 const MOST: u32 = 1000000;
 
-// The kinds of cases of the stand-ins, from 0 on, and of the calls, from 60 on.
-const STAND_INS: [&str; 17] = [
-    "none",
-    "root",
-    "hypot",
-    "midpoint",
-    "rem_euclid",
-    "sin",
-    "cos",
-    "atan2",
-    "min",
-    "max",
-    "round",
-    "abs",
-    "clamp",
-    "signum",
-    "copysign",
-    "total_cmp",
-    "rem_tau",
-];
+// What a case is, by its first byte.
+#[derive(Clone, Copy)]
+enum Entry {
+    // 0: the stream ends here.
+    End,
+    // An answer of the oracle.
+    Answer(Kind),
+    // 255: a kind and its payload with another answer; there the program must not agree.
+    Spoiled,
+    // A byte that no kind has; such a case differs.
+    Unknown,
+}
 
-const CALLS: [&str; 9] = [
-    "route",
-    "layout",
-    "clutter",
-    "list",
-    "check",
-    "label_size",
-    "write_num",
-    "write_sheet",
-    "under_limits",
-];
+impl From<u8> for Entry {
+    fn from(number: u8) -> Entry {
+        match number {
+            0 => Entry::End,
+            255 => Entry::Spoiled,
+            _ => match Kind::try_from(number) {
+                Ok(kind) => Entry::Answer(kind),
+                Err(_) => Entry::Unknown,
+            },
+        }
+    }
+}
 
-// A case that was read.
+impl fmt::Display for Entry {
+    fn fmt<W: fmt::Write>(&self, f: &mut fmt::Formatter<W>) -> fmt::Result {
+        match self {
+            Entry::End => f.pad("end"),
+            Entry::Answer(kind) => kind.fmt(f),
+            Entry::Spoiled => f.pad("spoiled"),
+            Entry::Unknown => f.pad("no such kind"),
+        }
+    }
+}
+
+// A case that was read. Cases are counted by their first byte, `number`, also where no kind has it.
 #[derive(Clone, Copy)]
 struct Case<'a> {
-    kind: u8,
+    number: u8,
+    entry: Entry,
     payload: &'a [u8],
 }
 
@@ -60,8 +69,13 @@ impl Count {
         cases: 0,
         differ: 0,
     };
+}
 
-    fn add(&mut self, more: Count) {
+// Modulo 2^64, which no stream reaches, so that no bound has to be carried.
+impl AddAssign for Count {
+    ghost add_assign_gives = { AddsCounts };
+
+    fn add_assign(&mut self, more: Count) {
         self.cases = self.cases.wrapping_add(more.cases);
         self.differ = self.differ.wrapping_add(more.differ);
     }
@@ -103,28 +117,37 @@ fn next<'a, R: Read>(from: &mut R, buffer: &'a mut [u8]) -> Option<Case<'a>> {
     let payload = buffer.get_mut(..length)?;
     from.read_exact(payload).ok()?;
     Some(Case {
-        kind: head[0],
+        number: head[0],
+        entry: Entry::from(head[0]),
         payload,
     })
 }
 
-// Whether the program's answer to a case is the oracle's: below 60 the stand-ins, from there on the
-// calls.
-fn agrees(kind: u8, p: &[u8]) -> bool {
-    if kind < 60 {
-        return standin_cases::agrees(kind, p);
+// Whether the program's answer to a case is the oracle's.
+fn agrees(kind: Kind, p: &[u8]) -> bool {
+    match kind {
+        Kind::StandIn(stand_in) => standin_cases::agrees(stand_in, p),
+        Kind::Call(call) => call_cases::agrees(call, p),
+        Kind::UnderLimits => call_cases::agrees_under_limits(p),
     }
-    call_cases::agrees(kind, p)
 }
 
-// A spoiled case is a kind and its payload with another answer; there the program must not agree.
-fn holds(case: &Case) -> bool {
-    if case.kind != 255 {
-        return agrees(case.kind, case.payload);
-    }
-    match case.payload.split_first() {
+// Of a spoiled case: where no kind has the byte, the program does not agree.
+fn disagrees(p: &[u8]) -> bool {
+    match p.split_first() {
         None | Some((0, _)) => false,
-        Some((kind, rest)) => !agrees(*kind, rest),
+        Some((number, rest)) => match Kind::try_from(*number) {
+            Ok(kind) => !agrees(kind, rest),
+            Err(_) => true,
+        },
+    }
+}
+
+fn holds(case: &Case) -> bool {
+    match case.entry {
+        Entry::Answer(kind) => agrees(kind, case.payload),
+        Entry::Spoiled => disagrees(case.payload),
+        Entry::End | Entry::Unknown => false,
     }
 }
 
@@ -134,38 +157,29 @@ fn compare_all<R: Read>(from: &mut R, counts: &mut [Count; 256]) -> Ending {
         let Some(case) = next(from, &mut buffer) else {
             return Ending::CutShort;
         };
-        if case.kind == 0 {
+        if let Entry::End = case.entry {
             if cases::bits(case.payload, 0) == u64::from(done) {
                 return Ending::Complete;
             }
             return Ending::OtherNumber;
         }
         let differ = u64::from(!holds(&case));
-        counts[usize::from(case.kind)].add(Count { cases: 1, differ });
+        counts[usize::from(case.number)] += Count { cases: 1, differ };
     }
     Ending::CutShort
 }
 
 // ---- what the program prints
 
-fn name(kind: u8) -> &'static str {
-    match kind {
-        0..=16 => STAND_INS[usize::from(kind)],
-        60..=68 => CALLS[usize::from(kind - 60)],
-        255 => "spoiled",
-        _ => "no such kind",
-    }
-}
-
 // A line for each kind that the stream has, and the sum.
 fn report_all(rt: &impl Print, counts: &[Count; 256]) -> io::Result<()> {
     let mut all = Count::NONE;
-    for kind in 1..=255u8 {
-        let count = counts[usize::from(kind)];
+    for number in 1..=255u8 {
+        let count = counts[usize::from(number)];
         if count.cases != 0 {
-            println!(rt; "{:20}: {}", name(kind), count)?;
+            println!(rt; "{:20}: {}", Entry::from(number), count)?;
         }
-        all.add(count);
+        all += count;
     }
     println!(rt; "in all: {all}")
 }

@@ -5,28 +5,36 @@ use native.Mathlib.Omega.{arith}
 use lib.Seq.{length-take-le}
 use borrow.Author.Tests.{le-leb, lt-leb}
 use Rattle.cases.specs.Laws.{part-tail}
-use Rattle.call_cases.specs.Cases.{drawn_agrees, at_centres}
+use Rattle.call_cases.specs.Cases.{at_centres}
+use Rattle.cases.specs.Payload.{float_at}
+use Rattle.std.proofs.Common.{rules}
 use Rattle.call_cases.specs.Laws.{first_floats, of_three}
 use Rattle.call_cases.proofs.at_centres.Goals as goal
 
 pub returns-then-nx-gt80 : goal.returns-then-nx-gt80
 unfolding at_centres
-returns-then-nx-gt80 c = rw (← c.index-nx.ensures.0, lt-leb _ _ c.if-nx-gt80.true)
+returns-then-nx-gt80 g c good e = rw (← c.index-nx.ensures.0, lt-leb _ _ c.if-nx-gt80.true)
 
 pub returns-then-ny-gt80 : goal.returns-then-ny-gt80
 unfolding at_centres
-returns-then-ny-gt80 c = rw (← c.index-nx.ensures.0, ← c.index-ny.ensures.0, le-leb _ _ c.if-nx-gt80.false, lt-leb _ _ c.if-ny-gt80.true)
+returns-then-ny-gt80 g c good e = rw (← c.index-nx.ensures.0, ← c.index-ny.ensures.0, le-leb _ _ c.if-nx-gt80.false, lt-leb _ _ c.if-ny-gt80.true)
 
 pub returns-then-rest-end : goal.returns-then-rest-end
 unfolding at_centres
-returns-then-rest-end c = rw (← c.index-nx.ensures.0, ← c.index-ny.ensures.0, le-leb _ _ c.if-nx-gt80.false, le-leb _ _ c.if-ny-gt80.false, lt-leb _ _ c.if-rest-end.true)
+returns-then-rest-end g c good e = rw (← c.index-nx.ensures.0, ← c.index-ny.ensures.0, le-leb _ _ c.if-nx-gt80.false, le-leb _ _ c.if-ny-gt80.false, lt-leb _ _ c.if-rest-end.true)
 
-pub slice_bounds-drawn_agrees-end : goal.slice_bounds-drawn_agrees-end
-slice_bounds-drawn_agrees-end c = sym (length-take-le _ _ (omega arith))
+pub slice_bounds-drawn-end : goal.slice_bounds-drawn-end
+slice_bounds-drawn-end g c = sym (length-take-le _ _ (omega arith))
 
-pub slice_bounds-drawn_agrees-end-2 : goal.slice_bounds-drawn_agrees-end-2
-slice_bounds-drawn_agrees-end-2 c = sym (length-take-le _ _ (omega arith))
+pub slice_bounds-drawn-end-2 : goal.slice_bounds-drawn-end-2
+slice_bounds-drawn-end-2 g c = sym (length-take-le _ _ (omega arith))
 
 pub returns : goal.returns
 unfolding at_centres
-returns c = rw (← c.index-nx.ensures.0, ← c.index-ny.ensures.0, le-leb _ _ c.if-nx-gt80.false, le-leb _ _ c.if-ny-gt80.false, le-leb _ _ c.if-rest-end.false) (c.drawn_agrees.ensures ∙ of_three (drawn_agrees c.args.kind c.args.answer c.args.sheet.now c.args.m) _ _ _ _ _ _ (first_floats c.args.rest.now 4 c.index-nx.result 80 _ c.fill_floats.ensures c.if-nx-gt80.false) (first_floats c.args.rest.now (4 + 8 * c.index-nx.result) c.index-ny.result 80 _ c.fill_floats-2.ensures c.if-ny-gt80.false) (part-tail (4 + 8 * c.index-nx.result + 8 * c.index-ny.result) c.args.rest.now))
+returns g c good e =
+    let a = c.args in
+    rw (← c.index-nx.ensures.0, ← c.index-ny.ensures.0, le-leb _ _ c.if-nx-gt80.false, le-leb _ _ c.if-ny-gt80.false, le-leb _ _ c.if-rest-end.false)
+    (e _ _ _ c.drawn.result c.drawn.ensures ∙ of_three good _ _ _ _ _ _
+    (first_floats a.rest.now 4 c.index-nx.result 80 _ (c.fill.ensures (float_at a.rest.now) (λ x y p. search rules)) c.if-nx-gt80.false)
+    (first_floats a.rest.now (4 + 8 * c.index-nx.result) c.index-ny.result 80 _ (c.fill-2.ensures (float_at a.rest.now) (λ x y p. search rules)) c.if-ny-gt80.false)
+    (part-tail (4 + 8 * c.index-nx.result + 8 * c.index-ny.result) a.rest.now))

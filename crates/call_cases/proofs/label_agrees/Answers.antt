@@ -23,4 +23,4 @@ slice_bounds-label_size-end c = sym (length-take-le _ _ (omega arith))
 
 pub returns : goal.returns
 unfolding label_agrees
-returns c = rw (← c.index-lines.ensures.0, le-leb _ _ c.if-lines-gt16.false) (c.outcome_is.ensures (size_is c.args.rest.now) (λ v b p. search rules) ∙ ap (λ (o : Outcome (Float × Float)). outcome_right c.args.answer (size_is c.args.rest.now) o) (c.label_size.ensures ∙ ap (λ (l : List ℕ). label_size c.args.text.now l c.args.m) (ap (take c.index-lines.result) c.fill_sizes.ensures ∙ each_first 8 (bits_at c.args.rest.now) 18 c.index-lines.result 16 c.if-lines-gt16.false)))
+returns c = rw (← c.index-lines.ensures.0, le-leb _ _ c.if-lines-gt16.false) (c.outcome_is.ensures (size_is c.args.rest.now) (λ v b p. search rules) ∙ ap (λ (o : Outcome (Float × Float)). outcome_right c.args.answer (size_is c.args.rest.now) o) (c.label_size.ensures ∙ ap (λ (l : List ℕ). label_size c.args.text.now l c.args.m) (ap (take c.index-lines.result) (c.fill.ensures (bits_at c.args.rest.now) (λ x y p. search rules)) ∙ each_first 8 (bits_at c.args.rest.now) 18 c.index-lines.result 16 c.if-lines-gt16.false)))
