@@ -16,7 +16,3 @@ leads arrows a b = list_any (leads_from a b) arrows
 
 abbrev pub ends_by : ℕ → ℕ → Ends
 ends_by a b = record { source = a; target = b }
-
--- arrow k leads from the k-th source to the k-th target
-abbrev pub arrows_by : List ℕ → List ℕ → List Ends
-arrows_by sources targets = zip_by ends_by sources targets

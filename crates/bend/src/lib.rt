@@ -192,7 +192,7 @@ fn bend(nodes: &[V], c: Chord, both_ways: bool) -> f64
     requires few { length nodes.now ≤ 64 }
     ensures { result ≡ B.bend c nodes.now both_ways }
 {
-    let mut room = [Span { lo: 0.0, hi: 0.0 }; 64];
+    let mut room = [Span::NONE; 64];
     let spans = free::blocked(nodes, c, &mut room);
     bend_past(nodes, c, spans, both_ways)
 }

@@ -16,7 +16,7 @@ fn pair_beyond(nodes: &[V], c: Chord) -> bool
     requires { length nodes.now ≤ 64 }
     ensures { result ≡ S.pair_beyond c nodes.now }
 {
-    let mut room = [Span { lo: 0.0, hi: 0.0 }; 64];
+    let mut room = [Span::NONE; 64];
     let up = bend::pair_up(c, free::blocked(nodes, c, &mut room));
     up > 1e9
 }

@@ -12,28 +12,10 @@ ghost use Rattle.calls.specs.Listed as F;
 ghost use Rattle.calls.specs.Saved as W;
 
 use drawing_text::Listing;
-use label_spots::{Anchor, Geometry};
+use label_spots::Geometry;
 use refusal::Refusal;
-use shape::{Curve, Rect, V};
+use shape::V;
 use sheet::Limits;
-
-// What fills the room for centres, and the room for what is drawn.
-const ORIGIN: V = V { x: 0.0, y: 0.0 };
-
-const NO_GEOMETRY: Geometry = Geometry {
-    edge: 0,
-    curve: Curve::Line(ORIGIN, ORIGIN),
-    tip: ORIGIN,
-    tip_angle: 0.0,
-    label: ORIGIN,
-    anchor: Anchor::Start,
-    label_box: Rect {
-        x0: 0.0,
-        y0: 0.0,
-        x1: 0.0,
-        y1: 0.0,
-    },
-};
 
 // ---- limits
 
@@ -119,7 +101,7 @@ pub fn route(
 {
     let m = capped_limits(limits);
     let centres = draw::given(xs, ys);
-    let mut room = [NO_GEOMETRY; 256];
+    let mut room = [Geometry::NONE; 256];
     let drawn = draw_in(sheet, m, &centres, &mut room)?;
     outputs::write_route(drawn, records, text)
 }
@@ -132,10 +114,10 @@ pub fn clutter(sheet: &[u8], limits: Limits, xs: &[f64], ys: &[f64]) -> Result<u
 {
     let m = capped_limits(limits);
     let centres = draw::given(xs, ys);
-    let mut room = [NO_GEOMETRY; 256];
+    let mut room = [Geometry::NONE; 256];
     let drawn = draw_in(sheet, m, &centres, &mut room)?;
     let n = meaning::state_count(sheet);
-    let mut space = [ORIGIN; 64];
+    let mut space = [V::ORIGIN; 64];
     let nodes = &mut space[..n];
     curves::zeroed(&centres[..n], nodes);
     Ok(clutter::clutter(nodes, drawn))
@@ -158,7 +140,7 @@ pub fn layout(
         × (ys.new ≡ S.ys_after sheet.now limits kind xRoom ys.old) }
 {
     let m = capped_limits(limits);
-    let mut centres = [ORIGIN; 64];
+    let mut centres = [V::ORIGIN; 64];
     let (states, width, height) = plan::plan(sheet, m, kind, &mut centres)?;
     outputs::write_layout(&centres[..states], width, height, xs, ys)
 }
@@ -185,7 +167,7 @@ fn list_by(
     let mut space = [0u8; 64];
     let flags = &mut space[..centres.len()];
     meaning::flags_into(sheet, flags);
-    let mut room = [NO_GEOMETRY; 256];
+    let mut room = [Geometry::NONE; 256];
     let drawn = draw_in(sheet, m, centres, &mut room)?;
     let listing = Listing {
         width,
@@ -204,7 +186,7 @@ pub fn list(sheet: &[u8], limits: Limits, kind: u8, out: &mut [u8]) -> Result<us
         × (out.new ≡ S.list_after sheet.now limits kind out.old) }
 {
     let m = capped_limits(limits);
-    let mut centres = [ORIGIN; 64];
+    let mut centres = [V::ORIGIN; 64];
     let (n, width, height) = plan::plan(sheet, m, kind, &mut centres)?;
     list_by(sheet, m, width, height, &centres[..n], out)
 }

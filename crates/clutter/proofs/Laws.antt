@@ -78,7 +78,7 @@ module _ (cs : List «V») (ts : List Trace) (gs : List Geometry) (i : ℕ) wher
   unfolding collisions
   collisions-step x d t a b h f e k =
       let all : collisions cs ts (take i gs) (drop i gs) ≡ cond t 1 0 + collisions cs ts (take (i + 1) gs) (drop (i + 1) gs) =
-            rw (drop_next gs i d h, e, ← f) (ap (λ (l : List Geometry). cond t 1 0 + collisions cs ts l (drop (i + 1) gs)) (sym (take_more gs i d h ∙ ap (λ (y : Geometry). take i gs ++ (y ∷ [])) e))) in
+      rw (drop_next gs i d h, e, ← f) (ap (λ (l : List Geometry). cond t 1 0 + collisions cs ts l (drop (i + 1) gs)) (sym (take_more gs i d h ∙ ap (λ (y : Geometry). take i gs ++ (y ∷ [])) e))) in
       omega arith
 
   pub collisions-end : (a : ℕ) → length gs ≤ i → a ≡ a + collisions cs ts (take i gs) (drop i gs)

@@ -9,7 +9,7 @@ ghost use Rattle.clutter.specs.Clutter as S;
 
 use label_spots::Geometry;
 use shape::{NODE_RADIUS, Rect, V};
-use trace::{NO_TRACE, Trace};
+use trace::Trace;
 
 // The square of the distance below which a state is too near to a label that is drawn.
 const NEAR24_SQUARED: f64 = (NODE_RADIUS + 2.0) * (NODE_RADIUS + 2.0);
@@ -110,7 +110,7 @@ pub fn clutter(nodes: &[V], drawn: &[Geometry]) -> usize
     requires { length drawn.now ≤ 256 }
     ensures { result ≡ S.clutter_of nodes.now drawn.now }
 {
-    let mut room = [NO_TRACE; 256];
+    let mut room = [Trace::NONE; 256];
     let traces = traces_of(drawn, &mut room);
     let pairs = crossings(traces);
     let labels = collisions(nodes, traces, drawn);

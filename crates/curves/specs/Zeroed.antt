@@ -20,8 +20,3 @@ zeroed_points cs = let xs : List Float = map (λ c. c.x) cs in
     let ys : List Float = map (λ c. c.y) cs in
     sym (table_of (centre_at xs ys) centre_zeroed cs (vec f0 f0)
     (λ k l. ap₂ (λ (x y : Float). vec (or_zero x) (or_zero y)) (get_or-map (λ (c : «V»). c.x) cs k (vec f0 f0)) (get_or-map (λ (c : «V»). c.y) cs k (vec f0 f0))))
-
--- of points that are given by their x and their y
-pub zeroed_centres : (xs ys : List Float) → length ys ≡ length xs → map centre_zeroed (centres xs ys) ≡ centres_at xs ys (length xs)
-zeroed_centres xs ys h = zeroed_points (centres xs ys)
-    ∙ rw (map_zip_first vec (λ c. c.x) (λ a b. refl) xs ys h, map_zip_second vec (λ c. c.y) (λ a b. refl) xs ys h, zip_length vec xs ys h) refl

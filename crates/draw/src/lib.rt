@@ -15,19 +15,6 @@ use refusal::Refusal;
 use shape::V;
 use sheet::{Ends, Limits};
 
-// What fills the space for centres, ends and sizes.
-const ORIGIN: V = V { x: 0.0, y: 0.0 };
-
-const NO_ENDS: Ends = Ends {
-    source: 0,
-    target: 0,
-};
-
-const NO_SIZE: Block = Block {
-    width: 0.0,
-    height: 0.0,
-};
-
 // ---- 8
 
 // 2^20, beyond which 8 refuses a centre.
@@ -68,10 +55,10 @@ fn draw_near(
         × (out.new ≡ S.left_by refusals graph xs ys out.old) }
 {
     let mut flags = [0u8; 64];
-    let mut arrows = [NO_ENDS; 256];
-    let mut sizes = [NO_SIZE; 256];
+    let mut arrows = [Ends::NONE; 256];
+    let mut sizes = [Block::NONE; 256];
     graph::read_graph(s, &mut flags[..n], &mut arrows[..m], &mut sizes[..m]);
-    let mut counted = [ORIGIN; 64];
+    let mut counted = [V::ORIGIN; 64];
     let there = n.min(centres.len());
     curves::zeroed(&centres[..there], &mut counted[..there]);
     let frame = Frame {
@@ -130,7 +117,7 @@ fn number_given(l: &[f64], k: usize) -> f64
 pub fn given(xs: &[f64], ys: &[f64]) -> [V; 64]
     ensures { result ≡ given xs.now ys.now }
 {
-    let mut centres = [ORIGIN; 64];
+    let mut centres = [V::ORIGIN; 64];
     for k in 0..64 {
         centres[k] = V::new(number_given(xs, k), number_given(ys, k));
     }

@@ -94,12 +94,6 @@ unfolding lines_text
 adds-both xs ys u v = adds_as (sym (flat_join line_text xs ys)) (adds-more u v)
 
 -- ---- a test, and then another
--- the same where r is what the code found, and its negation was tested
-pub and-passed : {a r b t : Bool} → r ≡ a → not r ≡ false → t ≡ b → t ≡ (a && b)
-and-passed {r = r} e n f = and_yes (sym e ∙ not-false r n) f
-
-pub and_stopped : {a r : Bool} (b : Bool) → r ≡ a → not r ≡ true → false ≡ (a && b)
-and_stopped {r = r} b e n = and_no b (sym e ∙ not-true r n)
 
 -- the last test of all
 pub last : {a r : Bool} → r ≡ a → r ≡ (a && true)

@@ -101,6 +101,9 @@ pub enum Search {
 }
 
 impl Span {
+    // What fills room before there is an interval.
+    pub const NONE: Span = Span { lo: 0.0, hi: 0.0 };
+
     // Whether h lies inside the open interval.
     fn contains(self, h: f64) -> bool
         ensures { result ≡ F.inside self h }

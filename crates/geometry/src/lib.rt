@@ -11,19 +11,11 @@ use label::Block;
 use label_spots::Geometry;
 use shape::Rect;
 use stack::Stack;
-use trace::NO_TRACE;
+use trace::Trace;
 use turns::Drawing;
 
 // A small sheet has at most so many states and so many arrows.
 const FEW: usize = 32;
-
-// What fills the space for boxes.
-const NO_BOX: Rect = Rect {
-    x0: 0.0,
-    y0: 0.0,
-    x1: 0.0,
-    y1: 0.0,
-};
 
 // The drawing in space for so many arrows, boxes and traces; how many records it has.
 fn draw<const ARROWS: usize, const BOXES: usize, const TRACES: usize>(
@@ -43,8 +35,8 @@ fn draw<const ARROWS: usize, const BOXES: usize, const TRACES: usize>(
 {
     let mut laid: Stack<Laid, ARROWS> = Stack::new(Laid::LeftOut);
     let mut drawing: Drawing<ARROWS, BOXES, TRACES> = Drawing {
-        boxes: Stack::new(NO_BOX),
-        traces: Stack::new(NO_TRACE),
+        boxes: Stack::new(Rect::NONE),
+        traces: Stack::new(Trace::NONE),
         drawn: [None; ARROWS],
     };
     frame.lay(&mut laid, &mut drawing.traces);

@@ -38,6 +38,14 @@ pub struct Block {
     pub height: f64,
 }
 
+impl Block {
+    // What fills room before there is a label.
+    pub const NONE: Block = Block {
+        width: 0.0,
+        height: 0.0,
+    };
+}
+
 // Whether a code point is an accent, one of U+0300 to U+036F.
 fn is_accent(c: u32) -> bool
     ensures { result ≡ S.accent c }

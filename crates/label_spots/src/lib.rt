@@ -56,6 +56,19 @@ pub struct Geometry {
     pub label_box: Rect,
 }
 
+impl Geometry {
+    // What fills room before there is a record.
+    pub const NONE: Geometry = Geometry {
+        edge: 0,
+        curve: Curve::Line(V::ORIGIN, V::ORIGIN),
+        tip: V::ORIGIN,
+        tip_angle: 0.0,
+        label: V::ORIGIN,
+        anchor: Anchor::Start,
+        label_box: Rect::NONE,
+    };
+}
+
 // Along a straight arrow, and whether above it; best first.
 const LINE_AT: [f64; 10] = [0.5, 0.5, 0.36, 0.64, 0.36, 0.64, 0.24, 0.76, 0.24, 0.76];
 

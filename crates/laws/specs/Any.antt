@@ -84,27 +84,6 @@ module _ {A : Type 0} (p : A → Bool) where
   any_without (x ∷ l) zero d e = rw e
   any_without (x ∷ l) (suc k) d e = ap (λ (b : Bool). p x || b) (any_without l k d e)
 
--- ---- a search among the first n of a list, step by step
-module _ {A : Type 0} (p : A → Bool) (d : A) (l : List A) (i : ℕ) where
-  pub any_step : (n : ℕ) → i < length l → 0 < n → p (get_or l i d) ≡ false → any_of p (take (n - 1) (drop (i + 1) l)) ≡ any_of p (take n (drop i l))
-  unfolding any_of
-  any_step zero h k e = absurd (not-suc-le-zero k)
-  any_step (suc n) h k e = let m : suc n - 1 ≡ n = omega arith in rw (drop-cons l i d h, m, add-one, e)
-
-  pub any_found : (n : ℕ) → i < length l → 0 < n → p (get_or l i d) ≡ true → true ≡ any_of p (take n (drop i l))
-  unfolding any_of
-  any_found zero h k e = absurd (not-suc-le-zero k)
-  any_found (suc n) h k e = rw (drop-cons l i d h, e)
-
-  pub any_end : (n : ℕ) → n ≤ 0 → false ≡ any_of p (take n (drop i l))
-  unfolding any_of
-  any_end zero h = refl
-  any_end (suc n) h = absurd (not-suc-le-zero h)
-
-  pub any_past : (n : ℕ) → length l ≤ i → false ≡ any_of p (take n (drop i l))
-  unfolding any_of
-  any_past n h = rw (drop_of_length-le l h, take-nil n)
-
 -- ---- another test, and lists made of others
 pub any_wider : {A : Type 0} (p q : A → Bool) (l : List A) → ((x : A) → p x ≡ true → q x ≡ true) → any_of p l ≡ true → any_of q l ≡ true
 unfolding any_of

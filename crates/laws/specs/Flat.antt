@@ -39,20 +39,9 @@ module _ {A : Type 0} where
   pub table_more : (f : ℕ → A) (n : ℕ) → table f 0 n ++ (f n ∷ []) ≡ table f 0 (n + 1)
   table_more f n = sym (rw (add-one, table_snoc, zero-add))
 
-  -- a run stored after a part leaves the part
-  pub part_before : (w at : ℕ) (xs : List A) (i : ℕ) (vs : List A) → at + w ≤ i → take w (drop at (put xs i vs)) ≡ take w (drop at xs)
-  unfolding put
-  part_before w at xs i [] h = refl
-  part_before w at xs i (a ∷ vs) h =
-      let e : i ≡ at + (i - at) = omega arith in
-      part_before w at (set xs i a) (suc i) vs (omega arith)
-      ∙ ap (λ (m : ℕ). take w (drop at (set xs m a))) e
-      ∙ rw (drop-set-add at xs (i - at) a, take-set-le w (drop at xs) (i - at) a (omega arith))
-
   -- a run is read back where it was stored
   pub part-new : (w at : ℕ) (xs vs : List A) → length vs ≡ w → at + w ≤ length xs → take w (drop at (put xs at vs)) ≡ vs
   part-new w at xs vs e h =
       ap (λ (l : List A). take w (drop at l)) (put-eq xs at vs (omega arith) ∙ append_assoc (take at xs) vs (drop (at + length vs) xs))
       ∙ ap (take w) (drop_at (take at xs) (vs ++ drop (at + length vs) xs) at (length-take-le at xs (omega arith)))
       ∙ take_at vs (drop (at + length vs) xs) w e
-

@@ -33,9 +33,6 @@ take-le zero l = omega arith
 take-le (suc k) [] = omega arith
 take-le (suc k) (x ∷ l) = omega (arith, take-le k l)
 
-pub part-le : {A : Type 0} (a k : ℕ) (l : List A) → length (take k (drop a l)) ≤ length l
-part-le a k l = omega (arith, take-le k (drop a l), length-drop a l)
-
 pub drop-take : {A : Type 0} (k m : ℕ) (l : List A) → drop k (take m l) ≡ take (m - k) (drop k l)
 drop-take zero m l = rw sub-zero
 drop-take (suc k) zero l = rw zero-sub

@@ -116,7 +116,3 @@ module _ {A B : Type 0} (g : A → B → A) (d : B) where
   unfolding steps_from over
   turns-over [] a = refl
   turns-over (x ∷ l) a = shift x l (length l) 0 (g a x) ∙ turns-over l (g a x)
-
-  pub up-over : (l : List B) (a : A) → up (λ j b. g b (get_or l j d)) 0 (length l) a ≡ over g a l
-  unfolding up
-  up-over l a = rw (sub-zero (length l)) (turns-over l a)

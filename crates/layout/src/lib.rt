@@ -11,9 +11,9 @@ ghost use Rattle.layout.specs.Lent as C;
 use curves::Frame;
 use fit::{MARGIN, Size};
 use label::Block;
-use label_spots::{Anchor, Geometry};
+use label_spots::Geometry;
 use refusal::Refusal;
-use shape::{Curve, Rect, V};
+use shape::V;
 use sheet::Ends;
 
 // The layout kinds of document 01.
@@ -56,24 +56,6 @@ pub struct Plan<'a> {
     pub arrows: &'a [Ends],
     pub sizes: &'a [Block],
 }
-
-// What fills the room for centres, and the room for what is drawn.
-const ORIGIN: V = V { x: 0.0, y: 0.0 };
-
-const NO_GEOMETRY: Geometry = Geometry {
-    edge: 0,
-    curve: Curve::Line(ORIGIN, ORIGIN),
-    tip: ORIGIN,
-    tip_angle: 0.0,
-    label: ORIGIN,
-    anchor: Anchor::Start,
-    label_box: Rect {
-        x0: 0.0,
-        y0: 0.0,
-        x1: 0.0,
-        y1: 0.0,
-    },
-};
 
 // ---- centres
 
@@ -160,10 +142,10 @@ impl<'a> Plan<'a> {
         requires level { length centres.now ≡ length self.now.flags.now }
         ensures { result ≡ S.clutter_at (C.plan_in self.now) (C.placing_of centres.now) }
     {
-        let mut space = [ORIGIN; 64];
+        let mut space = [V::ORIGIN; 64];
         let nodes = &mut space[..centres.len()];
         curves::zeroed(centres, nodes);
-        let mut room = [NO_GEOMETRY; 256];
+        let mut room = [Geometry::NONE; 256];
         let drawn = self.draw(nodes, &mut room);
         clutter::clutter(nodes, drawn)
     }
@@ -176,7 +158,7 @@ impl<'a> Plan<'a> {
         ensures { let plan = C.plan_in self.now in
             result ≡ S.clutter_at plan (S.placed placement plan) }
     {
-        let mut space = [ORIGIN; 64];
+        let mut space = [V::ORIGIN; 64];
         let centres = &mut space[..self.flags.len()];
         self.place(placement, centres);
         self.clutter(centres)
@@ -241,10 +223,10 @@ impl<'a> Plan<'a> {
         requires level { length centres.old ≡ length self.now.flags.now }
         ensures { C.Left (S.fitted (C.plan_in self.now) (C.placing_of centres.old)) result centres.new }
     {
-        let mut space = [ORIGIN; 64];
+        let mut space = [V::ORIGIN; 64];
         let nodes = &mut space[..centres.len()];
         curves::zeroed(centres, nodes);
-        let mut room = [NO_GEOMETRY; 256];
+        let mut room = [Geometry::NONE; 256];
         let drawn = self.draw(nodes, &mut room);
         fit::fit(self.flags, drawn, centres)
     }

@@ -12,7 +12,7 @@ ghost use Rattle.sheet.specs.Refusals as R;
 ghost use Rattle.meaning.specs.Read as M;
 
 use reader::{Chain, record_at};
-use sheet::{LONGEST_LINE, Limits, first_line_at, first_text_at, one_at, place_of, word_at};
+use sheet::{LONGEST_LINE, Limits, first_text_at, one_at, place_of, word_at};
 use text::Awaiting;
 
 // How many records the chain from record `first` on has.
@@ -143,33 +143,4 @@ pub fn flags_into(s: &[u8], out: &mut [u8])
     ensures { out.new ≡ put out.old 0 (S.flags_of (S.meaning s.now)) }
 {
     each_into(Chain::new(s, word_at(s, 4)), out, |k| one_at(s, k));
-}
-
-// The state that each arrow leaves, into `out` as far as it reaches.
-pub fn sources_into(s: &[u8], out: &mut [usize])
-    ensures { out.new ≡ put out.old 0 (M.sources (S.meaning s.now)) }
-{
-    each_into(
-        Chain::new(s, word_at(s, 6)),
-        out,
-        |k| usize::from(record_at(s, k).word4),
-    );
-}
-
-// The state that each arrow leads to, into `out` as far as it reaches.
-pub fn targets_into(s: &[u8], out: &mut [usize])
-    ensures { out.new ≡ put out.old 0 (M.targets (S.meaning s.now)) }
-{
-    each_into(
-        Chain::new(s, word_at(s, 6)),
-        out,
-        |k| usize::from(record_at(s, k).word6),
-    );
-}
-
-// The first line record of each arrow, into `out` as far as it reaches.
-pub fn heads_into(s: &[u8], out: &mut [u16])
-    ensures { out.new ≡ put out.old 0 (M.first_lines s.now) }
-{
-    each_into(Chain::new(s, word_at(s, 6)), out, |k| first_line_at(s, k));
 }

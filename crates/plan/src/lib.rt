@@ -16,19 +16,6 @@ use refusal::Refusal;
 use shape::V;
 use sheet::{Ends, Limits};
 
-// What fills the room for centres, for arrows, and for the sizes of labels.
-const ORIGIN: V = V { x: 0.0, y: 0.0 };
-
-const NO_ENDS: Ends = Ends {
-    source: 0,
-    target: 0,
-};
-
-const NO_BLOCK: Block = Block {
-    width: 0.0,
-    height: 0.0,
-};
-
 // ---- 9: "A layout is refused by 9 if any drawing it measures is."
 
 // Whether the drawing of a placement is refused.
@@ -38,10 +25,10 @@ fn placed_beyond(plan: &Plan, placement: Placement) -> bool
     ensures { let p = plan_in plan.now in result ≡ M.beyond_at p (L.placed placement p) }
 {
     let n = plan.flags.len();
-    let mut space = [ORIGIN; 64];
+    let mut space = [V::ORIGIN; 64];
     let centres = &mut space[..n];
     plan.place(placement, centres);
-    let mut room = [ORIGIN; 64];
+    let mut room = [V::ORIGIN; 64];
     let nodes = &mut room[..n];
     curves::zeroed(centres, nodes);
     let frame = Frame {
@@ -139,8 +126,8 @@ fn plan_accepted(s: &[u8], kind: Kind, centres: &mut [V]) -> Result<(usize, f64,
     let n = meaning::state_count(s);
     let m = meaning::arrow_count(s);
     let mut flags = [0u8; 64];
-    let mut arrows = [NO_ENDS; 256];
-    let mut sizes = [NO_BLOCK; 256];
+    let mut arrows = [Ends::NONE; 256];
+    let mut sizes = [Block::NONE; 256];
     plan_read(
         s,
         kind,

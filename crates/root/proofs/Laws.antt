@@ -13,12 +13,6 @@ use Rattle.root.specs.Root.{scale, scaled, evened, whole_root, nearest_root, pac
 use Rattle.root.specs.Nearest.{nearest_root_le}
 use Rattle.root.specs.Digits.{digit_step, Sound, step_sound, sound_root}
 
-pub twice_fits : (q : ℕ) → q < 2 ^ 53 → 2 * q < 2 ^ 64
-twice_fits q h = omega arith
-
-pub twice_one_fits : (q : ℕ) → q < 2 ^ 53 → 2 * q + 1 < 2 ^ 64
-twice_one_fits q h = omega arith
-
 -- after k of n digits
 pub sound_step : (x0 n k : ℕ) (d : Digits) → k < n → Sound x0 (n - k) d → Sound x0 (n - (k + 1)) (digit_step d)
 sound_step x0 n k d h g = let e : n - k ≡ suc (n - (k + 1)) = omega arith in step_sound x0 (n - (k + 1)) d (subst (λ (m : ℕ). Sound x0 m d) e g)
@@ -57,19 +51,6 @@ low_half_is p = and_mask p 26
 
 low_half_lt : (p : ℕ) → bit_and p 67108863 ≤ 2 ^ 26
 low_half_lt p = omega (arith, low_half_is p)
-
-pub high_square : (p : ℕ) → p < 2 ^ 53 → p / 2 ^ 26 * (p / 2 ^ 26) ≤ 2 ^ 54
-high_square p h = let l : p / 2 ^ 26 ≤ 2 ^ 27 = omega arith in mul-le-mul l l
-
-pub cross_small : (p : ℕ) → p < 2 ^ 53 → 2 * (p / 2 ^ 26) * bit_and p 67108863 ≤ 2 ^ 54
-cross_small p h = let l : 2 * (p / 2 ^ 26) ≤ 2 ^ 28 = omega arith in mul-le-mul l (low_half_lt p)
-
-pub low_square : (p : ℕ) → bit_and p 67108863 * bit_and p 67108863 ≤ 2 ^ 52
-low_square p = mul-le-mul (low_half_lt p) (low_half_lt p)
-
--- one way out of a test with a claim for true only
-pub not_claimed : {A : Type 0} → false ≡ true → A
-not_claimed e = absurd (subst T (sym e) tt)
 
 pub root_bits_is : (b : ℕ) (c : Scaled) (p : ℕ) → c ≡ scaled b → p ≡ nearest_root (evened c * 2 ^ 52) → packed c.e p ≡ root_bits b
 unfolding root_bits

@@ -51,10 +51,6 @@ module _ (s : Scene) (big : ℕ) (below : most s < big) where
 pub count_is : (t : Turn) (n : ℕ) → n ≡ spot_count t.arrow.shape → n ≡ places t
 count_is t n e = e ∙ sym (spot-count t.arrow.curve t.arrow.shape)
 
-pub box_is : (t : Turn) (j : ℕ) (g : Geometry) → g ≡ labelled_at t j → g.label_box ≡ box_at t j
-unfolding box_at
-box_is t j g e = ap (λ (x : Geometry). x.label_box) e
-
 pub taken_inside : (s : Scene) (t : Turn) (j : ℕ) → j ≡ taken s t → j < spot_count t.arrow.shape
 taken_inside s t j e = rw e (subst (λ (n : ℕ). taken s t < n) (spot-count t.arrow.curve t.arrow.shape) (taken_least s t).inside)
 

@@ -36,9 +36,6 @@ use Rattle.self_loop.specs.Early.{loop_early}
 abbrev pub loop_route_as : Curve → Float → «V» → Routed
 loop_route_as k a o = record { curve = k; tip_angle = a; shape = Shape.Loop o }
 
-pub routed_is : (c : «V») (phi : Float) (k : Curve) (t : «V») (a : Float) (o : «V») → k ≡ loop_curve c phi → t ≡ tangent k f1 → a ≡ angle t → o ≡ polar phi → loop_route_as k a o ≡ loop_routed c phi
-routed_is c phi k t a o e₁ e₂ e₃ e₄ = rw (e₃, e₂, e₁, e₄)
-
 pub drawn_is : (edge : ℕ) (c : «V») (width height phi : Float) (r : Routed) (p o : «V») (g : Geometry) → r ≡ loop_routed c phi → p ≡ at r.curve f0_5 → o ≡ polar phi
     → g ≡ labelled (record { edge = edge; arrow = r; width = width; height = height }) (spot p o) → g ≡ loop_at edge c width height phi
 unfolding loop_at label_spots

@@ -7,10 +7,6 @@ use Rattle.float.specs.Ops.{lt, le}
 use Rattle.shape.specs.declared.Rect.{Rect}
 use Rattle.shape.specs.Plane.{overlaps, touches}
 
--- the fourth of four tests, where the others hold
-pub last_of_four : {a b c : Bool} (d : Bool) → a ≡ true → b ≡ true → c ≡ true → d ≡ (a && b && c && d)
-last_of_four d p q r = rw (p, q, r)
-
 -- four tests, each counted as 1 or 0
 four_hold : (a b c d : Bool) → eqb (cond a 1 0 + cond b 1 0 + (cond c 1 0 + cond d 1 0)) 4 ≡ (a && b && c && d)
 four_hold false false false false = refl

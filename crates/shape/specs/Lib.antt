@@ -1,7 +1,6 @@
 pub mod Plane
 pub mod Squares
 pub mod Centres
-pub mod CentresFrom
 pub mod Curves
 pub mod Clipping
 pub mod Steps

@@ -4,7 +4,6 @@
 ghost use Rattle.std.specs.Prelude.{◌≡◌, cond, ◌≤◌, ◌<◌, length};
 ghost use Rattle.float.specs.Ops.{lt, le};
 ghost use Rattle.shape.specs.Plane as S;
-ghost use Rattle.shape.specs.Centres as P;
 ghost use Rattle.shape.specs.Curves as C;
 ghost use Rattle.shape.specs.Clipping as L;
 ghost use Rattle.shape.specs.Steps as T;
@@ -25,6 +24,9 @@ pub struct V {
 }
 
 impl V {
+    // 0, 0.
+    pub const ORIGIN: V = V { x: 0.0, y: 0.0 };
+
     pub fn new(x: f64, y: f64) -> V
         ensures { result ≡ S.vec x y }
     {
@@ -153,6 +155,14 @@ pub struct Rect {
 
 // Four comparisons are told by a sum, since a branch for each would often be guessed wrong.
 impl Rect {
+    // What fills room before there is a box.
+    pub const NONE: Rect = Rect {
+        x0: 0.0,
+        y0: 0.0,
+        x1: 0.0,
+        y1: 0.0,
+    };
+
     // Whether the boxes overlap: those that only touch do not.
     #[tactic(auto, using(crate::proofs::Laws::overlaps_is))]
     pub fn overlaps(self, o: Rect) -> bool
@@ -404,13 +414,4 @@ pub fn segments_cross(a: V, b: V, c: V, d: V) -> bool
         return orient(a, b, c) * orient(a, b, d) < 0.0;
     }
     false
-}
-
-// The centre of state k.
-pub fn centre(xs: &[f64], ys: &[f64], k: usize) -> V
-    requires ys_len { length ys.now ≡ length xs.now }
-    requires k_in_bounds { k < length xs.now }
-    ensures { result ≡ P.centre (P.centres xs.now ys.now) k }
-{
-    V::new(xs[k], ys[k])
 }

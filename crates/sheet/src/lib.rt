@@ -24,6 +24,14 @@ pub struct Ends {
     pub target: usize,
 }
 
+impl Ends {
+    // What fills room before there is an arrow.
+    pub const NONE: Ends = Ends {
+        source: 0,
+        target: 0,
+    };
+}
+
 // The most bytes of a line, on every screen.
 pub const LONGEST_LINE: usize = 96;
 

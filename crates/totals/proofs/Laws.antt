@@ -17,10 +17,6 @@ use Rattle.totals.specs.declared.Totals.{Totals}
 use Rattle.totals.specs.Totals.{point_count, has_points, is_left_out, counted_lines, totals_of}
 use Rattle.totals.specs.Arrows.{arrow_counts, none_counted, left_out_add, lines_add, with_arrow, arrows_counted}
 
--- g is the record as the code read it
-pub points_tell : (n m : ℕ) (g x : Geometry) → g ≡ x → m ≡ point_count g.curve → eqb m n ≡ has_points n x
-points_tell n m g x e f = ap (λ (m : ℕ). eqb m n) (f ∙ ap (λ (g : Geometry). point_count g.curve) e)
-
 -- d is what the code read of arrow record k, and b whether its ends are below n
 module _ (s : List ℕ) (k n : ℕ) (d : Record) (e : d ≡ record_of s k) (b : Bool) (f : b ≡ ends_below n d.word4 d.word6) where
   ends : b ≡ ends_below n (from_of s k) (to_of s k)

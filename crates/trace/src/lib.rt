@@ -119,19 +119,14 @@ pub struct Trace {
     pub points: Points,
 }
 
-// What fills an array of traces before there are any.
-pub const NO_TRACE: Trace = Trace {
-    owner: None,
-    bounds: Rect {
-        x0: 0.0,
-        y0: 0.0,
-        x1: 0.0,
-        y1: 0.0,
-    },
-    points: Points::Ends([V { x: 0.0, y: 0.0 }; 2]),
-};
-
 impl Trace {
+    // What fills room before there is a trace.
+    pub const NONE: Trace = Trace {
+        owner: None,
+        bounds: Rect::NONE,
+        points: Points::Ends([V::ORIGIN; 2]),
+    };
+
     #[tactic(auto, unfolding(crate::specs::Traces::trace_of))]
     pub fn of(owner: Option<usize>, curve: Curve) -> Trace
         ensures { F.trace_in result ≡ S.trace_of owner curve }

@@ -149,11 +149,6 @@ more_next Sort.Loop i = refl
 more_next Sort.Arc i = refl
 more_next Sort.Straight i = refl
 
-pub more_most : (s : Sort) (i n : ℕ) → i < n → more s i + more s 1 ≤ more s n
-more_most Sort.Loop i n h = omega (arith, h)
-more_most Sort.Arc i n h = omega arith
-more_most Sort.Straight i n h = omega arith
-
 -- ---- the records
 
 gathered_more : (l : List (Option Geometry)) (i : ℕ) (x : Option Geometry) → i < length l → x ≡ get_or l i x → gathered (drop i l) ≡ shown x ++ gathered (drop (i + 1) l)

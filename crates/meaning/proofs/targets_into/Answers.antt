@@ -1,8 +1,0 @@
-use Rattle.std.proofs.Common.{rules, sym, ap, ◌∙◌, map}
-use Rattle.laws.specs.Put.{put}
-use Rattle.sheet.specs.Sheet.{to_of, chain}
-use Rattle.meaning.specs.Read.{targets_are}
-use Rattle.meaning.proofs.targets_into.Goals as goal
-
-pub returns : goal.returns
-returns c = c.each_into.ensures (to_of c.args.s.now) (λ k r h. search rules) ∙ ap (λ l. put c.args.out.now 0 (map (to_of c.args.s.now) l)) (c.new.ensures.list ∙ ap (chain c.args.s.now) c.word_at.ensures) ∙ ap (put c.args.out.now 0) (sym (targets_are c.args.s.now))
