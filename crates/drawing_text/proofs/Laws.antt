@@ -1,8 +1,8 @@
 -- What a loop meets at number k: the record, the state, and what is left. How lines grow field by field, and tests in a row. Assumes nothing.
-use mathlib.Core.Path.{◌≡◌, sym, ap, ◌∙◌}
+use mathlib.Core.Path.{◌≡◌, refl, sym, ap, ◌∙◌}
 use mathlib.Core.Bool.{Bool, true, false, not, ◌&&◌}
 use mathlib.Core.List.{List, [], ◌∷◌, ◌++◌, append_assoc, append-nil, map, flat_map}
-use Prim.Native.Nat.{ℕ, ◌+◌, ◌≤◌, ◌<◌}
+use Prim.Native.Nat.{ℕ, suc, ◌+◌, ◌≤◌, ◌<◌}
 use native.Mathlib.Numerals.{add-one}
 use borrow.Author.Tests.{not-true, not-false}
 use lib.Ieee.{Float, nan}
@@ -16,13 +16,14 @@ use Rattle.shape.specs.declared.«V».{«V»}
 use Rattle.shape.specs.Plane.{vec, rect}
 use Rattle.shape.specs.declared.Curve.TheVariants.{Line}
 use Rattle.label_spots.specs.declared.Anchor.TheVariants.{Start}
-use Rattle.svg.specs.Paths.{curve_path, path_writable}
+use Rattle.number.specs.Number.{writable}
+use Rattle.svg.specs.Paths.{curve_path, path_writable, head_of, head_path}
 use Rattle.std.specs.List.{list_all}
 use Rattle.std.proofs.Common.{drop-cons, drop_of_length-le}
 use Rattle.laws.specs.Chains.{every_list}
 use Rattle.label_spots.specs.declared.Geometry.{Geometry}
 use Rattle.totals.specs.declared.Totals.{Totals}
-use Rattle.drawing_text.specs.Lines.{paths_of, paths_writable, Field, TextLine, named, listed_state, states_from, starts, field_text, fields_text, body_text, line_text, lines_text, field_writable, fields_writable, line_writable, lines_writable, size_line, state_line, start_line, total_line, record_lines, list_lines, list_writable}
+use Rattle.drawing_text.specs.Lines.{paths_of, paths_writable, Field, TextLine, named, listed_state, states_from, starts, field_text, fields_text, body_text, line_text, lines_text, float_field, field_writable, fields_writable, line_writable, lines_writable, point_fields, tip_line, size_line, state_line, start_line, total_line, record_lines, list_lines, list_writable}
 
 -- ---- the states from state k on
 pub states_front : (nodes : List «V») (k : ℕ) → k < length nodes
@@ -113,6 +114,32 @@ tests_fields fs gs = every_join field_writable fs gs
 total-passes : (ls : List TextLine) (t : Totals) → lines_writable (ls ++ (total_line t ∷ [])) ≡ lines_writable ls
 unfolding lines_writable line_writable fields_writable field_writable every
 total-passes ls t = every_join line_writable ls (total_line t ∷ []) ∙ and_true (every line_writable ls)
+
+-- a size, a point, a line of an arrowhead's tip, the four lines of a record: what is tested of each
+pub size_tests : (w h : Float) → line_writable (size_line w h) ≡ (writable w && writable h)
+unfolding line_writable fields_writable field_writable every
+size_tests w h = ap (λ (b : Bool). writable w && b) (and_true (writable h))
+
+pub point_tests : (p : «V») → fields_writable (point_fields p) ≡ (writable p.x && writable p.y)
+unfolding fields_writable field_writable every
+point_tests p = ap (λ (b : Bool). writable p.x && b) (and_true (writable p.y))
+
+pub tip_tests : (g : Geometry) → line_writable (tip_line g) ≡ (fields_writable (point_fields g.tip) && writable g.tip_angle)
+unfolding line_writable fields_writable field_writable every
+tip_tests g = tests_fields (point_fields g.tip) (float_field g.tip_angle ∷ []) ∙ ap (λ (b : Bool). fields_writable (point_fields g.tip) && b) (and_true (writable g.tip_angle))
+
+pub record_tests : (g : Geometry) → lines_writable (record_lines g)
+    ≡ (path_writable (curve_path g.curve) && (line_writable (tip_line g) && (path_writable (head_path (head_of g.tip g.tip_angle)) && fields_writable (point_fields g.label))))
+unfolding lines_writable line_writable fields_writable field_writable every
+record_tests g = rw (and_true, and_true, and_true, and_true) refl
+
+states_every : (k : ℕ) (nodes : List «V») → lines_writable (map state_line (states_from k nodes)) ≡ every (λ p. fields_writable (point_fields p)) nodes
+unfolding lines_writable line_writable fields_writable field_writable every states_from
+states_every k [] = refl
+states_every k (p ∷ nodes) = ap (λ (b : Bool). fields_writable (point_fields p) && b) (states_every (suc k) nodes)
+
+pub states_tests : (k : ℕ) (nodes : List «V») → lines_writable (map state_line (states_from k nodes)) ≡ list_all (λ p. fields_writable (point_fields p)) nodes
+states_tests k nodes = states_every k nodes ∙ every_list _ nodes
 
 -- "Order: size, states, then four lines a record, then starts."
 pub list_tests : (w h : Float) (cs : List «V») (flags : List ℕ) (gs : List Geometry) (t : Totals) → let states = states_from 0 cs in

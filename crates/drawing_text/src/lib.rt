@@ -8,8 +8,8 @@ ghost use Rattle.laws.specs.Writers.{as_usize};
 ghost use Rattle.text.specs.Writing.{Adds};
 ghost use Rattle.svg.specs.Paths.{curve_path, path_writable};
 ghost use Rattle.sheet.specs.Meaning.{is_start};
-ghost use Rattle.totals.specs.declared.Totals as T;
 ghost use Rattle.drawing_text.specs.Lines as S;
+ghost use Rattle.drawing_text.specs.Listing as L;
 
 use label_spots::{Anchor, Geometry};
 use shape::{Curve, NODE_RADIUS, V};
@@ -235,7 +235,7 @@ fn put_total_line(w: &mut Writer, t: Totals)
     w.byte(b'\n');
 }
 
-// ---- the listing
+// ---- the lines of all states and records
 
 fn put_states(w: &mut Writer, nodes: &[V])
     ensures { let states = S.states_from 0 nodes.now in
@@ -268,91 +268,35 @@ fn put_starts(w: &mut Writer, nodes: &[V], flags: &[u8])
     }
 }
 
-// The listing: its size, the states, four lines a record, the starts, the totals.
-pub fn put_listing(
-    w: &mut Writer,
-    width: f64,
-    height: f64,
-    nodes: &[V],
-    flags: &[u8],
-    drawn: &[Geometry],
-    totals: Totals,
-)
-    requires { length flags.now ≡ length nodes.now }
-    ensures { let text = S.list_text width height nodes.now flags.now drawn.now totals in
-        Adds w.old w.new text }
-{
-    put_size_line(w, width, height);
-    put_states(w, nodes);
-    put_records(w, drawn);
-    put_starts(w, nodes, flags);
-    put_total_line(w, totals);
-}
-
-// How many bytes the listing has.
-pub fn listing_length(
-    width: f64,
-    height: f64,
-    nodes: &[V],
-    flags: &[u8],
-    drawn: &[Geometry],
-    totals: Totals,
-) -> usize
-    requires { length flags.now ≡ length nodes.now }
-    ensures { let text = S.list_text width height nodes.now flags.now drawn.now totals in
-        result ≡ as_usize (length text) }
-{
-    let mut w = Writer {
-        out: &mut [],
-        at: 0,
-    };
-    put_listing(&mut w, width, height, nodes, flags, drawn, totals);
-    w.at
-}
-
 // ---- whether the listing's numbers may be written
 
+#[tactic(auto, using(crate::proofs::Laws::size_tests))]
 fn size_ok(width: f64, height: f64) -> bool
     ensures { result ≡ S.line_writable (S.size_line width height) }
 {
-    if number::writable(width) {
-        return number::writable(height);
-    }
-    false
+    number::writable(width) && number::writable(height)
 }
 
+#[tactic(auto, using(crate::proofs::Laws::point_tests))]
 fn point_ok(p: V) -> bool
     ensures { result ≡ S.fields_writable (S.point_fields p) }
 {
-    if number::writable(p.x) {
-        return number::writable(p.y);
-    }
-    false
+    number::writable(p.x) && number::writable(p.y)
 }
 
+#[tactic(auto, using(crate::proofs::Laws::tip_tests))]
 fn tip_ok(g: &Geometry) -> bool
     ensures { result ≡ S.line_writable (S.tip_line g.now) }
 {
-    if point_ok(g.tip) {
-        return number::writable(g.tip_angle);
-    }
-    false
+    point_ok(g.tip) && number::writable(g.tip_angle)
 }
 
 // The four lines of a record.
+#[tactic(auto, using(crate::proofs::Laws::record_tests))]
 fn record_ok(g: &Geometry) -> bool
     ensures { result ≡ S.lines_writable (S.record_lines g.now) }
 {
-    if !path_ok(g) {
-        return false;
-    }
-    if !tip_ok(g) {
-        return false;
-    }
-    if !svg::head_writable(g.tip, g.tip_angle) {
-        return false;
-    }
-    point_ok(g.label)
+    path_ok(g) && tip_ok(g) && svg::head_writable(g.tip, g.tip_angle) && point_ok(g.label)
 }
 
 // The line of a start state; nothing is written for any other.
@@ -366,14 +310,9 @@ fn start_ok(flag: u8, k: usize, c: V) -> bool
 }
 
 fn states_ok(nodes: &[V]) -> bool
-    ensures { result ≡ S.lines_writable (map S.state_line (S.states_from 0 nodes.now)) }
+    ensures { result ≡ list_all (λ p. S.fields_writable (S.point_fields p)) nodes.now }
 {
-    for p in nodes {
-        if !point_ok(*p) {
-            return false;
-        }
-    }
-    true
+    nodes.iter().all(|p| point_ok(*p))
 }
 
 fn records_ok(drawn: &[Geometry]) -> bool
@@ -395,25 +334,54 @@ fn starts_ok(nodes: &[V], flags: &[u8]) -> bool
     true
 }
 
-// Whether every number of the listing may be written, whatever the totals are: those are whole numbers.
-pub fn listing_writable(
-    width: f64,
-    height: f64,
-    nodes: &[V],
-    flags: &[u8],
-    drawn: &[Geometry],
-) -> bool
-    requires { length flags.now ≡ length nodes.now }
-    ensures { ((totals : T.Totals) → result ≡ S.list_writable width height nodes.now flags.now drawn.now totals) }
-{
-    if !size_ok(width, height) {
-        return false;
+// ---- the listing
+
+// What a listing shows: the drawing's size, its states and records, and the totals.
+#[derive(Clone, Copy)]
+pub struct Listing<'a> {
+    pub width: f64,
+    pub height: f64,
+    pub nodes: &'a [V],
+    pub flags: &'a [u8],
+    pub drawn: &'a [Geometry],
+    pub totals: Totals,
+}
+
+impl<'a> Listing<'a> {
+    // The listing: its size, the states, four lines a record, the starts, the totals.
+    pub fn put(&self, w: &mut Writer)
+        requires level { length self.now.flags.now ≡ length self.now.nodes.now }
+        ensures { Adds w.old w.new (L.text_of self.now) }
+    {
+        put_size_line(w, self.width, self.height);
+        put_states(w, self.nodes);
+        put_records(w, self.drawn);
+        put_starts(w, self.nodes, self.flags);
+        put_total_line(w, self.totals);
     }
-    if !states_ok(nodes) {
-        return false;
+
+    // How many bytes it has.
+    pub fn length(&self) -> usize
+        requires level { length self.now.flags.now ≡ length self.now.nodes.now }
+        ensures { result ≡ as_usize (length (L.text_of self.now)) }
+    {
+        let mut w = Writer {
+            out: &mut [],
+            at: 0,
+        };
+        self.put(&mut w);
+        w.at
     }
-    if !records_ok(drawn) {
-        return false;
+
+    // Whether every number of it may be written; the totals are whole numbers.
+    #[tactic(auto, using(crate::proofs::Laws::list_tests, crate::proofs::Laws::records_list, crate::proofs::Laws::states_tests))]
+    pub fn writable(&self) -> bool
+        requires level { length self.now.flags.now ≡ length self.now.nodes.now }
+        ensures { result ≡ L.writable_of self.now }
+    {
+        size_ok(self.width, self.height)
+            && states_ok(self.nodes)
+            && records_ok(self.drawn)
+            && starts_ok(self.nodes, self.flags)
     }
-    starts_ok(nodes, flags)
 }

@@ -20,29 +20,32 @@ pub struct Corners {
     pub d: V,
 }
 
-fn corners_of(curve: Curve) -> Corners
-    ensures { result ≡ S.corners_of curve }
-{
-    let none = V { x: 0.0, y: 0.0 };
-    match curve {
-        Curve::Line(a, b) => Corners {
-            n: 2.0,
-            a,
-            b,
-            c: none,
-            d: none,
-        },
-        Curve::Quad(a, b, c) => Corners {
-            n: 3.0,
-            a,
-            b,
-            c,
-            d: none,
-        },
-        Curve::Cubic(a, b, c, d) => Corners { n: 4.0, a, b, c, d },
+impl From<Curve> for Corners {
+    ghost from_gives = { λ curve corners. corners ≡ S.corners_of curve };
+
+    fn from(curve: Curve) -> Corners {
+        let none = V { x: 0.0, y: 0.0 };
+        match curve {
+            Curve::Line(a, b) => Corners {
+                n: 2.0,
+                a,
+                b,
+                c: none,
+                d: none,
+            },
+            Curve::Quad(a, b, c) => Corners {
+                n: 3.0,
+                a,
+                b,
+                c,
+                d: none,
+            },
+            Curve::Cubic(a, b, c, d) => Corners { n: 4.0, a, b, c, d },
+        }
     }
 }
 
+// Not a `From`: neither the type of an anchor nor f64 is this crate's.
 fn anchor_number(anchor: Anchor) -> f64
     ensures { result ≡ S.anchor_number anchor }
 {
@@ -57,7 +60,7 @@ fn anchor_number(anchor: Anchor) -> f64
 pub fn fields(g: &Geometry) -> [f64; RECORD_NUMBERS]
     ensures { result ≡ S.fields g.now }
 {
-    let p = corners_of(g.curve);
+    let p = Corners::from(g.curve);
     [
         std::num::nearest_u64_to_f64(g.edge as u64),
         p.n,

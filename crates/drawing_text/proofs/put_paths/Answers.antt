@@ -14,7 +14,7 @@ loop-g-init c = continues_whole _ (omega arith) (omega arith) (sym (flat_map_lem
 
 pub loop-g-preserved : goal.loop-g-preserved
 loop-g-preserved c = let l = c.loop-g in
-  texts_step (λ (g : Geometry). path_line (curve_path g.curve)) (get_or c.args.drawn.now l.g-index no_geometry) (drawn_front c.args.drawn.now l.g-index c.loop-g-test.true) l.invariant c.put_path_line.ensures
+    texts_step (λ (g : Geometry). path_line (curve_path g.curve)) (get_or c.args.drawn.now l.g-index no_geometry) (drawn_front c.args.drawn.now l.g-index c.loop-g-test.true) l.invariant c.put_path_line.ensures
 
 pub returns : goal.returns
 returns c = texts_end (λ (g : Geometry). path_line (curve_path g.curve)) (drop_of_length-le c.args.drawn.now c.loop-g-test.false) c.loop-g.invariant

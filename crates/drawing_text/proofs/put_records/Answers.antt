@@ -13,7 +13,7 @@ loop-g-init c = continues_whole _ (omega arith) (omega arith) (sym (flat_flat li
 
 pub loop-g-preserved : goal.loop-g-preserved
 loop-g-preserved c = let l = c.loop-g in
-  texts_step (λ (g : Geometry). lines_text (record_lines g)) (get_or c.args.drawn.now l.g-index no_geometry) (drawn_front c.args.drawn.now l.g-index c.loop-g-test.true) l.invariant c.put_record_lines.ensures
+    texts_step (λ (g : Geometry). lines_text (record_lines g)) (get_or c.args.drawn.now l.g-index no_geometry) (drawn_front c.args.drawn.now l.g-index c.loop-g-test.true) l.invariant c.put_record_lines.ensures
 
 pub returns : goal.returns
 returns c = texts_end (λ (g : Geometry). lines_text (record_lines g)) (drop_of_length-le c.args.drawn.now c.loop-g-test.false) c.loop-g.invariant

@@ -1,6 +1,7 @@
+-- `drawing_text::Listing::put` meets its contract.
 use Rattle.drawing_text.specs.Lines.{list_text, list_lines}
 use Rattle.drawing_text.proofs.Laws.{adds_lines, adds-both, adds-last}
-use Rattle.drawing_text.proofs.put_listing.Goals as goal
+use Rattle.drawing_text.proofs.Listing.put.Goals as goal
 
 pub returns : goal.returns
 unfolding list_text list_lines
