@@ -2,14 +2,8 @@
 use Rattle.calls.proofs.Writes.{write_short, write_done}
 use Rattle.calls.proofs.write_accepted.Goals as goal
 
-pub arrows_size-arrows-requires : goal.arrows_size-arrows-requires
-arrows_size-arrows-requires c = c.requires.lines
-
 pub returns-then-out-bytes : goal.returns-then-out-bytes
 returns-then-out-bytes c = write_short c.args.sheet.now c.args.out.now c.states_size-states.ensures.0 c.arrows_size-arrows.ensures.0 c.if-out-bytes.true
-
-pub write_afresh-requires : goal.write_afresh-requires
-write_afresh-requires c = (c.requires, c.states_size-states.ensures.0, c.arrows_size-arrows.ensures.0, c.if-out-bytes.false)
 
 pub returns : goal.returns
 returns c = write_done c.args.sheet.now c.args.out.now c.states_size-states.ensures.0 c.arrows_size-arrows.ensures.0 _
