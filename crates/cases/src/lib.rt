@@ -26,6 +26,7 @@ pub fn byte(p: &[u8], at: usize) -> u8
 }
 
 // The number in the two bytes from a place on, the least first.
+#[tactic(auto, unfolding(crate::specs::Payload::word_at))]
 fn word(p: &[u8], at: usize) -> u64
     ensures { (result ≡ S.word_at p.now at) × (result < 65536) }
 {
@@ -33,6 +34,7 @@ fn word(p: &[u8], at: usize) -> u64
 }
 
 // The number in the four bytes from a place on.
+#[tactic(auto, unfolding(crate::specs::Payload::long_at))]
 pub fn long(p: &[u8], at: usize) -> u64
     ensures { (result ≡ S.long_at p.now at) × (result < 4294967296) }
 {
@@ -40,6 +42,7 @@ pub fn long(p: &[u8], at: usize) -> u64
 }
 
 // The number in the eight bytes from a place on.
+#[tactic(auto, unfolding(crate::specs::Payload::bits_at))]
 pub fn bits(p: &[u8], at: usize) -> u64
     ensures { result ≡ S.bits_at p.now at }
 {
@@ -71,6 +74,7 @@ fn of_bits(b: u64) -> f64
 }
 
 // The float in the eight bytes from a place on.
+#[tactic(auto, unfolding(crate::specs::Payload::float_at))]
 pub fn float(p: &[u8], at: usize) -> f64
     ensures { result ≡ S.float_at p.now at }
 {
@@ -106,6 +110,7 @@ pub fn same(a: f64, b: f64) -> bool
 }
 
 // Whether the float at a place is that one.
+#[tactic(auto, unfolding(crate::specs::Payload::same_float))]
 pub fn same_float(p: &[u8], at: usize, v: f64) -> bool
     ensures { result ≡ S.same_float p.now at v }
 {
@@ -113,12 +118,10 @@ pub fn same_float(p: &[u8], at: usize, v: f64) -> bool
 }
 
 // Whether the payload ends with that float, which stands at a place.
+#[tactic(auto, unfolding(crate::specs::Payload::answer_stands))]
 pub fn answered(p: &[u8], at: usize, v: f64) -> bool
     requires { at < 70000 }
     ensures { result ≡ S.answer_stands p.now at v }
 {
-    if p.len() != at + 8 {
-        return false;
-    }
-    same_float(p, at, v)
+    p.len() == at + 8 && same_float(p, at, v)
 }

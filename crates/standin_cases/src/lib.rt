@@ -18,13 +18,11 @@ fn number(o: Ordering) -> u8
 }
 
 // The answer is one byte: 0 before, 1 equal, 2 after.
+#[tactic(auto, unfolding(crate::specs::Cases::ordered))]
 fn ordered(p: &[u8], o: Ordering) -> bool
     ensures { result ≡ S.ordered p.now o }
 {
-    if p.len() != 17 {
-        return false;
-    }
-    byte(p, 16) == number(o)
+    p.len() == 17 && byte(p, 16) == number(o)
 }
 
 // Whether the answer that a case has behind the arguments is the stand-in's.

@@ -3,9 +3,6 @@ use Rattle.std.proofs.Common.{length, sym, ◌∙◌, arith}
 use Rattle.cases.specs.Laws.{each_start, each_fill_step, each_fill_end}
 use Rattle.cases.proofs.fill.Goals as goal
 
-pub loop-value-init : goal.loop-value-init
-loop-value-init g c r e = each_start 8 r c.args.at (length c.args.out.now)
-
 pub loop-value-preserved : goal.loop-value-preserved
 loop-value-preserved g c r e =
     let l = c.loop-value in
