@@ -11,8 +11,8 @@ ghost use Rattle.sheet.specs.Sheet as S;
 ghost use Rattle.sheet.specs.Refusals as R;
 ghost use Rattle.meaning.specs.Read as M;
 
-use reader::{Chain, record_at};
-use sheet::{LONGEST_LINE, Limits, first_text_at, one_at, place_of, word_at};
+use reader::Chain;
+use sheet::{LONGEST_LINE, Limits, first_line_at, first_text_at, one_at, place_of, word_at};
 use text::Awaiting;
 
 // How many records the chain from record `first` on has.
