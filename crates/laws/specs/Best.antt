@@ -70,6 +70,13 @@ module _ (cost : ℕ → ℕ) (cut : ℕ → ℕ → ℕ) (cuts : Cuts cost cut)
   unfolding search_from
   turn_end k j l b h z = rw (cuts.exact l j h, lt-ltb _ _ h, z)
 
+  turn_old : (k j l b : ℕ) → l ≤ cost j → 0 < l → search_from cut (suc k) j l b ≡ search_from cut k (suc j) l b
+  unfolding search_from
+  turn_old k j l b h z =
+      let a : l ≤ cut l j = cuts.above l j h in
+      let n : cut l j ≡ 0 → ⊥ = λ e. omega arith in
+      rw (le-ltb _ _ a, ne_eqb _ _ n)
+
   -- from a best place so far that costs something, the search finds the best of all
   search_finds : (k j : ℕ) → 0 < cost (best cost j) → search_from cut k j (cost (best cost j)) (best cost j) ≡ best cost (j + k)
   search_finds zero j p = unfold search_from in (sym (ap (best cost) (add-zero j)))

@@ -16,6 +16,17 @@ core x y z p q r hp hq hr a b =
 pub pos_left : (z q w : ℕ) → 0 < w → 0 < z * q → 0 < z * w
 pos_left z q w hw h = mul-pos (lt_of_mul-lt-mul_right q {m = 0} {n = z} (omega (arith, h))) hw
 
+below_trans : (s t u : Bool) (x y z p q r : ℕ) → 0 < p → 0 < q → 0 < r → T (below s (x * q) t (y * p)) → T (below t (y * r) u (z * q)) → T (below s (x * r) u (z * p))
+below_trans false false false x y z p q r hp hq hr a b = lt→ltb _ _ (core x y z p q r hp hq hr (ltb→lt _ _ a) (ltb→lt _ _ b))
+below_trans false false true x y z p q r hp hq hr a b = absurd b
+below_trans false true u x y z p q r hp hq hr a b = absurd a
+below_trans true false false x y z p q r hp hq hr a b =
+    let h : 0 < z * p = pos_left z q p hp (omega (arith, ltb→lt (y * r) (z * q) b)) in lt→ltb 0 (x * r + z * p) (omega arith)
+below_trans true false true x y z p q r hp hq hr a b = absurd b
+below_trans true true false x y z p q r hp hq hr a b =
+    let h : 0 < x * r = pos_left x q r hr (omega (arith, ltb→lt (y * p) (x * q) a)) in lt→ltb 0 (x * r + z * p) (omega arith)
+below_trans true true true x y z p q r hp hq hr a b = lt→ltb _ _ (core z y x r q p hr hq hp (ltb→lt _ _ b) (ltb→lt _ _ a))
+
 pub float_lt_trans : (x y z : Float) → T (lt x y) → T (lt y z) → T (lt x z)
 unfolding lt
 float_lt_trans nan y z a b = absurd a

@@ -54,6 +54,10 @@ module _ {A : Type 0} where
   pub wrote_as : {l out : List A} {at next : ℕ} {txt txt' : List A} → txt ≡ txt' → Wrote l at out next txt → Wrote l at out next txt'
   wrote_as {l} {out} {at} {next} e w = subst (Wrote l at out next) e w
 
+  -- measured on an empty part
+  pub measured-length : {l out : List A} {n : ℕ} {txt : List A} → Wrote l 0 out n txt → n ≡ as_usize (length txt)
+  measured-length {txt = txt} w = w.next_is ∙ ap as_usize (zero-add (length txt))
+
   -- written where it fits
   pub written_fits : {l out : List A} {n : ℕ} {txt : List A} → Wrote l 0 out n txt → length txt ≤ length l → (n ≡ length txt) × (out ≡ txt ++ drop (length txt) l)
   written_fits {l} {out} {n} {txt} w h = (
