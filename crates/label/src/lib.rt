@@ -54,6 +54,7 @@ fn is_accent(c: u32) -> bool
 }
 
 // The width of a code point.
+#[tactic(auto, unfolding(crate::specs::Label::char_width))]
 fn char_width(c: u32) -> f64
     ensures { result ≡ S.char_width c }
 {
@@ -131,6 +132,7 @@ fn widest(s: &[u8], first: u16) -> f64
 }
 
 // The size of the label block whose lines are the chain from `first` on.
+#[tactic(auto, using(crate::proofs::Laws::block_is))]
 pub fn block_at(s: &[u8], first: u16) -> Block
     ensures { result ≡ S.block (lines_from s.now first) }
 {

@@ -1,15 +1,11 @@
 -- `write_line::write_line` meets its contract.
-use mathlib.Core.Path.{◌≡◌, sym}
+use mathlib.Core.Path.{◌≡◌}
 use native.Mathlib.Omega.{arith}
 use lib.ListN.{take}
-use lib.Seq.{length-take-le}
 use Rattle.laws.specs.Filled.{front_is}
 use Rattle.sheet.specs.Sheet.{line_of}
 use Rattle.write_line.specs.Lines.{line-put, index_is}
 use Rattle.write_line.proofs.write_line.Goals as goal
-
-pub slice_bounds-write_pieces-end : goal.slice_bounds-write_pieces-end
-slice_bounds-write_pieces-end c = sym (length-take-le _ _ (omega arith))
 
 pub write_pieces-behind-requires : goal.write_pieces-behind-requires
 write_pieces-behind-requires c = let a = c.args in
@@ -17,9 +13,6 @@ write_pieces-behind-requires c = let a = c.args in
     let l = line_of a.s.now a.i in
     let e : take t.result t.new.line ≡ l = front_is _ l _ _ t.ensures.1 (omega arith) t.ensures.0 in
     rw e (omega arith, omega arith)
-
-pub put_record-requires : goal.put_record-requires
-put_record-requires c = omega (arith, c.write_pieces-behind.auto.out, c.from.ensures)
 
 pub returns : goal.returns
 returns c = let a = c.args in

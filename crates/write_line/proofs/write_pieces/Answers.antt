@@ -1,15 +1,12 @@
-use Rattle.std.proofs.Common.{◌+◌, ◌*◌, List, ℕ, ◌≤◌, refl, ap, ◌∙◌, length, take, drop, ltb, arith}
+use Rattle.std.proofs.Common.{◌+◌, ◌*◌, List, ℕ, ◌≤◌, ap, ◌∙◌, length, take, drop, ltb, arith}
 use Rattle.laws.specs.Put.{put}
 use Rattle.sheet.specs.Records.{text_bytes}
 use Rattle.encode.specs.Encode.{space_of, piece_size, pieces}
 use Rattle.write_line.specs.Writing.{index_if}
-use Rattle.write_line.specs.Writes.{writes_start, writes_end, writes_room}
+use Rattle.write_line.specs.Writes.{writes_end, writes_room}
 use Rattle.write_line.specs.Cuts.{pieces_none, piece_cut, cuts_step}
 use Rattle.write_line.specs.Lines.{index_is}
 use Rattle.write_line.proofs.write_pieces.Goals as goal
-
-pub loop-rest-init : goal.loop-rest-init
-loop-rest-init c = record { writes = writes_start refl; few = c.requires.0; room = c.requires.1 }
 
 pub overflow_add-j : goal.overflow_add-j
 overflow_add-j c = let l = c.loop-rest.rest.now in
@@ -31,9 +28,6 @@ overflow_add-j-in-loop-rest c = let l = c.loop-rest.rest.now in
     let r : c.loop-rest.j + 1 ≤ c.args.k + space_of piece_size (pieces c.args.line.now) =
     writes_room c.loop-rest.invariant.writes (take n l) (pieces (drop n l)) (piece_cut l n c.min.ensures c.loop-rest-test.true) in
     omega (arith, c.loop-rest.invariant.few)
-
-pub loop-rest-smaller : goal.loop-rest-smaller
-loop-rest-smaller c = omega (arith, c.split_at.ensures.back_len)
 
 pub loop-rest-preserved : goal.loop-rest-preserved
 loop-rest-preserved c = let l = c.loop-rest.rest.now in

@@ -17,9 +17,6 @@ loop-i-init c =
 pub line_size-n-requires : goal.line_size-n-requires
 line_size-n-requires c = line-short (line_of c.args.s.now c.in-Some.i) (sums_good line_size long_line (line_of c.args.s.now) c.loop-i.invariant.sums c.in-Some.ensures.steps)
 
-pub overflow_add-n : goal.overflow_add-n
-overflow_add-n c = omega (arith, c.loop-i.invariant.few, c.line_size-n.ensures.1)
-
 pub loop-i-preserved : goal.loop-i-preserved
 loop-i-preserved c = record {
   sums = sums_step line_size long_line (line_of c.args.s.now) c.loop-i.invariant.sums c.in-Some.ensures.steps (ap (λ (z : ℕ). c.loop-i.n + z) c.line_size-n.ensures.0);

@@ -18,14 +18,6 @@ write_lines-behind-requires c = let a = c.args in
     let z : arrow_size (arrow_of s a.i) ≡ 1 + space_of line_size (lines_from s d.result.word8) = arrow_space s a.i _ e in
     (lines_short s a.i _ e c.requires.0, omega arith, omega arith)
 
-pub put_record-requires : goal.put_record-requires
-put_record-requires c = let a = c.args in
-    let s = a.s.now in
-    let d = c.record_at-d in
-    let b = c.write_lines-behind in
-    let z : arrow_size (arrow_of s a.i) ≡ 1 + space_of line_size (lines_from s d.result.word8) = arrow_space s a.i _ (ap (λ (x : Record). x.word8) d.ensures) in
-    omega (arith, b.auto.out, c.from.ensures)
-
 pub returns : goal.returns
 returns c = let a = c.args in
     let s = a.s.now in
