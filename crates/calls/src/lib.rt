@@ -11,6 +11,7 @@ ghost use Rattle.calls.specs.Drawing as D;
 ghost use Rattle.calls.specs.Listed as F;
 ghost use Rattle.calls.specs.Saved as W;
 
+use drawing_text::Listing;
 use label_spots::{Anchor, Geometry};
 use refusal::Refusal;
 use shape::{Curve, Rect, V};
@@ -186,8 +187,15 @@ fn list_by(
     meaning::flags_into(sheet, flags);
     let mut room = [NO_GEOMETRY; 256];
     let drawn = draw_in(sheet, m, centres, &mut room)?;
-    let totals = totals::totals_of(sheet, drawn);
-    outputs::write_listing(width, height, centres, flags, drawn, totals, out)
+    let listing = Listing {
+        width,
+        height,
+        nodes: centres,
+        flags,
+        drawn,
+        totals: totals::totals_of(sheet, drawn),
+    };
+    outputs::write_listing(&listing, out)
 }
 
 // Lists the drawing of a sheet, laid out by kind: the bytes written.

@@ -5,15 +5,15 @@
 ghost use Rattle.std.specs.Prelude.{◌≡◌, ◌*◌, ◌≤◌, length, map};
 ghost use Rattle.laws.specs.Put.{put};
 ghost use Rattle.refusal.specs.Refused.{outcome};
-ghost use Rattle.drawing_text.specs.Lines.{list_text, list_writable};
+ghost use Rattle.drawing_text.specs.Listing.{text_of, writable_of};
 ghost use Rattle.outputs.specs.Answers as F;
 
+use drawing_text::Listing;
 use label_spots::Geometry;
 use records::RECORD_NUMBERS;
 use refusal::Refusal;
 use shape::V;
 use text::Writer;
-use totals::Totals;
 
 // ---- records and path text
 
@@ -101,30 +101,22 @@ pub fn write_layout(
 
 // ---- a listing
 
-// The listing of a drawing, where every number may be written and there is room for it: the bytes written.
-pub fn write_listing(
-    width: f64,
-    height: f64,
-    centres: &[V],
-    flags: &[u8],
-    drawn: &[Geometry],
-    totals: Totals,
-    out: &mut [u8],
-) -> Result<usize, Refusal>
-    requires { length flags.now ≡ length centres.now }
-    ensures { let text = list_text width height centres.now flags.now drawn.now totals in
-        let writable = list_writable width height centres.now flags.now drawn.now totals in
+// A listing, where every number of it may be written and there is room for it: the bytes written.
+pub fn write_listing(listing: &Listing, out: &mut [u8]) -> Result<usize, Refusal>
+    requires level { length listing.now.flags.now ≡ length listing.now.nodes.now }
+    ensures { let text = text_of listing.now in
+        let writable = writable_of listing.now in
         (outcome result ≡ F.written_of writable text (length out.old))
         × (out.new ≡ F.out_written writable text out.old) }
 {
-    if !drawing_text::listing_writable(width, height, centres, flags, drawn) {
+    if !listing.writable() {
         return Err(Refusal::Number);
     }
-    let need = drawing_text::listing_length(width, height, centres, flags, drawn, totals);
+    let need = listing.length();
     if out.len() < need {
         return Err(Refusal::Room);
     }
     let mut w = Writer { out, at: 0 };
-    drawing_text::put_listing(&mut w, width, height, centres, flags, drawn, totals);
+    listing.put(&mut w);
     Ok(w.at)
 }

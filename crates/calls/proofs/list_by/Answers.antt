@@ -21,4 +21,4 @@ returns c = let a = c.args in
     let h = drawing_held s a.m (xs_of a.centres.now) (ys_of a.centres.now) q.limits.0 q.limits.1 _ c.in_ok-drawn.ensures in
     at-drawn s a.m a.width a.height a.centres.now a.out.now _ h _
     (c.flags_into.ensures ∙ put_whole _ (flags_of (meaning s)) (length-take-le _ _ q.states.1 ∙ sym q.states.0 ∙ sym (length-map (states_of s) (λ a. a.flags))))
-    _ c.totals_of-totals.ensures _ _ c.write_listing.ensures
+    _ c.totals_of.ensures _ _ c.write_listing.ensures
