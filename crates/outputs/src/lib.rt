@@ -5,7 +5,7 @@
 ghost use Rattle.std.specs.Prelude.{◌≡◌, ◌*◌, ◌≤◌, length, map};
 ghost use Rattle.laws.specs.Put.{put};
 ghost use Rattle.refusal.specs.Refused.{outcome};
-ghost use Rattle.drawing_text.specs.Listing as L;
+ghost use Rattle.drawing_text.specs.Listing.{text_of, writable_of};
 ghost use Rattle.outputs.specs.Answers as F;
 
 use drawing_text::Listing;
@@ -103,16 +103,17 @@ pub fn write_layout(
 
 // A listing, where every number of it may be written and there is room for it: the bytes written.
 pub fn write_listing(listing: &Listing, out: &mut [u8]) -> Result<usize, Refusal>
-    requires { length listing.now.flags.now ≡ length listing.now.nodes.now }
-    ensures { let text = L.text_of listing.now in
-        let writable = L.writable_of listing.now in
+    requires level { length listing.now.flags.now ≡ length listing.now.nodes.now }
+    ensures { let text = text_of listing.now in
+        let writable = writable_of listing.now in
         (outcome result ≡ F.written_of writable text (length out.old))
         × (out.new ≡ F.out_written writable text out.old) }
 {
     if !listing.writable() {
         return Err(Refusal::Number);
     }
-    if out.len() < listing.length() {
+    let need = listing.length();
+    if out.len() < need {
         return Err(Refusal::Room);
     }
     let mut w = Writer { out, at: 0 };

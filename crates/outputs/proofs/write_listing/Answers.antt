@@ -6,11 +6,10 @@ use Rattle.outputs.proofs.write_listing.Goals as goal
 pub returns-then-not-writable : goal.returns-then-not-writable
 returns-then-not-writable c = list_10 _ _ _ (sym c.writable.ensures ∙ c.if-not-writable.true)
 
-pub returns-then-out-length : goal.returns-then-out-length
-returns-then-out-length c =
-    list_7 _ _ _ (sym c.writable.ensures ∙ c.if-not-writable.false) c.length.ensures (omega arith) c.if-out-length.true
+pub returns-then-out-need : goal.returns-then-out-need
+returns-then-out-need c = list_7 _ _ _ (sym c.writable.ensures ∙ c.if-not-writable.false) c.length-need.ensures (omega arith) c.if-out-need.true
 
 pub returns : goal.returns
 returns c =
-    list_done _ _ _ (sym c.writable.ensures ∙ c.if-not-writable.false) c.length.ensures (omega arith)
-    c.if-out-length.false (search rules) c.put.ensures.text
+    list_done _ _ _ (sym c.writable.ensures ∙ c.if-not-writable.false) c.length-need.ensures (omega arith)
+    c.if-out-need.false (search rules) c.put.ensures.text
