@@ -103,13 +103,11 @@ fn check_is(answer: u8, sheet: &[u8], m: Limits) -> bool
     outcome_is(calls::check(sheet, m), answer, |()| true)
 }
 
+#[tactic(auto, unfolding(crate::specs::Cases::size_is))]
 fn size_is(rest: &[u8], w: f64, h: f64) -> bool
     ensures { result ≡ S.size_is rest.now (w, h) }
 {
-    if !same_float(rest, 2, w) {
-        return false;
-    }
-    same_float(rest, 10, h)
+    same_float(rest, 2, w) && same_float(rest, 10, h)
 }
 
 fn label_agrees(answer: u8, text: &[u8], m: Limits, rest: &[u8]) -> bool
@@ -244,7 +242,7 @@ fn sheet_agrees(answer: u8, sheet: &[u8], m: Limits, rest: &[u8]) -> bool
 
 // ---- lay out a sheet
 
-// Lays out into the middles of `xs` and `ys`.
+// Lays out into the middles of `xs` and `ys`, which are apart as the calls have them: the C interface's parallel arrays.
 fn layout_in(
     sheet: &[u8],
     m: Limits,
@@ -264,16 +262,11 @@ fn layout_in(
     calls::layout(sheet, m, by, &mut xs[16..ex], &mut ys[16..ey])
 }
 
+#[tactic(auto, unfolding(crate::specs::Cases::laid_is))]
 fn laid_is(rest: &[u8], n: usize, w: f64, h: f64) -> bool
     ensures { result ≡ S.laid_is rest.now (n, w, h) }
 {
-    if n != index(rest, 4) {
-        return false;
-    }
-    if !same_float(rest, 6, w) {
-        return false;
-    }
-    same_float(rest, 14, h)
+    n == index(rest, 4) && (same_float(rest, 6, w) && same_float(rest, 14, h))
 }
 
 fn layout_is(
@@ -338,6 +331,7 @@ fn route_in(
     calls::route(sheet, m, xs, ys, &mut records[16..end], &mut out[16..stop])
 }
 
+#[tactic(auto, unfolding(crate::specs::Cases::lengths_are))]
 fn lengths_are(n: usize, text: &[u8], k: usize, m: usize) -> bool
     ensures { result ≡ S.lengths_are n text.now (k, m) }
 {
@@ -485,6 +479,7 @@ fn called_under(m: Limits, call: Call, p: &[u8]) -> bool
 }
 
 // The limits at the front of a payload.
+#[tactic(auto, unfolding(crate::specs::Cases::limits_at))]
 fn limits_at(p: &[u8]) -> Limits
     ensures { result ≡ S.limits_at p.now }
 {

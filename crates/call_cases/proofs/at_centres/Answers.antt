@@ -32,9 +32,8 @@ slice_bounds-drawn-end-2 g c = sym (length-take-le _ _ (omega arith))
 pub returns : goal.returns
 unfolding at_centres
 returns g c good e =
-    let a = c.args in
     rw (← c.index-nx.ensures.0, ← c.index-ny.ensures.0, le-leb _ _ c.if-nx-gt80.false, le-leb _ _ c.if-ny-gt80.false, le-leb _ _ c.if-rest-end.false)
     (e _ _ _ c.drawn.result c.drawn.ensures ∙ of_three good _ _ _ _ _ _
-    (first_floats a.rest.now 4 c.index-nx.result 80 _ (c.fill.ensures (float_at a.rest.now) (λ x y p. search rules)) c.if-nx-gt80.false)
-    (first_floats a.rest.now (4 + 8 * c.index-nx.result) c.index-ny.result 80 _ (c.fill-2.ensures (float_at a.rest.now) (λ x y p. search rules)) c.if-ny-gt80.false)
-    (part-tail (4 + 8 * c.index-nx.result + 8 * c.index-ny.result) a.rest.now))
+    (first_floats c.args.rest.now 4 c.index-nx.result 80 _ (c.fill.ensures (float_at c.args.rest.now) (λ x y p. search rules)) c.if-nx-gt80.false)
+    (first_floats c.args.rest.now (4 + 8 * c.index-nx.result) c.index-ny.result 80 _ (c.fill-2.ensures (float_at c.args.rest.now) (λ x y p. search rules)) c.if-ny-gt80.false)
+    (part-tail (4 + 8 * c.index-nx.result + 8 * c.index-ny.result) c.args.rest.now))

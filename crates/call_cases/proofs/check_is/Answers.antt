@@ -2,7 +2,6 @@
 use Rattle.std.proofs.Common.{rules}
 use Rattle.std.specs.Prelude.{true}
 use mathlib.Core.Path.{ap, ◌∙◌}
-use Rattle.refusal.specs.Refused.{Outcome}
 use Rattle.call_cases.specs.Cases.{outcome_right, check_is}
 use Rattle.call_cases.proofs.check_is.Goals as goal
 

@@ -3,7 +3,6 @@ use Rattle.std.proofs.Common.{rules}
 use Rattle.std.specs.Prelude.{ℕ, eqb}
 use mathlib.Core.Path.{ap, ◌∙◌}
 use Rattle.call_cases.specs.Cases.{outcome_right, clutter_agrees}
-use Rattle.cases.specs.Payload.{long_at}
 use Rattle.call_cases.proofs.clutter_agrees.Goals as goal
 
 pub returns : goal.returns

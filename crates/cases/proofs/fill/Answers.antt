@@ -1,6 +1,6 @@
 -- `cases::fill` meets its contract. Assumes nothing.
 use Rattle.std.proofs.Common.{length, sym, ◌∙◌, arith}
-use Rattle.cases.specs.Laws.{each_start, each_fill_step, each_fill_end}
+use Rattle.cases.specs.Laws.{each_fill_step, each_fill_end}
 use Rattle.cases.proofs.fill.Goals as goal
 
 pub loop-value-preserved : goal.loop-value-preserved
