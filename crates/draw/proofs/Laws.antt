@@ -25,6 +25,12 @@ use Rattle.refusal.specs.Refused.{values, number}
 
 -- ---- 8
 
+or_middle : (a b c d : Bool) → ((a || b) || (c || d)) ≡ ((a || c) || (b || d))
+or_middle true b c d = refl
+or_middle false true true d = refl
+or_middle false true false d = refl
+or_middle false false c d = refl
+
 -- x or y of one of the first n centres
 pub far_either : (n : ℕ) (cs : List «V») → far_centre n (xs_of cs) (ys_of cs) ≡ list_any (λ c. far c.x || far c.y) (take n cs)
 unfolding far_centre any_of

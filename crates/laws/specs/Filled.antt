@@ -10,9 +10,18 @@ module _ {A : Type 0} (d : A) where
   fill_more l v i a h k e f =
       rw (add-one, take-suc-set l i a h, take-suc v i d k) (ap₂ (λ (p : List A) (x : A). p ++ (x ∷ [])) e f)
 
+  -- v stored place by place in l, of which i places are done
+  pub copy_step : (l v : List A) (i : ℕ) → i < length v → put (set l i (get_or v i d)) (i + 1) (drop (i + 1) v) ≡ put l i (drop i v)
+  unfolding put
+  copy_step l v i h = rw (drop-cons v i d h, add-one)
+
 module _ {A : Type 0} where
   pub fill_end : (l v : List A) (i : ℕ) → length l ≤ i → length v ≤ i → take i l ≡ take i v → l ≡ v
   fill_end l v i h k e = sym (take_all i l h) ∙ e ∙ take_all i v k
+
+  pub copy-end : (l v : List A) (i : ℕ) → length v ≤ i → put l i (drop i v) ≡ l
+  unfolding put
+  copy-end l v i h = rw (drop_of_length-le v h)
 
   -- things by number: one more, and all
   pub table-fill : (g : ℕ → A) (l : List A) (i : ℕ) (a : A) → i < length l → take i l ≡ table g 0 i → a ≡ g i → take (i + 1) (set l i a) ≡ table g 0 (i + 1)

@@ -49,6 +49,11 @@ module _ (g : Graph) (xs ys : List Float) (k : ℕ) where
   unfolding frame_of
   arrow_ends = get_or-map ends_of g.arrows k no_arrow
 
+  -- the frame keeps what the graph keeps
+  pub kept_same : is_kept_in (frame_of g xs ys) (numbered_at (frame_of g xs ys) k) ≡ Meaning.is_kept g (arrow_at g k)
+  unfolding frame_of
+  kept_same = ap₂ (λ (n : ℕ) (e : Ends). ends_below n e.source e.target) (length-map g.states (λ a. a.flags)) arrow_ends
+
   pub arrow-kept : (arrow_at g k).source < length g.states → (arrow_at g k).target < length g.states → is_kept_in (frame_of g xs ys) (numbered_at (frame_of g xs ys) k) ≡ true
   arrow-kept a b =
       kept_same
