@@ -6,6 +6,7 @@ use Rattle.std.proofs.lemmas.List.{length-map}
 use Rattle.std.specs.Float.{nan}
 use Rattle.std.specs.Float.Ieee.{of_bits}
 use Rattle.std.specs.Float.Ieee as Ieee
+use Rattle.laws.specs.Chains.{any_list}
 use Rattle.laws.specs.Any.{any_of, Somewhere, some_at, at_some, none_at, any_without, any_kept, any_map, none_up, up_none}
 use Rattle.laws.specs.Bools.{clash, and_both, not-holds}
 use Rattle.laws.specs.Cases.{by_bool}
@@ -46,7 +47,7 @@ leads_back a b x = leads_from b a (ends_of x)
 -- over the sheet's own arrows
 search_arrows : (g : Graph) (xs ys : List Float) (k a b : ℕ) → searched g xs ys k a b ≡ any_of (leads_back a b) g.arrows
 unfolding frame_of leads
-search_arrows g xs ys k a b = any_map (leads_from b a) ends_of g.arrows
+search_arrows g xs ys k a b = sym (any_list (leads_from b a) (map ends_of g.arrows)) ∙ any_map (leads_from b a) ends_of g.arrows
 
 -- an arrow that leads back has the states as its ends
 back_ends : (a b : ℕ) (x : Arrow) → leads_back a b x ≡ true → (x.source ≡ b) × (x.target ≡ a)
@@ -127,7 +128,8 @@ stays_so f a =
     let s = a.ends.target in
     let t = a.ends.source in
     let n : length (map (λ e. e.source) l) ≡ length l = length-map l (λ e. e.source) in
-    by_bool (any_of (leads_from s t) l)
+    sym (any_list (leads_from s t) l)
+    ∙ by_bool (any_of (leads_from s t) l)
     (λ y.
     let r : Somewhere (leads_from s t) l no_ends = some_at (leads_from s t) l no_ends y in
     y ∙ by_bool (paired_before f a) sym
