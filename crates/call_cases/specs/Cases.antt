@@ -11,6 +11,23 @@ use Rattle.cases.specs.Kinds.{call_number}
 use Rattle.cases.specs.declared.kind.Call.{Call}
 use Rattle.cases.specs.declared.kind.Call.TheVariants as call
 
+-- ---- a case of a call
+
+-- the answer and the layout's kind, a byte each; the sheet, or a label's text; the limits; and what the call is given besides, with
+-- what it must write
+pub record Case : Type 0 where
+  pub answer : ℕ
+  pub layout_kind : ℕ
+  pub sheet : List ℕ
+  pub limits : Limits
+  pub rest : List ℕ
+
+-- a case at the centres that it gives; its rest is what it has behind them
+pub record CentredCase : Type 0 where
+  pub case : Case
+  pub xs : List Float
+  pub ys : List Float
+
 -- ---- the answer
 
 -- the case's answer, a byte: 0 where the values are right, or the refusal's number
@@ -56,121 +73,143 @@ around room call l = take 16 l ++ (call (take room (drop 16 l)) ++ drop room (dr
 
 -- ---- check, size a label block, write a number
 
-unfoldable pub check_is : ℕ → List ℕ → Limits → Bool
-check_is a s m = outcome_right a (λ u. true) (check s m)
+unfoldable pub check_is : Case → Bool
+check_is k = outcome_right k.answer (λ u. true) (check k.sheet k.limits)
 
 -- the number of lines; width and height; the lengths of the lines. No case has more than sixteen lines.
 unfoldable pub size_is : List ℕ → Float × Float → Bool
 size_is rest v = same_float rest 2 v.0 && same_float rest 10 v.1
 
-unfoldable pub label_agrees : ℕ → List ℕ → Limits → List ℕ → Bool
-label_agrees a text m rest = leb (word_at rest 0) 16 && outcome_right a (size_is rest) (label_size text (sizes_at rest 18 (word_at rest 0)) m)
+unfoldable pub label_agrees : Case → Bool
+label_agrees k =
+    let n = word_at k.rest 0 in
+    leb n 16 && outcome_right k.answer (size_is k.rest) (label_size k.sheet (sizes_at k.rest 18 n) k.limits)
 
 -- a text was written to the middle of `out`
-abbrev pub wrote : ℕ → List ℕ → Outcome ℕ → List ℕ → Bool
+unfoldable pub wrote : ℕ → List ℕ → Outcome ℕ → List ℕ → Bool
 wrote a text answer out = outcome_right a (λ n. eqb n (length text)) answer && text_stands out text
 
-unfoldable pub number_is : ℕ → Float → ℕ → List ℕ → List ℕ → Bool
-number_is a v room text out = wrote a text (write_num v (take room (drop 16 out))) (around room (write_num_after v) out)
+unfoldable pub number_is : Case → Float → ℕ → List ℕ → List ℕ → Bool
+number_is k v room text out = wrote k.answer text (write_num v (take room (drop 16 out))) (around room (write_num_after v) out)
 
 -- the number; the room that is lent; the text. No case lends more than 64 bytes.
-unfoldable pub number_agrees : ℕ → List ℕ → Bool
-number_agrees a rest =
-    leb (word_at rest 8) 64
-    && (leb 10 (length rest)
-    && number_is a (float_at rest 0) (word_at rest 8) (drop 10 rest) (replicate 96 170))
+unfoldable pub number_agrees : Case → Bool
+number_agrees k =
+    leb (word_at k.rest 8) 64
+    && (leb 10 (length k.rest)
+    && number_is k (float_at k.rest 0) (word_at k.rest 8) (drop 10 k.rest) (replicate 96 170))
 
 -- ---- list a drawing: the room that is lent; the text
 
-unfoldable pub list_is : ℕ → ℕ → List ℕ → Limits → ℕ → List ℕ → List ℕ → Bool
-list_is a by s m room text out = wrote a text (list s m by room) (around room (list_after s m by) out)
+unfoldable pub list_is : Case → ℕ → List ℕ → List ℕ → Bool
+list_is k room text out =
+    wrote k.answer text (list k.sheet k.limits k.layout_kind room) (around room (list_after k.sheet k.limits k.layout_kind) out)
 
-unfoldable pub list_agrees : ℕ → ℕ → List ℕ → Limits → List ℕ → Bool
-list_agrees a by s m rest = leb 2 (length rest) && list_is a by s m (word_at rest 0) (drop 2 rest) (replicate 65600 170)
+unfoldable pub list_agrees : Case → Bool
+list_agrees k = leb 2 (length k.rest) && list_is k (word_at k.rest 0) (drop 2 k.rest) (replicate 65600 170)
 
 -- ---- write a sheet: the room that is lent, four bytes; the sheet that is written. No case lends more than 65,568 bytes.
 
-unfoldable pub sheet_is : ℕ → List ℕ → Limits → ℕ → List ℕ → List ℕ → Bool
-sheet_is a s m room fresh out = wrote a fresh (write_sheet s m room) (around room (write_sheet_after s m) out)
+unfoldable pub sheet_is : Case → ℕ → List ℕ → List ℕ → Bool
+sheet_is k room fresh out = wrote k.answer fresh (write_sheet k.sheet k.limits room) (around room (write_sheet_after k.sheet k.limits) out)
 
-unfoldable pub sheet_agrees : ℕ → List ℕ → Limits → List ℕ → Bool
-sheet_agrees a s m rest = leb (long_at rest 0) 65568 && (leb 4 (length rest) && sheet_is a s m (long_at rest 0) (drop 4 rest) (replicate 65600 170))
+unfoldable pub sheet_agrees : Case → Bool
+sheet_agrees k =
+    leb (long_at k.rest 0) 65568
+    && (leb 4 (length k.rest)
+    && sheet_is k (long_at k.rest 0) (drop 4 k.rest) (replicate 65600 170))
 
 -- ---- lay out a sheet: the rooms that are lent for x and for y; the number of states; width and height; the xs, the ys
 
 unfoldable pub laid_is : List ℕ → ℕ × Float × Float → Bool
 laid_is rest v = eqb v.0 (word_at rest 4) && (same_float rest 6 v.1 && same_float rest 14 v.2)
 
-unfoldable pub layout_is : ℕ → ℕ → List ℕ → Limits → List ℕ → List Float → List Float → Bool
-layout_is a by s m rest xs ys =
-    let xRoom = word_at rest 0 in
-    let yRoom = word_at rest 2 in
-    let n = word_at rest 4 in
-    outcome_right a (laid_is rest) (layout s m by xRoom yRoom)
-    && (numbers_stand_in rest 22 n (around xRoom (λ l. xs_after s m by l yRoom) xs)
-    && numbers_stand_in rest (22 + 8 * n) n (around yRoom (ys_after s m by xRoom) ys))
+unfoldable pub layout_is : Case → List Float → List Float → Bool
+layout_is k xs ys =
+    let s = k.sheet in
+    let m = k.limits in
+    let by = k.layout_kind in
+    let xRoom = word_at k.rest 0 in
+    let yRoom = word_at k.rest 2 in
+    let n = word_at k.rest 4 in
+    outcome_right k.answer (laid_is k.rest) (layout s m by xRoom yRoom)
+    && (numbers_stand_in k.rest 22 n (around xRoom (λ l. xs_after s m by l yRoom) xs)
+    && numbers_stand_in k.rest (22 + 8 * n) n (around yRoom (ys_after s m by xRoom) ys))
 
 -- no case lends more than 128
-unfoldable pub layout_agrees : ℕ → ℕ → List ℕ → Limits → List ℕ → Bool
-layout_agrees a by s m rest =
-    leb (word_at rest 0) 128 && (leb (word_at rest 2) 128 && layout_is a by s m rest (replicate 160 unset) (replicate 160 unset))
+unfoldable pub layout_agrees : Case → Bool
+layout_agrees k =
+    leb (word_at k.rest 0) 128 && (leb (word_at k.rest 2) 128 && layout_is k (replicate 160 unset) (replicate 160 unset))
 
 -- ---- route a sheet: the rooms that are lent for records and text; how many numbers the records have; these numbers; the text
 
 unfoldable pub lengths_are : ℕ → List ℕ → ℕ × ℕ → Bool
 lengths_are n text v = eqb v.0 n && eqb v.1 (length text)
 
-unfoldable pub route_is : ℕ → List ℕ → Limits → List Float → List Float → List ℕ → List ℕ → List Float → List ℕ → Bool
-route_is a s m xs ys rest text records out =
+unfoldable pub route_is : CentredCase → List ℕ → List Float → List ℕ → Bool
+route_is k text records out =
+    let s = k.case.sheet in
+    let m = k.case.limits in
+    let rest = k.case.rest in
     let room = word_at rest 0 in
     let textRoom = word_at rest 2 in
     let n = word_at rest 4 in
-    outcome_right a (lengths_are n text) (route s m xs ys room textRoom)
-    && (numbers_stand_in rest 6 n (around room (λ l. records_after s m xs ys l textRoom) records)
-    && text_stands (around textRoom (text_after s m xs ys room) out) text)
+    outcome_right k.case.answer (lengths_are n text) (route s m k.xs k.ys room textRoom)
+    && (numbers_stand_in rest 6 n (around room (λ l. records_after s m k.xs k.ys l textRoom) records)
+    && text_stands (around textRoom (text_after s m k.xs k.ys room) out) text)
 
 -- no case lends more than 5,200 numbers or 25,700 bytes
-unfoldable pub route_agrees : ℕ → List ℕ → Limits → List Float → List Float → List ℕ → Bool
-route_agrees a s m xs ys rest =
+unfoldable pub route_agrees : CentredCase → Bool
+route_agrees k =
+    let rest = k.case.rest in
     let end = 6 + 8 * word_at rest 4 in
     leb (word_at rest 0) 5200
     && (leb (word_at rest 2) 25700
     && (leb end (length rest)
-    && route_is a s m xs ys rest (drop end rest) (replicate 5248 unset) (replicate 25732 170)))
+    && route_is k (drop end rest) (replicate 5248 unset) (replicate 25732 170)))
 
 -- ---- count clutter: the count
 
-unfoldable pub clutter_agrees : ℕ → List ℕ → Limits → List Float → List Float → List ℕ → Bool
-clutter_agrees a s m xs ys rest = outcome_right a (λ n. eqb n (long_at rest 0)) (clutter s m xs ys)
+unfoldable pub clutter_agrees : CentredCase → Bool
+clutter_agrees k = outcome_right k.case.answer (λ n. eqb n (long_at k.case.rest 0)) (clutter k.case.sheet k.case.limits k.xs k.ys)
 
 -- ---- given centres: the number of xs and of ys; the xs, the ys; and the rest. No case has more than 80 of either.
 
-unfoldable pub at_centres : (List Float → List Float → List ℕ → Bool) → List ℕ → Bool
-at_centres drawn rest =
-    let nx = word_at rest 0 in
-    let ny = word_at rest 2 in
+-- a case with another rest
+abbrev pub with_rest : Case → List ℕ → Case
+with_rest k rest = record { answer = k.answer; layout_kind = k.layout_kind; sheet = k.sheet; limits = k.limits; rest = rest }
+
+unfoldable pub at_centres : (CentredCase → Bool) → Case → Bool
+at_centres drawn k =
+    let nx = word_at k.rest 0 in
+    let ny = word_at k.rest 2 in
     let end = 4 + 8 * nx + 8 * ny in
     leb nx 80
     && (leb ny 80
-    && (leb end (length rest)
-    && drawn (floats_at rest 4 nx) (floats_at rest (4 + 8 * nx) ny) (drop end rest)))
+    && (leb end (length k.rest)
+    && drawn (record { case = with_rest k (drop end k.rest); xs = floats_at k.rest 4 nx; ys = floats_at k.rest (4 + 8 * nx) ny })))
 
--- ---- a call under the limits m: the answer and the layout's kind, a byte each; the length of the sheet, or of the label's text, four bytes; the sheet; and the rest
+-- ---- a call under the limits m: the answer and the layout's kind, a byte each; the length of the sheet, or of the label's text, four
+-- bytes; the sheet; and the rest
 
-unfoldable pub called : Call → ℕ → ℕ → List ℕ → Limits → List ℕ → Bool
-called call.Route a by s m rest = at_centres (route_agrees a s m) rest
-called call.Layout a by s m rest = layout_agrees a by s m rest
-called call.Clutter a by s m rest = at_centres (clutter_agrees a s m) rest
-called call.List a by s m rest = list_agrees a by s m rest
-called call.Check a by s m rest = check_is a s m
-called call.LabelSize a by s m rest = label_agrees a s m rest
-called call.WriteNum a by s m rest = number_agrees a rest
-called call.WriteSheet a by s m rest = sheet_agrees a s m rest
+-- the case in a payload
+abbrev pub case_at : Limits → List ℕ → Case
+case_at m p =
+    let n = long_at p 2 in
+    record { answer = payload_byte p 0; layout_kind = payload_byte p 1; sheet = take n (drop 6 p); limits = m; rest = drop (6 + n) p }
+
+unfoldable pub called : Call → Case → Bool
+called call.Route k = at_centres route_agrees k
+called call.Layout k = layout_agrees k
+called call.Clutter k = at_centres clutter_agrees k
+called call.List k = list_agrees k
+called call.Check k = check_is k
+called call.LabelSize k = label_agrees k
+called call.WriteNum k = number_agrees k
+called call.WriteSheet k = sheet_agrees k
 
 unfoldable pub called_under : Limits → Call → List ℕ → Bool
-called_under m c p =
-    let n = long_at p 2 in
-    leb (6 + n) (length p) && called c (payload_byte p 0) (payload_byte p 1) (take n (drop 6 p)) m (drop (6 + n) p)
+called_under m c p = leb (6 + long_at p 2) (length p) && called c (case_at m p)
 
 -- the limits: states, arrows and lines, eight bytes each
 unfoldable pub limits_at : List ℕ → Limits

@@ -16,4 +16,7 @@ returns-then-p-end c = rw (← c.length_at-end.ensures.0, lt-leb _ _ c.if-p-end.
 pub returns : goal.returns
 unfolding called_under
 returns c = let e : 6 + c.length_at-end.result - 6 ≡ c.length_at-end.result = omega arith in
-    rw (← c.length_at-end.ensures.0, le-leb _ _ c.if-p-end.false, ← c.byte.ensures, ← c.byte-2.ensures) (c.called.ensures ∙ ap₂ (λ (x y : List ℕ). called c.args.call c.byte.result c.byte-2.result x c.args.m y) (ap (λ (k : ℕ). take k (drop 6 c.args.p.now)) e) (part-tail (6 + c.length_at-end.result) c.args.p.now))
+    rw (← c.length_at-end.ensures.0, le-leb _ _ c.if-p-end.false, ← c.byte.ensures, ← c.byte-2.ensures)
+    (c.called.ensures
+    ∙ ap₂ (λ (s rest : List ℕ). called c.args.call (record { answer = c.byte.result; layout_kind = c.byte-2.result; sheet = s; limits = c.args.limits; rest = rest }))
+    (ap (λ (k : ℕ). take k (drop 6 c.args.p.now)) e) (part-tail (6 + c.length_at-end.result) c.args.p.now))
