@@ -1,4 +1,4 @@
--- A step of each loop over slices, and its end. Assumes nothing.
+-- The column that holds a state, a step of each loop over slices, and its end. Assumes nothing.
 use mathlib.Core.Path.{◌≡◌, refl, sym, ap, ap₂, ◌∙◌}
 use mathlib.Core.Bool.{Bool, true, false}
 use mathlib.Core.List.{List, [], ◌∷◌, map}
