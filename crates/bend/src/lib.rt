@@ -90,6 +90,7 @@ fn clearance(nodes: &[V], c: Chord, h: f64) -> f64
         room: most,
         square: most,
     };
+    // k numbers points of the arc, which are no list: nothing is indexed.
     for k in 1..16u32 {
         r = nearest(nodes, c, arc.at(k as f64 / 16.0), r);
     }

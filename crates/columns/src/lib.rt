@@ -106,6 +106,7 @@ impl<'a> Net<'a> {
         order.push(start);
         sizes.push(1);
         let mut low: usize = 0;
+        // At most one turn for each state: every turn but the last finds one.
         for _ in 0..self.states {
             let high = order.as_slice().len();
             self.explore(&mut order, low);
@@ -126,6 +127,7 @@ impl<'a> Net<'a> {
         requires fair { Fair self.now.states found.old }
         ensures { found.new ≡ found.old ++ D.unreached self.now.states found.old }
     {
+        // A state is its number: nothing is indexed.
         for v in 0..self.states {
             discover(found, v);
         }

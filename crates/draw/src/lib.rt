@@ -117,9 +117,5 @@ fn number_given(l: &[f64], k: usize) -> f64
 pub fn given(xs: &[f64], ys: &[f64]) -> [V; 64]
     ensures { result ≡ given xs.now ys.now }
 {
-    let mut centres = [V::ORIGIN; 64];
-    for k in 0..64 {
-        centres[k] = V::new(number_given(xs, k), number_given(ys, k));
-    }
-    centres
+    std::array::from_fn(|k| V::new(number_given(xs, k), number_given(ys, k)))
 }

@@ -1,12 +1,8 @@
--- Steps and ends of the loops that cover and that shift, and how what they cover joins. Assumes nothing.
+-- What the states, an arrow and all arrows cover, how that joins, and the shift. Assumes nothing.
 use mathlib.Core.Path.{◌≡◌, refl, sym, ap, ap₂, ◌∙◌}
 use mathlib.Core.Bool.{true, false}
 use mathlib.Core.List.{List, [], ◌∷◌, map, flat_map}
-use Prim.Native.Nat.{ℕ, suc, ◌+◌, ◌-◌, ◌≤◌, ◌<◌}
-use native.Mathlib.Numerals.{add-one}
-use native.Mathlib.Omega.{arith}
-use lib.ListN.{length, get_or, drop, drop_of_length-le}
-use lib.Seq.{drop-cons}
+use Prim.Native.Nat.{ℕ}
 use Rattle.laws.specs.Flat.{table}
 use Rattle.laws.specs.Zip.{zip_by}
 use Rattle.float.specs.Constants.{margin, node_radius, start_arrow_length}
@@ -19,14 +15,11 @@ use Rattle.shape.specs.Centres.{centres}
 use Rattle.label_spots.specs.declared.Geometry.{Geometry}
 use Rattle.sheet.specs.Meaning.{is_start}
 use Rattle.fit.specs.Fit.{state_points, states_points, drawn_points, covered, drawing_bounds, shifted, fit_xs, fit_ys}
-use Rattle.std.specs.List.{fold}
+use Rattle.std.specs.List.{fold, zip, range_with_len}
 use Rattle.std.proofs.lemmas.List.Sums.{fold-append}
-use Rattle.laws.specs.Tables.{table_front, table-past}
+use Rattle.std.proofs.lemmas.List.Folds.{fold-map}
+use Rattle.trace.proofs.Laws.{table_list}
 use Rattle.shape.specs.declared.Curve.{Curve}
-use Rattle.shape.specs.declared.Curve.TheVariants.{Line}
-use Rattle.label_spots.specs.declared.Anchor.TheVariants.{Start}
-use Rattle.shape.specs.Plane.{rect}
-use Rattle.std.specs.Float.{nan}
 
 -- ---- the states
 
@@ -42,21 +35,26 @@ module _ (b low around r : Rect) (flag : ℕ) (c p q : «V») (ep : p ≡ vec (c
   unfolding state_points
   state_other s = rw (s, f, e, eq, ep)
 
-module _ (flags : List ℕ) (cs : List «V») (i : ℕ) (b : Rect) (h : length cs ≡ length flags) where
-  pub states-step : (b' : Rect) → i < length cs → b' ≡ fold extended b (state_points (get_or flags i 0) (get_or cs i (vec nan nan)))
-      → fold extended b' (states_points (drop (i + 1) flags) (drop (i + 1) cs)) ≡ fold extended b (states_points (drop i flags) (drop i cs))
-  unfolding states_points
-  states-step b' l e =
-      let k : i < length flags = omega arith in
-      rw (drop-cons cs i (vec nan nan) l, drop-cons flags i 0 k, add-one, e)
-      (sym (fold-append extended b (state_points (get_or flags i 0) (get_or cs i (vec nan nan)))
-      (states_points (drop (suc i) flags) (drop (suc i) cs))))
-
-  pub states-end : length cs ≤ i → b ≡ fold extended b (states_points (drop i flags) (drop i cs))
-  unfolding states_points
-  states-end l = let k : length flags ≤ i = omega arith in rw (drop_of_length-le flags k)
+pub states_covered : (b : Rect) (flags : List ℕ) (cs : List «V»)
+    → fold (λ b p. fold extended b (state_points p.0 p.1)) b (zip flags cs) ≡ fold extended b (states_points flags cs)
+unfolding states_points
+states_covered b [] cs = refl
+states_covered b (flag ∷ flags) [] = refl
+states_covered b (flag ∷ flags) (c ∷ cs) =
+    states_covered (fold extended b (state_points flag c)) flags cs
+    ∙ sym (fold-append extended b (state_points flag c) (states_points flags cs))
 
 -- ---- an arrow, and all
+
+pub curve_covered : (b : Rect) (c : Curve) → fold (λ b k. extended b (sample c k)) b (range_with_len 0 17) ≡ fold extended b (table (sample c) 0 17)
+curve_covered b c = rw (table_list (sample c) 0 17) (sym (fold-map extended (sample c) b (range_with_len 0 17)))
+
+pub arrows_covered : (b : Rect) (gs : List Geometry) → fold (λ b g. fold extended b (drawn_points g)) b gs ≡ fold extended b (flat_map drawn_points gs)
+unfolding flat_map
+arrows_covered b [] = refl
+arrows_covered b (g ∷ gs) =
+    arrows_covered (fold extended b (drawn_points g)) gs
+    ∙ sym (fold-append extended b (drawn_points g) (flat_map drawn_points gs))
 
 two_more : (b : Rect) (p q : «V») → extended (extended b p) q ≡ fold extended b (p ∷ q ∷ [])
 two_more b p q = refl
@@ -96,37 +94,3 @@ pub fitted : (flags : List ℕ) (cs : List «V») (gs : List Geometry) (b : Rect
 fitted flags cs gs b v l eb ev el =
     el ∙ ap (λ (w : «V»). map (λ c. add c w) cs) ev ∙ moved (vec b.x0 b.y0) cs
     ∙ ap (λ (r : Rect). centres (shifted r.x0 (map (λ c. c.x) cs)) (shifted r.y0 (map (λ c. c.y) cs))) eb
-
--- ---- a point of a curve more, an arrow more
-
-module _ (c : Curve) (k : ℕ) (b : Rect) where
-  pub curve-step : (v : «V») (r : Rect) → k < 17 → v ≡ sample c k → r ≡ extended b v
-      → fold extended r (table (sample c) (k + 1) (17 - (k + 1))) ≡ fold extended b (table (sample c) k (17 - k))
-  curve-step v r h e f = rw (table_front (sample c) k 17 h, f, e)
-
-  pub curve-end : 17 ≤ k → b ≡ fold extended b (table (sample c) k (17 - k))
-  curve-end h = rw (table-past (sample c) k 17 h)
-
--- what an index beyond a slice would read
-abbrev pub no_geometry : Geometry
-no_geometry = record {
-  edge = 0;
-  curve = Line (vec nan nan) (vec nan nan);
-  tip = vec nan nan;
-  tip_angle = nan;
-  label = vec nan nan;
-  anchor = Start;
-  label_box = rect nan nan nan nan;
-}
-
-module _ (gs : List Geometry) (i : ℕ) (b : Rect) where
-  pub drawn-step : (r : Rect) → i < length gs → r ≡ fold extended b (drawn_points (get_or gs i no_geometry))
-      → fold extended r (flat_map drawn_points (drop (i + 1) gs)) ≡ fold extended b (flat_map drawn_points (drop i gs))
-  unfolding flat_map
-  drawn-step r h e =
-      let front : drop i gs ≡ get_or gs i no_geometry ∷ drop (i + 1) gs = rw add-one (drop-cons gs i no_geometry h) in
-      rw (front, e) (sym (fold-append extended b (drawn_points (get_or gs i no_geometry)) (flat_map drawn_points (drop (i + 1) gs))))
-
-  pub drawn-end : length gs ≤ i → b ≡ fold extended b (flat_map drawn_points (drop i gs))
-  unfolding flat_map
-  drawn-end h = rw (drop_of_length-le gs h)

@@ -38,24 +38,18 @@ fn cover_state(b: Rect, flag: u8, c: V) -> Rect
 }
 
 fn cover_states(from: Rect, flags: &[u8], nodes: &[V]) -> Rect
-    requires { length nodes.now ≡ length flags.now }
     ensures { result ≡ fold extended from (S.states_points flags.now nodes.now) }
 {
-    let mut b = from;
-    for (i, c) in nodes.iter().enumerate() {
-        b = cover_state(b, flags[i], *c);
-    }
-    b
+    flags
+        .iter()
+        .zip(nodes.iter())
+        .fold(from, |b, (flag, c)| cover_state(b, *flag, *c))
 }
 
 fn cover_curve(from: Rect, curve: Curve) -> Rect
     ensures { result ≡ fold extended from (table (sample curve) 0 17) }
 {
-    let mut b = from;
-    for k in 0..POINTS {
-        b = b.extended(trace::sample(curve, k));
-    }
-    b
+    (0..POINTS).fold(from, |b, k| b.extended(trace::sample(curve, k)))
 }
 
 // The arrow's curve and its label box.
@@ -72,11 +66,7 @@ fn cover_drawn(b: Rect, g: &Geometry) -> Rect
 fn cover_all(from: Rect, drawn: &[Geometry]) -> Rect
     ensures { result ≡ fold extended from (flat_map S.drawn_points drawn.now) }
 {
-    let mut b = from;
-    for g in drawn {
-        b = cover_drawn(b, g);
-    }
-    b
+    drawn.iter().fold(from, |b, g| cover_drawn(b, g))
 }
 
 // ---- the shift

@@ -193,6 +193,7 @@ fn series<F: Fn(u32) -> u32>(divisor: F, z: f64) -> f64
     ensures { (d : ℕ → ℕ) → ((k n : _) → F.post divisor k n → n ≡ d k) → result ≡ S.series d z }
 {
     let mut t = 1.0;
+    // From the last term to the first. Terms have numbers and are no list: nothing is indexed.
     for k in (1..15).rev() {
         t = 1.0 - z / divisor(k) as f64 * t;
     }
@@ -223,6 +224,7 @@ fn arc_series(z: f64) -> f64
     ensures { result ≡ S.arc_series z }
 {
     let mut t = 1.0 / 25.0;
+    // From the last term but one to the first, by number as above.
     for k in (0..12u32).rev() {
         t = 1.0 / (2 * k + 1) as f64 - z * t;
     }

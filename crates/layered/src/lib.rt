@@ -47,12 +47,10 @@ fn row_for(height: f64) -> f64
 fn column_of(columns: &Columns, v: usize) -> usize
     ensures { (result ≡ D.column_of columns.now v) × (result ≤ 64) }
 {
-    for l in 0..columns.count() {
-        if columns::contains(columns.column(l), v) {
-            return l;
-        }
-    }
-    columns.count()
+    let count = columns.count();
+    (0..count)
+        .find(|l| columns::contains(columns.column(*l), v))
+        .unwrap_or(count)
 }
 
 // The x of each state, with y 0.

@@ -44,6 +44,7 @@ pub extern "C" fn murshogi_check(sheet: &[u8], limits: &[usize; 3]) -> u8
 {
     let m = limits_of(limits);
     let c = calls::check(sheet, m);
+    // Not by `filled`: there is no place to fill.
     match c {
         Ok(()) => 0,
         Err(refusal) => refusal.into(),
@@ -95,6 +96,7 @@ pub extern "C" fn murshogi_layout(
 {
     let m = limits_of(limits);
     let c = calls::layout(sheet, m, kind, x, y);
+    // Not by `filled`: there are two places to fill.
     match c {
         Ok((n, w, h)) => {
             *size = [w, h];

@@ -25,6 +25,7 @@ pub fn keep_first_mark(out: &mut [u8], n: u16)
     ensures { out.new ≡ M.mark_kept false 1 n out.old }
 {
     let mut marked = false;
+    // By number: a record is a place in the bytes, and record 0 is the header.
     for k in 1..n + 1 {
         marked = visit(out, k, marked);
     }

@@ -82,6 +82,7 @@ fn whole_root(a: u64) -> Digits
         r: 0,
         x: a * 1024,
     };
+    // Digits are counted: nothing is indexed.
     for _ in 0..53u64 {
         d = digit(d);
     }
@@ -96,6 +97,7 @@ fn scale_up(s0: u64, e0: u64) -> Scaled
 {
     let mut s = s0;
     let mut e = e0;
+    // Shifts are counted: nothing is indexed.
     for _ in 0..52u64 {
         if LEADING <= s {
             return Scaled { s, e };

@@ -126,6 +126,7 @@ pub fn first_least<F: Fn(usize, usize) -> usize>(places: usize, cost: F) -> usiz
 {
     let mut least = NO_LIMIT;
     let mut place: usize = 0;
+    // Places are numbered and are no slice: `cost` takes the number.
     for j in 0..places {
         let c = cost(least, j);
         if c < least {

@@ -12,7 +12,7 @@ ghost use Rattle.totals.specs.Arrows as W;
 use label_spots::Geometry;
 use reader::{Chain, record_at};
 use shape::Curve;
-use sheet::word_at;
+use sheet::{first_line_at, word_at};
 
 // Straight arrows, arcs, loops, left-out arrows and label lines.
 #[derive(Clone, Copy)]
@@ -52,62 +52,76 @@ pub struct ArrowCounts {
     pub lines: usize,
 }
 
-// Both ends of an arrow are below the number of states.
-fn ends_below(n: usize, source: usize, target: usize) -> bool
-    ensures { result ≡ ends_below n source target }
-{
-    source < n && target < n
+// The arrows of a sheet, and the number of its states.
+#[derive(Clone, Copy)]
+struct Arrows<'a> {
+    sheet: &'a [u8],
+    states: usize,
 }
 
-// 1 where the arrow of record k is left out of a drawing of n states.
-fn left_out_add(s: &[u8], k: u16, n: usize) -> usize
-    ensures { (result ≡ W.left_out_add n (G.arrow_of s.now k)) × (result ≤ 1) }
-{
-    let d = record_at(s, k);
-    if ends_below(n, usize::from(d.word4), usize::from(d.word6)) {
-        return 0;
+impl<'a> Arrows<'a> {
+    // Whether both ends of the arrow of record k are below the number of states.
+    #[tactic(auto, unfolding(sheet::specs::Sheet::arrow_of))]
+    fn is_kept(&self, k: u16) -> bool
+        ensures { let arrow = G.arrow_of self.now.sheet.now k in
+            result ≡ ends_below self.now.states arrow.source arrow.target }
+    {
+        let d = record_at(self.sheet, k);
+        usize::from(d.word4) < self.states && usize::from(d.word6) < self.states
     }
-    1
-}
 
-// The lines of the arrow of record k, none where it is left out.
-fn lines_add(s: &[u8], k: u16, n: usize) -> usize
-    ensures { (result ≡ W.lines_add n (G.arrow_of s.now k)) × (result ≤ 65536) }
-{
-    let d = record_at(s, k);
-    if ends_below(n, usize::from(d.word4), usize::from(d.word6)) {
-        return meaning::chain_length(s, d.word8);
+    // 1 where the arrow of record k is left out.
+    #[tactic(auto, unfolding(crate::specs::Arrows::left_out_add))]
+    fn left_out_add(&self, k: u16) -> usize
+        ensures { let arrow = G.arrow_of self.now.sheet.now k in
+            (result ≡ W.left_out_add self.now.states arrow) × (result ≤ 1) }
+    {
+        if self.is_kept(k) {
+            return 0;
+        }
+        1
     }
-    0
-}
 
-// One arrow more, that of record k.
-fn with_arrow(s: &[u8], k: u16, n: usize, t: ArrowCounts) -> ArrowCounts
-    requires { (t.left_out ≤ 65536) × (t.lines ≤ 4294967296) }
-    ensures { (result ≡ W.with_arrow n t (G.arrow_of s.now k))
-        × (result.left_out ≤ t.left_out + 1)
-        × (result.lines ≤ t.lines + 65536) }
-{
-    let out = left_out_add(s, k, n);
-    let lines = lines_add(s, k, n);
-    ArrowCounts {
-        left_out: t.left_out + out,
-        lines: t.lines + lines,
+    // The lines of the arrow of record k, none where it is left out.
+    #[tactic(auto, using(crate::proofs::Laws::lines_length), unfolding(crate::specs::Arrows::lines_add))]
+    fn lines_add(&self, k: u16) -> usize
+        ensures { let arrow = G.arrow_of self.now.sheet.now k in
+            (result ≡ W.lines_add self.now.states arrow) × (result ≤ 65536) }
+    {
+        if self.is_kept(k) {
+            return meaning::chain_length(self.sheet, first_line_at(self.sheet, k));
+        }
+        0
     }
-}
 
-// All arrows of the sheet, which has n states.
-fn count_arrows(s: &[u8], n: usize) -> ArrowCounts
-    ensures { result ≡ over (W.with_arrow n) W.none_counted (G.arrows_of s.now) }
-{
-    let mut t = ArrowCounts {
-        left_out: 0,
-        lines: 0,
-    };
-    for k in Chain::new(s, word_at(s, 6)) {
-        t = with_arrow(s, k, n, t);
+    // One arrow more, that of record k.
+    fn with_arrow(&self, k: u16, t: ArrowCounts) -> ArrowCounts
+        requires { (t.left_out ≤ 65536) × (t.lines ≤ 4294967296) }
+        ensures { (result ≡ W.with_arrow self.now.states t (G.arrow_of self.now.sheet.now k))
+            × (result.left_out ≤ t.left_out + 1)
+            × (result.lines ≤ t.lines + 65536) }
+    {
+        let out = self.left_out_add(k);
+        let lines = self.lines_add(k);
+        ArrowCounts {
+            left_out: t.left_out + out,
+            lines: t.lines + lines,
+        }
     }
-    t
+
+    // All of them.
+    fn count(&self) -> ArrowCounts
+        ensures { result ≡ over (W.with_arrow self.now.states) W.none_counted (G.arrows_of self.now.sheet.now) }
+    {
+        let mut t = ArrowCounts {
+            left_out: 0,
+            lines: 0,
+        };
+        for k in Chain::new(self.sheet, word_at(self.sheet, 6)) {
+            t = self.with_arrow(k, t);
+        }
+        t
+    }
 }
 
 // ---- the totals
@@ -116,13 +130,16 @@ fn count_arrows(s: &[u8], n: usize) -> ArrowCounts
 pub fn totals_of(s: &[u8], drawn: &[Geometry]) -> Totals
     ensures { result ≡ S.totals_of (G.meaning s.now) drawn.now }
 {
-    let n = meaning::state_count(s);
-    let arrows = count_arrows(s, n);
+    let arrows = Arrows {
+        sheet: s,
+        states: meaning::state_count(s),
+    };
+    let counts = arrows.count();
     Totals {
         straight: with_points(drawn, 2),
         arcs: with_points(drawn, 3),
         loops: with_points(drawn, 4),
-        left_out: arrows.left_out,
-        lines: arrows.lines,
+        left_out: counts.left_out,
+        lines: counts.lines,
     }
 }

@@ -158,6 +158,7 @@ impl<const ARROWS: usize, const BOXES: usize, const TRACES: usize> Drawing<ARROW
             S.drawn_in f self.new ≡ passed f sizes.now (S.pass_of sort) (S.drawn_in f self.old) }
         ensures many { S.Grown self.old self.new (length frame.now.arrows.now) (S.more sort (length frame.now.arrows.now)) }
     {
+        // By number: a turn reads `laid` and `sizes` at i, and what it draws is arrow i's.
         for i in 0..frame.arrows.len() {
             self.turn_at(sort, frame, laid, sizes, i);
         }

@@ -1,11 +1,16 @@
 -- `fit::cover_all` meets its contract.
-use Rattle.std.proofs.Common.{◌∙◌}
-use Rattle.fit.proofs.Laws.{drawn-step, drawn-end}
+use Rattle.std.proofs.Common.{rules, ◌∙◌}
+use Rattle.std.specs.List.{fold}
+use Rattle.std.proofs.lemmas.Iterator.{YieldsList-from_slice}
+use Rattle.std.proofs.lemmas.Iterator.Consumers.{fold_from_yields_List}
+use Rattle.shape.specs.Plane.{extended}
+use Rattle.fit.specs.Fit.{drawn_points}
+use Rattle.fit.proofs.Laws.{arrows_covered}
 use Rattle.fit.proofs.cover_all.Goals as goal
 
-pub loop-g-preserved : goal.loop-g-preserved
-loop-g-preserved c = let l = c.loop-g in
-    drawn-step c.args.drawn.now l.g-index l.b c.cover_drawn-b.result c.loop-g-test.true c.cover_drawn-b.ensures ∙ l.invariant
-
 pub returns : goal.returns
-returns c = let l = c.loop-g in drawn-end c.args.drawn.now l.g-index l.b c.loop-g-test.false ∙ l.invariant
+returns c =
+    let a = c.args in
+    fold_from_yields_List _ (λ b g. fold extended b (drawn_points g)) a.from _ c.fold.ensures.ran
+    (YieldsList-from_slice a.drawn.now (cc)) (λ b x d q k. search rules)
+    ∙ arrows_covered a.from a.drawn.now

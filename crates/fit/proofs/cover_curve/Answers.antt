@@ -1,11 +1,15 @@
 -- `fit::cover_curve` meets its contract.
-use Rattle.std.proofs.Common.{◌∙◌}
-use Rattle.fit.proofs.Laws.{curve-step, curve-end}
+use Rattle.std.proofs.Common.{rules, ◌∙◌}
+use Rattle.std.proofs.lemmas.Iterator.{YieldsList-from_range}
+use Rattle.std.proofs.lemmas.Iterator.Consumers.{fold_from_yields_List}
+use Rattle.shape.specs.Plane.{extended}
+use Rattle.trace.specs.Traces.{sample}
+use Rattle.fit.proofs.Laws.{curve_covered}
 use Rattle.fit.proofs.cover_curve.Goals as goal
 
-pub loop-k-preserved : goal.loop-k-preserved
-loop-k-preserved c = let l = c.loop-k in
-    curve-step c.args.curve l.k l.b c.sample.result c.extended-b.result c.loop-k-test.true c.sample.ensures c.extended-b.ensures ∙ l.invariant
-
 pub returns : goal.returns
-returns c = let l = c.loop-k in curve-end c.args.curve l.k l.b c.loop-k-test.false ∙ l.invariant
+returns c =
+    let a = c.args in
+    fold_from_yields_List _ (λ b k. extended b (sample a.curve k)) a.from _ c.fold.ensures.ran
+    (YieldsList-from_range 0 17 17 (cc) (cc)) (λ b x d q k. search rules)
+    ∙ curve_covered a.from a.curve

@@ -1,13 +1,16 @@
 -- `fit::cover_states` meets its contract.
-use mathlib.Core.Path.{◌∙◌}
-use native.Mathlib.Omega.{arith}
-use Rattle.fit.proofs.Laws.{states-step, states-end}
+use Rattle.std.proofs.Common.{rules, ◌∙◌}
+use Rattle.std.specs.List.{fold}
+use Rattle.std.proofs.lemmas.Iterator.{YieldsList-from_slice, YieldsList-from_zip}
+use Rattle.std.proofs.lemmas.Iterator.Consumers.{fold_from_yields_List}
+use Rattle.shape.specs.Plane.{extended}
+use Rattle.fit.specs.Fit.{state_points}
+use Rattle.fit.proofs.Laws.{states_covered}
 use Rattle.fit.proofs.cover_states.Goals as goal
 
-pub loop-i-preserved : goal.loop-i-preserved
-loop-i-preserved c = let a = c.args in
-    let l = c.loop-i in
-    states-step a.flags.now a.nodes.now l.i l.b c.requires c.cover_state-b.result (omega arith) c.cover_state-b.ensures ∙ l.invariant
-
 pub returns : goal.returns
-returns c = states-end c.args.flags.now c.args.nodes.now c.loop-i.i c.loop-i.b c.requires (omega arith) ∙ c.loop-i.invariant
+returns c =
+    let a = c.args in
+    fold_from_yields_List _ (λ b p. fold extended b (state_points p.0 p.1)) a.from _ c.fold.ensures.ran
+    (YieldsList-from_zip (YieldsList-from_slice a.flags.now (cc)) (YieldsList-from_slice a.nodes.now (cc))) (λ b x d q k. search rules)
+    ∙ states_covered a.from a.flags.now a.nodes.now

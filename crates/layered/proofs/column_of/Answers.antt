@@ -1,33 +1,21 @@
 -- `layered::column_of` meets its contract.
-use Rattle.std.proofs.Common.{ap, sym, ◌∙◌, arith}
+use Rattle.std.proofs.Common.{rules, tests, [], length, get_or, ap, ◌∙◌, ◌≡◌, arith}
+use Rattle.std.specs.Option.{unwrap_or}
+use Rattle.std.proofs.lemmas.Iterator.{YieldsList-from_range}
+use Rattle.std.proofs.lemmas.Iterator.Search.{find_from_yields_List}
 use Rattle.columns.specs.Columns.{elem}
-use Rattle.layered.proofs.Laws.{column_hit, column_miss, column_none}
+use Rattle.layered.specs.Layered.{column_of}
+use Rattle.layered.proofs.Laws.{column_found, column_of-le}
 use Rattle.layered.proofs.column_of.Goals as goal
 
-pub loop-l-init : goal.loop-l-init
-loop-l-init c = (c.count-l-end.ensures.count, omega arith)
-
-pub returns-then-contains : goal.returns-then-contains
-returns-then-contains c = let l = c.loop-l in
-    let e = column_hit c.args.v c.args.columns.now l.l (omega (arith, l.invariant.0))
-    (sym (c.contains.ensures ∙ ap (elem c.args.v) c.column.ensures.states) ∙ c.if-contains.true) in
-    (omega (arith, e, l.invariant.1), omega arith)
-
-pub loop-l-preserved : goal.loop-l-preserved
-loop-l-preserved c = let l = c.loop-l in
-    let e = column_miss c.args.v c.args.columns.now l.l (omega (arith, l.invariant.0))
-    (sym (c.contains.ensures ∙ ap (elem c.args.v) c.column.ensures.states) ∙ c.if-contains.false) in
-    (l.invariant.0, omega (arith, e, l.invariant.1))
-
 pub returns : goal.returns
-returns c = let l = c.loop-l in (
-  omega (
-    arith,
-    column_none c.args.v c.args.columns.now l.l
-        (omega (arith, l.invariant.0)),
-    l.invariant.1,
-    c.count.ensures.count,
-    l.invariant.0,
-  ),
-  omega (arith, c.count.ensures.within),
-)
+returns c =
+    let a = c.args in
+    let cs = a.columns.now in
+    let n = c.count-count.ensures.count in
+    let f = find_from_yields_List (λ l. elem a.v (get_or cs l [])) _ _ c.find.result c.find.ensures.ran
+    (YieldsList-from_range 0 c.count-count.result (length cs) (cc) (omega (arith, n)))
+    (λ x b q k. search (rules, tests)) in
+    let e : c.unwrap_or.result ≡ column_of cs a.v =
+    c.unwrap_or.ensures ∙ ap (unwrap_or c.find.result) n ∙ column_found a.v cs c.find.result f in
+    (e, omega (arith, e, column_of-le a.v cs, n, c.count-count.ensures.within))

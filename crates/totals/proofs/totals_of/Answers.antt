@@ -7,4 +7,4 @@ use Rattle.totals.proofs.Laws.{totals_are}
 use Rattle.totals.proofs.totals_of.Goals as goal
 
 pub returns : goal.returns
-returns c = let a = c.args in totals_are (meaning a.s.now) a.drawn.now _ _ _ _ _ c.state_count-n.ensures c.count_arrows-arrows.ensures (c.with_points.ensures ∙ sym (how_many_list (has_points 2) a.drawn.now)) (c.with_points-2.ensures ∙ sym (how_many_list (has_points 3) a.drawn.now)) (c.with_points-3.ensures ∙ sym (how_many_list (has_points 4) a.drawn.now))
+returns c = let a = c.args in totals_are (meaning a.s.now) a.drawn.now _ _ _ _ _ c.state_count.ensures c.count-counts.ensures (c.with_points.ensures ∙ sym (how_many_list (has_points 2) a.drawn.now)) (c.with_points-2.ensures ∙ sym (how_many_list (has_points 3) a.drawn.now)) (c.with_points-3.ensures ∙ sym (how_many_list (has_points 4) a.drawn.now))

@@ -4,11 +4,11 @@ use Rattle.laws.specs.Loops.{over}
 use Rattle.sheet.specs.Sheet.{arrow_of, arrows_of}
 use Rattle.reader.specs.Reading.{chain_rest}
 use Rattle.totals.specs.Arrows.{none_counted, with_arrow}
-use Rattle.totals.proofs.count_arrows.Given as goal
+use Rattle.totals.proofs.Arrows.count.Given as goal
 
 abbrev pub invariant-loop-k : goal.invariant-loop-k
 invariant-loop-k l = record {
-  rest : over (with_arrow l.n) l.t (map (arrow_of l.s) (chain_rest l.k-iterator)) ≡ over (with_arrow l.n) none_counted (arrows_of l.s);
+  rest : over (with_arrow l.self.states) l.t (map (arrow_of l.self.sheet.now) (chain_rest l.k-iterator)) ≡ over (with_arrow l.self.states) none_counted (arrows_of l.self.sheet.now);
   out : l.t.left_out + length (chain_rest l.k-iterator) ≤ 65536;
   lines : l.t.lines + 65536 * length (chain_rest l.k-iterator) ≤ 4294967296;
 }
