@@ -30,23 +30,23 @@ pub fn byte(p: &[u8], at: usize) -> u8
 fn word(p: &[u8], at: usize) -> u16
     ensures { result ≡ S.word_at p.now at }
 {
-    u16::from_le_bytes([byte(p, at), byte(p, after(at, 1))])
+    u16::from_le_bytes(std::array::from_fn(|i| byte(p, after(at, i))))
 }
 
 // The number in the four bytes from a place on.
-#[tactic(auto, unfolding(crate::specs::Payload::long_at))]
-pub fn long(p: &[u8], at: usize) -> u64
-    ensures { (result ≡ S.long_at p.now at) × (result < 4294967296) }
+#[tactic(auto, unfolding(crate::specs::Payload::word_at, crate::specs::Payload::long_at))]
+pub fn long(p: &[u8], at: usize) -> u32
+    ensures { result ≡ S.long_at p.now at }
 {
-    u64::from(word(p, at)) + 65536 * u64::from(word(p, after(at, 2)))
+    u32::from_le_bytes(std::array::from_fn(|i| byte(p, after(at, i))))
 }
 
 // The number in the eight bytes from a place on.
-#[tactic(auto, unfolding(crate::specs::Payload::bits_at))]
+#[tactic(auto, unfolding(crate::specs::Payload::word_at, crate::specs::Payload::long_at, crate::specs::Payload::bits_at))]
 pub fn bits(p: &[u8], at: usize) -> u64
     ensures { result ≡ S.bits_at p.now at }
 {
-    long(p, at) + 4294967296 * long(p, after(at, 4))
+    u64::from_le_bytes(std::array::from_fn(|i| byte(p, after(at, i))))
 }
 
 // The number in the two bytes from a place on, for a place in a slice.
