@@ -1,4 +1,5 @@
-use Rattle.std.proofs.Common.{◌+◌, ◌*◌, List, ℕ, ◌≤◌, ap, ◌∙◌, length, take, drop, ltb, arith}
+use Rattle.std.proofs.Common.{◌+◌, ◌*◌, List, ℕ, ◌≤◌, refl, ap, ◌∙◌, length, take, drop, ltb, arith}
+use Rattle.std.specs.Option.{unwrap_or}
 use Rattle.laws.specs.Put.{put}
 use Rattle.sheet.specs.Records.{text_bytes}
 use Rattle.encode.specs.Encode.{space_of, piece_size, pieces}
@@ -33,10 +34,10 @@ pub loop-rest-preserved : goal.loop-rest-preserved
 loop-rest-preserved c = let l = c.loop-rest.rest.now in
     let n = c.min.result in
     let e = c.split_at.ensures in
-    let next = index_is (ltb 0 (length c.split_at.result.1.now)) (c.loop-rest.j + 1) c.unwrap_or-next.result c.then_some.result c.then_some.ensures c.unwrap_or-next.ensures in
+    let next = index_is (ltb 0 (length c.split_at.result.1.now)) (c.loop-rest.j + 1) (unwrap_or c.then_some-next.result 0) c.then_some-next.result c.then_some-next.ensures refl in
     let step = cuts_step l n c.min.ensures c.loop-rest-test.true c.loop-rest.invariant.writes
     (next ∙ ap (λ (r : List ℕ). index_if (ltb 0 (length r)) (c.loop-rest.j + 1)) e.back)
-    (c.put_piece.ensures ∙ ap (λ (p : List ℕ). put c.loop-rest.out (16 * c.loop-rest.j) (text_bytes c.unwrap_or-next.result p)) e.front) in
+    (c.put_piece.ensures ∙ ap (λ (p : List ℕ). put c.loop-rest.out (16 * c.loop-rest.j) (text_bytes (unwrap_or c.then_some-next.result 0) p)) e.front) in
     record {
       writes = rw e.back step;
       few = c.loop-rest.invariant.few;

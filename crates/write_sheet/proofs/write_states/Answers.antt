@@ -1,4 +1,5 @@
 use Rattle.std.proofs.Common.{◌≡◌, ◌+◌, ◌*◌, ◌≤◌, ℕ, Bool, refl, ap, ◌∙◌, length, arith}
+use Rattle.std.specs.Option.{unwrap_or}
 use Rattle.laws.specs.Put.{put}
 use Rattle.sheet.specs.Sheet.{chain, state_of, states_of}
 use Rattle.sheet.specs.Records.{state_bytes}
@@ -44,10 +45,10 @@ overflow_add-at-in-Some c = let a = c.args in
 pub loop-i-preserved : goal.loop-i-preserved
 loop-i-preserved c = let s = c.args.s.now in
     let l = c.loop-i in
-    let n = c.unwrap_or-next in
-    let p = index_is c.goes_on.result (l.at + 1) n.result c.then_some.result c.then_some.ensures n.ensures ∙ ap (λ (b : Bool). index_if b (l.at + 1)) c.goes_on.ensures in
+    let n = c.then_some-next in
+    let p = index_is c.goes_on.result (l.at + 1) (unwrap_or n.result 0) n.result n.ensures refl ∙ ap (λ (b : Bool). index_if b (l.at + 1)) c.goes_on.ensures in
     let q = rw (c.from.ensures, c.from-in-Some.ensures) at c.put_record.ensures in
-    follows_step (state_form never) never (state_of s) l.invariant c.in-Some.ensures.steps refl p (q ∙ ap (λ (b : ℕ). put l.out (16 * l.at) (state_bytes b n.result)) c.one_at.ensures)
+    follows_step (state_form never) never (state_of s) l.invariant c.in-Some.ensures.steps refl p (q ∙ ap (λ (b : ℕ). put l.out (16 * l.at) (state_bytes b (unwrap_or n.result 0))) c.one_at.ensures)
 
 pub returns : goal.returns
 returns c = (follows_end (state_form never) never (state_of c.args.s.now) c.loop-i.invariant c.in_default.ensures.steps.0).0
