@@ -22,38 +22,38 @@ fn after(at: usize, n: usize) -> usize
 pub fn byte(p: &[u8], at: usize) -> u8
     ensures { result ≡ S.payload_byte p.now at }
 {
-    if at < p.len() { p[at] } else { 0 }
+    p.get(at).copied().unwrap_or(0)
 }
 
 // The number in the two bytes from a place on, the least first.
 #[tactic(auto, unfolding(crate::specs::Payload::word_at))]
-fn word(p: &[u8], at: usize) -> u64
-    ensures { (result ≡ S.word_at p.now at) × (result < 65536) }
+fn word(p: &[u8], at: usize) -> u16
+    ensures { result ≡ S.word_at p.now at }
 {
-    u64::from(byte(p, at)) + 256 * u64::from(byte(p, after(at, 1)))
+    u16::from_le_bytes(std::array::from_fn(|i| byte(p, after(at, i))))
 }
 
 // The number in the four bytes from a place on.
-#[tactic(auto, unfolding(crate::specs::Payload::long_at))]
-pub fn long(p: &[u8], at: usize) -> u64
-    ensures { (result ≡ S.long_at p.now at) × (result < 4294967296) }
+#[tactic(auto, unfolding(crate::specs::Payload::word_at, crate::specs::Payload::long_at))]
+pub fn long(p: &[u8], at: usize) -> u32
+    ensures { result ≡ S.long_at p.now at }
 {
-    word(p, at) + 65536 * word(p, after(at, 2))
+    u32::from_le_bytes(std::array::from_fn(|i| byte(p, after(at, i))))
 }
 
 // The number in the eight bytes from a place on.
-#[tactic(auto, unfolding(crate::specs::Payload::bits_at))]
+#[tactic(auto, unfolding(crate::specs::Payload::word_at, crate::specs::Payload::long_at, crate::specs::Payload::bits_at))]
 pub fn bits(p: &[u8], at: usize) -> u64
     ensures { result ≡ S.bits_at p.now at }
 {
-    long(p, at) + 4294967296 * long(p, after(at, 4))
+    u64::from_le_bytes(std::array::from_fn(|i| byte(p, after(at, i))))
 }
 
 // The number in the two bytes from a place on, for a place in a slice.
 pub fn index(p: &[u8], at: usize) -> usize
     ensures { (result ≡ S.word_at p.now at) × (result < 65536) }
 {
-    word(p, at) as usize
+    usize::from(word(p, at))
 }
 
 // The number in the eight bytes from a place on, for a length or a limit.

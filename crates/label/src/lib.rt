@@ -85,18 +85,15 @@ fn measure_byte(m: Measure, b: u8) -> Measure
 {
     let awaiting = text::feed(m.awaiting, b);
     let value = text::gather(m.awaiting, m.value, b);
-    if awaiting.is_whole() {
-        let width = m.width + char_width(value);
-        return Measure {
-            awaiting,
-            value,
-            width,
-        };
-    }
+    let width = if awaiting.is_whole() {
+        m.width + char_width(value)
+    } else {
+        m.width
+    };
     Measure {
         awaiting,
         value,
-        width: m.width,
+        width,
     }
 }
 
@@ -107,11 +104,11 @@ fn measure_part(piece: &[u8], m: Measure) -> Measure
     piece.iter().fold(m, |t, b| measure_byte(t, *b))
 }
 
-// The height of so many lines.
+// The height of so many lines; by the nearest float, since `as f64` takes only numbers that a float has.
 fn block_height(lines: usize) -> f64
     ensures { result ≡ S.block_height lines }
 {
-    std::num::nearest_u64_to_f64(lines as u64) * LABEL_LINE_HEIGHT
+    std::num::nearest_usize_to_f64(lines) * LABEL_LINE_HEIGHT
 }
 
 // The line of record k, measured piece by piece.
@@ -141,7 +138,7 @@ pub fn block_at(s: &[u8], first: u16) -> Block
     Block { width, height }
 }
 
-// No length is above `most`, and they add up to `bytes`.
+// No length is above `most`, and they add up to `bytes`. No `sum`, since the lengths may add up to more than a usize holds.
 fn lengths_fit(lengths: &[usize], most: usize, bytes: usize) -> bool
     ensures { result ≡ M.lengths_fit most bytes lengths.now }
 {
@@ -155,7 +152,8 @@ fn lengths_fit(lengths: &[usize], most: usize, bytes: usize) -> bool
     left == 0
 }
 
-// The size of the lines, one after the other in the text, or a refusal of the first that is not well-formed.
+// The size of the lines, one after the other in the text, or a refusal of the first that is not well-formed: a loop, which
+// ends there.
 fn lines_size(text: &[u8], lengths: &[usize]) -> Result<(f64, f64), Refusal>
     requires { S.total_length lengths.now ≤ length text.now }
     ensures { let lines = S.cut text.now lengths.now in
@@ -175,7 +173,7 @@ fn lines_size(text: &[u8], lengths: &[usize]) -> Result<(f64, f64), Refusal>
     Ok((width, block_height(lengths.len())))
 }
 
-// The size of a label block of at most m's lines.
+// The size of a label block of at most m's lines: a pair, as the call answers it.
 pub fn label_size(text: &[u8], lengths: &[usize], m: sheet::Limits) -> Result<(f64, f64), Refusal>
     ensures { outcome result ≡ S.sized m text.now lengths.now }
 {

@@ -124,7 +124,8 @@ pub fn arrow_count(s: &[u8]) -> usize
     chain_length(s, word_at(s, 6))
 }
 
-// The value of each record of a chain, into `out` as far as it reaches.
+// The value of each record of a chain, into `out` as far as it reaches. By `next`, since `zip` over `iter_mut` is not proved
+// here.
 pub fn each_into<T: Copy + Drop, F: Fn(u16) -> T>(mut chain: Chain, out: &mut [T], value: F)
     requires { F.IsAlwaysCallable value }
     ensures { (f : _) → M.Computes (F.post value) f

@@ -6,9 +6,9 @@ ghost use Rattle.std.specs.Iterator.{YieldsFirst, item_count};
 ghost use Rattle.sheet.specs.Sheet as S;
 ghost use Rattle.reader.specs.Reading as R;
 
-use sheet::{first_line_at, first_text_at, kind_at, next_at, one_at, place_of, word_at};
+use sheet::{kind_at, next_at, one_at, place_of, word_at};
 
-// A record: its kind, its byte 1, and the words from byte 4 on.
+// A record: its kind, its byte 1, and the words from byte 4 on, by their places, since each kind has its own use for them.
 #[derive(Clone, Copy)]
 pub struct Record {
     pub kind: u8,
@@ -18,16 +18,17 @@ pub struct Record {
     pub word8: u16,
 }
 
-// Record k of the sheet.
+// Record k of the sheet. A chain has the sheet with it; a single read takes the sheet and the number.
 pub fn record_at(s: &[u8], k: u16) -> Record
     ensures { result ≡ R.record_of s.now k }
 {
+    let at = place_of(k);
     Record {
         kind: kind_at(s, k),
         one: one_at(s, k),
-        word4: first_text_at(s, k),
-        word6: word_at(s, place_of(k) + 6),
-        word8: first_line_at(s, k),
+        word4: word_at(s, at + 4),
+        word6: word_at(s, at + 6),
+        word8: word_at(s, at + 8),
     }
 }
 

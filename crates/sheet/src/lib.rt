@@ -99,7 +99,7 @@ impl TryFrom<u8> for RecordKind {
 pub fn byte_at(s: &[u8], i: usize) -> u8
     ensures { result ≡ S.byte_at s.now i }
 {
-    if i < s.len() { s[i] } else { 0 }
+    s.get(i).copied().unwrap_or(0)
 }
 
 // The little-endian u16 at i.
@@ -107,7 +107,7 @@ pub fn word_at(s: &[u8], i: usize) -> u16
     requires { i < 1048576 }
     ensures { result ≡ S.le16 s.now i }
 {
-    u16::from(byte_at(s, i)) + 256 * u16::from(byte_at(s, i + 1))
+    u16::from_le_bytes([byte_at(s, i), byte_at(s, i + 1)])
 }
 
 // Where record k begins.

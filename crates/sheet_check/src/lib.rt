@@ -16,7 +16,7 @@ use sheet::{Limits, RecordKind, first_line_at, first_text_at, kind_at, word_at};
 
 // Meets record i in a chain of the kind: whether it may be met, and its mark.
 #[tactic(auto, unfolding(crate::specs::Walk::walk, crate::specs::Walk::fresh))]
-fn meet(s: &[u8], kind: RecordKind, i: u16, marks: &mut [u8]) -> bool
+fn meet(s: &[u8], kind: RecordKind, i: u16, marks: &mut [bool]) -> bool
     ensures { W.walked result marks.new ≡ W.walk s.now (S.met_alone (S.kind_byte kind) i) marks.old }
 {
     let at = usize::from(i);
@@ -29,15 +29,15 @@ fn meet(s: &[u8], kind: RecordKind, i: u16, marks: &mut [u8]) -> bool
     if marks.len() <= at {
         return false;
     }
-    if marks[at] != 0 {
+    if marks[at] {
         return false;
     }
-    marks[at] = 1;
+    marks[at] = true;
     true
 }
 
 // Visits the records of a chain until a visit fails.
-fn walk<F: Fn(u16, &mut [u8]) -> bool>(chain: Chain, marks: &mut [u8], visit: F) -> bool
+fn walk<F: Fn(u16, &mut [bool]) -> bool>(chain: Chain, marks: &mut [bool], visit: F) -> bool
     requires { F.IsAlwaysCallable visit }
     ensures { (s : _) (met : _) → W.Visits (F.post visit) s met
         → W.walked result marks.new ≡ W.walk s (flat_map met (chain_rest chain.entry)) marks.old }
@@ -51,7 +51,7 @@ fn walk<F: Fn(u16, &mut [u8]) -> bool>(chain: Chain, marks: &mut [u8], visit: F)
 }
 
 // Walks a chain whose records begin no other: states or texts.
-fn walk_alone(s: &[u8], kind: RecordKind, first: u16, marks: &mut [u8]) -> bool
+fn walk_alone(s: &[u8], kind: RecordKind, first: u16, marks: &mut [bool]) -> bool
     ensures { let met = flat_map (S.met_alone (S.kind_byte kind)) (S.chain s.now first) in
         W.walked result marks.new ≡ W.walk s.now met marks.old }
 {
@@ -63,7 +63,7 @@ fn walk_alone(s: &[u8], kind: RecordKind, first: u16, marks: &mut [u8]) -> bool
 }
 
 // Meets line record i and its texts.
-fn visit_line(s: &[u8], i: u16, marks: &mut [u8]) -> bool
+fn visit_line(s: &[u8], i: u16, marks: &mut [bool]) -> bool
     ensures { W.walked result marks.new ≡ W.walk s.now (S.met_line s.now i) marks.old }
 {
     meet(s, RecordKind::Line, i, marks)
@@ -71,7 +71,7 @@ fn visit_line(s: &[u8], i: u16, marks: &mut [u8]) -> bool
 }
 
 // Meets arrow record i and its lines.
-fn visit_arrow(s: &[u8], i: u16, marks: &mut [u8]) -> bool
+fn visit_arrow(s: &[u8], i: u16, marks: &mut [bool]) -> bool
     ensures { W.walked result marks.new ≡ W.walk s.now (S.met_arrow s.now i) marks.old }
 {
     meet(s, RecordKind::Arrow, i, marks)
@@ -83,7 +83,7 @@ fn visit_arrow(s: &[u8], i: u16, marks: &mut [u8]) -> bool
 }
 
 // Walks both chains.
-fn walk_all(s: &[u8], marks: &mut [u8]) -> bool
+fn walk_all(s: &[u8], marks: &mut [bool]) -> bool
     ensures { W.walked result marks.new ≡ W.walk s.now (S.met s.now) marks.old }
 {
     walk_alone(s, RecordKind::State, word_at(s, 4), marks)
@@ -95,10 +95,10 @@ fn walk_all(s: &[u8], marks: &mut [u8]) -> bool
 }
 
 // Whether one of the records 1 to n has no mark.
-fn some_unmarked(marks: &[u8], n: u16) -> bool
+fn some_unmarked(marks: &[bool], n: u16) -> bool
     ensures { result ≡ any_up (W.unmarked marks.now) 1 (n + 1) }
 {
-    (1..usize::from(n) + 1).any(|k| sheet::byte_at(marks, k) == 0)
+    (1..usize::from(n) + 1).any(|k| !marks.get(k).copied().unwrap_or(false))
 }
 
 // Whether the chains refuse a sheet of at most 4,095 records.
@@ -107,7 +107,7 @@ fn wrong_chains(s: &[u8]) -> bool
     requires { S.count s.now < 4096 }
     ensures { result ≡ R.wrong_chains s.now }
 {
-    let mut marks = [0u8; 4096];
+    let mut marks = [false; 4096];
     if !walk_all(s, &mut marks) {
         return true;
     }

@@ -114,7 +114,7 @@ pub fn gather(awaiting: Awaiting, v: u32, b: u8) -> u32
     64 * (v % 32768) + u32::from(b % 64)
 }
 
-// b at place k, where there is one.
+// b at place k, where there is one. By index, since what is written through a slice's `get_mut` is not followed back into it.
 fn store(out: &mut [u8], k: usize, b: u8)
     ensures { out.new ≡ set out.old k b }
 {

@@ -5,11 +5,11 @@ use Rattle.laws.specs.Any.{any_of, any_head}
 use Rattle.laws.specs.Cases.{by_lt}
 use Rattle.laws.specs.Put.{put, put-put}
 use Rattle.sheet.specs.Records.{u16, zeros, text_bytes}
-use Rattle.encode.specs.Encode.{first_index, piece_size, pieces_by, pieces, piece_records}
+use Rattle.encode.specs.Encode.{first_index, space_of, piece_size, pieces_by, pieces, piece_records}
 use Rattle.encode.specs.Kinds.{bad_piece, pieces_good, piece_form}
 use Rattle.write_line.specs.Writing.{index_if}
 use Rattle.write_line.specs.Puts.{put-over}
-use Rattle.write_line.specs.Writes.{Writes, writes_step}
+use Rattle.write_line.specs.Writes.{Writes, writes_fit, writes_step}
 
 -- ---- the first piece of a line, and the others
 
@@ -60,8 +60,13 @@ module _ (l : List ℕ) (n : ℕ) (q : n ≡ min (length l) 12) where
       (λ h. let y : n ≡ 12 = omega arith in rw y)
 
   module _ (h : 0 < length l) where
-    pub piece_cut : pieces l ≡ take n l ∷ pieces (drop n l)
+    piece_cut : pieces l ≡ take n l ∷ pieces (drop n l)
     piece_cut = pieces_step l h ∙ sym (ap₂ (λ (p r : List ℕ). p ∷ pieces r) stop_take stop_drop)
+
+    pub cuts_fit : {out₀ : List ℕ} {k₀ : ℕ} {whole : List (List ℕ)} {out : List ℕ} {k : ℕ} → Writes piece_size piece_records out₀ k₀ whole out k (pieces l)
+        → (k₀ + space_of piece_size whole < 65536) × (16 * (k₀ + space_of piece_size whole) ≤ length out₀)
+        → (k + 1 < 65536) × (16 * (k + 1) ≤ length out)
+    cuts_fit w = writes_fit w (take n l) (pieces (drop n l)) piece_cut
 
     -- written as record k with the index of the one behind it
     pub cuts_step : {out₀ : List ℕ} {k₀ : ℕ} {whole : List (List ℕ)} {out out' : List ℕ} {k m : ℕ}

@@ -1,6 +1,6 @@
 -- A loop that writes the elements of a list as records, one after another: what it has written and what is left make the whole.
 -- And a record written before others. Assumes nothing.
-use Rattle.std.specs.Prelude.{◌≡◌, List, [], ◌∷◌, ◌++◌, ℕ, ◌+◌, ◌*◌, ◌≤◌, length}
+use Rattle.std.specs.Prelude.{◌≡◌, List, [], ◌∷◌, ◌++◌, ℕ, ◌+◌, ◌*◌, ◌≤◌, ◌<◌, length}
 use Rattle.std.proofs.Common.{ap, ◌∙◌, arith}
 use Rattle.laws.specs.Put.{put}
 use Rattle.encode.specs.Encode.{first_index, space_of, all_records}
@@ -32,8 +32,10 @@ module _ {A : Type 0} {size : A → ℕ} {write : ℕ → ℕ → A → List ℕ
       unfolding space_of
       writes_total = rw e at w.total
 
-      pub writes_room : k + size x ≤ k₀ + space_of size whole
-      writes_room = omega (arith, writes_total)
+      -- where the whole has room, this element has
+      pub writes_fit : (k₀ + space_of size whole < 65536) × (16 * (k₀ + space_of size whole) ≤ length out₀)
+          → (k + size x < 65536) × (16 * (k + size x) ≤ length out)
+      writes_fit h = (omega (arith, writes_total, h.0), omega (arith, writes_total, h.1, w.bytes.same))
 
       pub writes_step : {n : ℕ} {out' : List ℕ} {k' : ℕ} → n ≡ first_index (k + size x) l → length (write k n x) ≡ 16 * size x
           → out' ≡ put out (16 * k) (write k n x) → k' ≡ k + size x → Writes size write out₀ k₀ whole out' k' l

@@ -2,6 +2,7 @@
 #![tactic(auto)]
 
 ghost use Rattle.std.specs.Prelude.{◌≡◌, ◌+◌, ◌*◌, ◌<◌, ◌≤◌, length};
+ghost use Rattle.std.specs.Option.{unwrap_or};
 ghost use Rattle.laws.specs.Put.{put};
 ghost use Rattle.sheet.specs.Sheet as S;
 ghost use Rattle.sheet.specs.Records as B;
@@ -13,54 +14,45 @@ use reader::{Chain, Record};
 use sheet::{RecordKind, first_text_at, place_of};
 
 // ---- one record
+// By its number, and not through a writer that moves on: the record of a line or an arrow is put after the records behind it,
+// whose number it holds.
 
-// The sixteen bytes of a record: kind, byte 1, next index, the words from byte 4 on, then zeros.
-#[tactic(auto, unfolding(laws::specs::Put::put))]
-fn fill(p: &mut [u8], d: Record, next: u16)
-    requires { 16 ≤ length p.old }
-    ensures { p.new ≡ put p.old 0 (W.record_bytes d next) }
+// The sixteen bytes of a record: kind, byte 1, next index, the words from byte 4 on, then zeros. An index of none is 0.
+fn record_bytes(d: Record, next: Option<u16>) -> [u8; 16]
+    ensures { result ≡ W.record_bytes d (unwrap_or next 0) }
 {
-    p[0] = d.kind;
-    p[1] = d.one;
-    p[2] = (next % 256) as u8;
-    p[3] = (next / 256) as u8;
-    p[4] = (d.word4 % 256) as u8;
-    p[5] = (d.word4 / 256) as u8;
-    p[6] = (d.word6 % 256) as u8;
-    p[7] = (d.word6 / 256) as u8;
-    p[8] = (d.word8 % 256) as u8;
-    p[9] = (d.word8 / 256) as u8;
-    p[10] = 0;
-    p[11] = 0;
-    p[12] = 0;
-    p[13] = 0;
-    p[14] = 0;
-    p[15] = 0;
+    let next = next.unwrap_or(0).to_le_bytes();
+    let word4 = d.word4.to_le_bytes();
+    let word6 = d.word6.to_le_bytes();
+    let word8 = d.word8.to_le_bytes();
+    [
+        d.kind, d.one, next[0], next[1], word4[0], word4[1], word6[0], word6[1], word8[0],
+        word8[1], 0, 0, 0, 0, 0, 0,
+    ]
 }
 
-// The same as record k; the header stands where a record 0 would.
-pub fn put_record(out: &mut [u8], k: usize, d: Record, next: u16)
-    requires { 16 * k + 16 ≤ length out.old }
-    ensures { out.new ≡ put out.old (16 * k) (W.record_bytes d next) }
+// Bytes into `out` from place `at` on.
+fn copy_to(bytes: &[u8], out: &mut [u8], at: usize)
+    requires { at + length bytes.now ≤ length out.old }
+    ensures { out.new ≡ put out.old at bytes.now }
 {
-    let at = 16 * k;
-    fill(&mut out[at..], d, next);
+    out[at..at + bytes.len()].copy_from_slice(bytes);
+}
+
+// The bytes of record k; the header stands where a record 0 would.
+pub fn put_record(out: &mut [u8], k: usize, d: Record, next: Option<u16>)
+    requires { 16 * k + 16 ≤ length out.old }
+    ensures { out.new ≡ put out.old (16 * k) (W.record_bytes d (unwrap_or next 0)) }
+{
+    copy_to(&record_bytes(d, next), out, 16 * k);
 }
 
 // ---- the pieces of a line
 
-// The bytes of a piece, into `out` from place `at` on.
-fn copy_to(piece: &[u8], out: &mut [u8], at: usize)
-    requires { at + length piece.now ≤ length out.old }
-    ensures { out.new ≡ put out.old at piece.now }
-{
-    out[at..at + piece.len()].copy_from_slice(piece);
-}
-
 // A piece of a line as the text of record k.
-fn put_piece(piece: &[u8], out: &mut [u8], k: u16, next: u16)
+fn put_piece(piece: &[u8], out: &mut [u8], k: u16, next: Option<u16>)
     requires { (length piece.now ≤ 12) × (16 * k + 16 ≤ length out.old) }
-    ensures { out.new ≡ put out.old (16 * k) (B.text_bytes next piece.now) }
+    ensures { out.new ≡ put out.old (16 * k) (B.text_bytes (unwrap_or next 0) piece.now) }
 {
     put_record(
         out,
@@ -90,7 +82,7 @@ fn write_pieces(line: &[u8], out: &mut [u8], k: u16) -> u16
     let mut j = k;
     while 0 < rest.len() {
         let (piece, behind) = rest.split_at(rest.len().min(12));
-        let next = (0 < behind.len()).then_some(j + 1).unwrap_or(0);
+        let next = (0 < behind.len()).then_some(j + 1);
         put_piece(piece, out, j, next);
         rest = behind;
         j += 1;
@@ -125,7 +117,7 @@ pub fn line_size(s: &[u8], k: u16) -> usize
     1 + (line_length(s, k) + 11) / 12
 }
 
-// The line of record i and its pieces, from record k on, with a line behind it or none; the record after them.
+// The line of record i and its pieces, from record k on; the record after them, which is the next line's if there is more.
 pub fn write_line(s: &[u8], i: u16, out: &mut [u8], k: u16, more: bool) -> u16
     requires { let behind = k + E.line_size (S.line_of s.now i) in
         (length (S.line_of s.now i) ≤ 96)
@@ -148,7 +140,7 @@ pub fn write_line(s: &[u8], i: u16, out: &mut [u8], k: u16, more: bool) -> u16
             word6: 0,
             word8: 0,
         },
-        more.then_some(behind).unwrap_or(0),
+        more.then_some(behind),
     );
     behind
 }

@@ -2,7 +2,7 @@
 -- Assumes nothing.
 use Rattle.std.specs.Prelude.{◌≡◌, refl, Bool, false, not, List, [], ◌∷◌, map, eqb, ltb, length}
 use Rattle.std.proofs.Common.{sym, ap, ◌∙◌}
-use Prim.Native.Nat.{ℕ, ◌+◌, ◌*◌, ◌≤◌}
+use Prim.Native.Nat.{ℕ, ◌+◌, ◌*◌, ◌≤◌, ◌<◌}
 use native.Mathlib.Omega.{arith}
 use borrow.Author.Tests.{eqb-false}
 use Rattle.std.proofs.Common.{eqb-true, lt-ltb}
@@ -15,7 +15,7 @@ use Rattle.encode.specs.Encode.{first_index, space_of, all_records}
 use Rattle.encode.specs.Blocks.{InRecords}
 use Rattle.encode.specs.Kinds.{never}
 use Rattle.write_line.specs.Writing.{index_if}
-use Rattle.write_line.specs.Writes.{Writes, writes_start, writes_end, writes_room, writes_step}
+use Rattle.write_line.specs.Writes.{Writes, writes_start, writes_end, writes_fit, writes_step}
 
 -- f is the element of a record
 module _ {A : Type 0} (f : ℕ → A) where
@@ -77,9 +77,6 @@ module _ {A : Type 0} {size : A → ℕ} {write : ℕ → ℕ → A → List ℕ
   follows_start out k e b = record { writes = writes_start (ap (map f) e); good = rw e b }
 
   module _ {out₀ : List ℕ} {k₀ : ℕ} {whole : List A} {out : List ℕ} {rest : List ℕ} {k : ℕ} (w : Follows out₀ k₀ whole out rest k) where
-    pub follows_same : length out ≡ length out₀
-    follows_same = w.writes.bytes.same
-
     pub follows_end : rest ≡ [] → (out ≡ put out₀ (16 * k₀) (all_records size write k₀ whole)) × (k ≡ k₀ + space_of size whole)
     follows_end e = writes_end w.writes (ap (map f) e)
 
@@ -87,8 +84,9 @@ module _ {A : Type 0} {size : A → ℕ} {write : ℕ → ℕ → A → List ℕ
       pub follows_good : bad (f i) ≡ false
       follows_good = good_here f e bad w.good
 
-      pub follows_room : k + size (f i) ≤ k₀ + space_of size whole
-      follows_room = writes_room w.writes (f i) (map f more) (left_is f e)
+      pub follows_fit : (k₀ + space_of size whole < 65536) × (16 * (k₀ + space_of size whole) ≤ length out₀)
+          → (k + size (f i) < 65536) × (16 * (k + size (f i)) ≤ length out)
+      follows_fit = writes_fit w.writes (f i) (map f more) (left_is f e)
 
       -- the element of record i written, with the index of what is left
       pub follows_step : {out' : List ℕ} {k' n : ℕ} → k' ≡ k + size (f i) → n ≡ index_if (ltb 0 (length more)) k'

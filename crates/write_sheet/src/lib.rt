@@ -16,6 +16,7 @@ use sheet::{RecordKind, first_line_at, one_at, word_at};
 use write_line::{line_size, put_record, write_line};
 
 // ---- how many records are written
+// In loops: `line_size` and `lines_size` ask for short lines, which is known of the records of these chains alone.
 
 // How many records the lines of the chain from `first` on take: at most 9 for each of 65,536.
 fn lines_size(s: &[u8], first: u16) -> usize
@@ -61,7 +62,7 @@ fn write_states(s: &[u8], out: &mut [u8], k: u16)
     let mut states = Chain::new(s, word_at(s, 4));
     let mut at = k;
     while let Some(i) = states.next() {
-        let next = states.goes_on().then_some(at + 1).unwrap_or(0);
+        let next = states.goes_on().then_some(at + 1);
         put_record(
             out,
             usize::from(at),
@@ -97,7 +98,7 @@ fn write_lines(s: &[u8], first: u16, out: &mut [u8], k: u16) -> u16
     at
 }
 
-// Arrow record i with its lines, from record k on, with an arrow behind it or none; the record after them.
+// Arrow record i with its lines, from record k on; the record after them, which is the next arrow's if there is more.
 fn write_arrow(s: &[u8], i: u16, out: &mut [u8], k: u16, more: bool) -> u16
     requires { let arrow = S.arrow_of s.now i in
         let behind = k + E.arrow_size arrow in
@@ -120,7 +121,7 @@ fn write_arrow(s: &[u8], i: u16, out: &mut [u8], k: u16, more: bool) -> u16
             word6: d.word6,
             word8: (d.word8 != 0).then_some(k + 1).unwrap_or(0),
         },
-        more.then_some(behind).unwrap_or(0),
+        more.then_some(behind),
     );
     behind
 }
@@ -166,6 +167,6 @@ pub fn write_afresh(sheet: &[u8], out: &mut [u8], states: usize, arrows: usize)
             word6: (word_at(sheet, 6) != 0).then_some(k).unwrap_or(0),
             word8: 0,
         },
-        (states + arrows) as u16,
+        Some((states + arrows) as u16),
     );
 }

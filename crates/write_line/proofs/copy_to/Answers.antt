@@ -3,6 +3,6 @@ use Rattle.write_line.proofs.Laws.{put_part_is}
 use Rattle.write_line.proofs.copy_to.Goals as goal
 
 pub returns : goal.returns
-returns c = let n = c.args.at + length c.args.piece.now - c.args.at in
+returns c = let n = c.args.at + length c.args.bytes.now - c.args.at in
     ap (λ l. take c.args.at c.args.out.now ++ (l ++ drop n (drop c.args.at c.args.out.now))) c.copy_from_slice.ensures.after
-    ∙ put_part_is c.args.at n c.args.out.now c.args.piece.now (omega arith) c.requires
+    ∙ put_part_is c.args.at n c.args.out.now c.args.bytes.now (omega arith) c.requires

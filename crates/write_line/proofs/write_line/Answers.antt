@@ -1,5 +1,5 @@
 -- `write_line::write_line` meets its contract.
-use mathlib.Core.Path.{◌≡◌}
+use mathlib.Core.Path.{◌≡◌, refl}
 use native.Mathlib.Omega.{arith}
 use lib.ListN.{take}
 use Rattle.laws.specs.Filled.{front_is}
@@ -22,5 +22,5 @@ returns c = let a = c.args in
     let e : x ≡ l = front_is _ l _ _ t.ensures.1 (omega arith) t.ensures.0 in
     let p = c.write_pieces-behind.ensures in
     let f = index_is _ _ _ _ c.then_some.ensures c.unwrap_or.ensures in
-    let n = index_is a.more _ _ _ c.then_some-2.ensures c.unwrap_or-2.ensures in
+    let n = index_is a.more _ _ _ c.then_some-2.ensures refl in
     line-put a.out.now l x a.k e t.ensures.1 f n p.0 p.1 (rw (c.from.ensures, c.from-2.ensures) at c.put_record.ensures)

@@ -1,10 +1,9 @@
-use Rattle.std.proofs.Common.{◌≡◌, ◌+◌, ◌≤◌, Bool, ap, ◌∙◌, length, arith}
+use Rattle.std.proofs.Common.{Bool, ap, ◌∙◌}
 use Rattle.sheet.specs.Sheet.{chain, arrow_of, arrows_of}
-use Rattle.encode.specs.Encode.{space_of, arrow_size}
 use Rattle.encode.specs.Kinds.{arrow_form}
 use Rattle.write_line.specs.Writing.{index_if}
 use Rattle.write_sheet.specs.Sheets.{long_arrow}
-use Rattle.write_sheet.specs.Chained.{follows_start, follows_same, follows_end, follows_good, follows_room, follows_step}
+use Rattle.write_sheet.specs.Chained.{follows_start, follows_end, follows_good, follows_fit, follows_step}
 use Rattle.write_sheet.proofs.write_arrows.Goals as goal
 
 pub loop-i-init : goal.loop-i-init
@@ -13,14 +12,11 @@ loop-i-init c = let a = c.args in
     follows_start arrow_form long_arrow (arrow_of a.s.now) a.out.now a.k (c.new-arrows.ensures.list ∙ ap (chain a.s.now) c.word_at.ensures) c.requires.0
 
 pub write_arrow-at-requires : goal.write_arrow-at-requires
-write_arrow-at-requires c = let a = c.args in
-    let s = a.s.now in
+write_arrow-at-requires c = let s = c.args.s.now in
     let l = c.loop-i in
     let e = c.in-Some.ensures.steps in
-    let g = follows_good arrow_form long_arrow (arrow_of s) l.invariant e in
-    let r : l.at + arrow_size (arrow_of s c.in-Some.i) ≤ a.k + space_of arrow_size (arrows_of s) = follows_room arrow_form long_arrow (arrow_of s) l.invariant e in
-    let q : length l.out ≡ length a.out.now = follows_same arrow_form long_arrow (arrow_of s) l.invariant in
-    (g, omega arith, omega arith)
+    let f = follows_fit arrow_form long_arrow (arrow_of s) l.invariant e (c.requires.1, c.requires.2) in
+    (follows_good arrow_form long_arrow (arrow_of s) l.invariant e, f.0, f.1)
 
 pub loop-i-preserved : goal.loop-i-preserved
 loop-i-preserved c = let s = c.args.s.now in

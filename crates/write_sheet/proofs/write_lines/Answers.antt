@@ -1,10 +1,9 @@
-use Rattle.std.proofs.Common.{◌≡◌, ◌+◌, ◌≤◌, Bool, ap, length, arith}
+use Rattle.std.proofs.Common.{Bool, ap}
 use Rattle.sheet.specs.Sheet.{line_of, lines_from}
 use Rattle.sheet.specs.Refusals.{long_line}
-use Rattle.encode.specs.Encode.{space_of, line_size}
 use Rattle.encode.specs.Kinds.{line_form}
 use Rattle.write_line.specs.Writing.{index_if}
-use Rattle.write_sheet.specs.Chained.{follows_start, follows_same, follows_end, follows_good, follows_room, follows_step}
+use Rattle.write_sheet.specs.Chained.{follows_start, follows_end, follows_good, follows_fit, follows_step}
 use Rattle.write_sheet.specs.Arrows.{line-short}
 use Rattle.write_sheet.proofs.write_lines.Goals as goal
 
@@ -13,14 +12,11 @@ unfolding lines_from
 loop-i-init c = let a = c.args in follows_start line_form long_line (line_of a.s.now) a.out.now a.k c.new-lines.ensures.list c.requires.0
 
 pub write_line-at-requires : goal.write_line-at-requires
-write_line-at-requires c = let a = c.args in
-    let s = a.s.now in
+write_line-at-requires c = let s = c.args.s.now in
     let l = c.loop-i in
     let e = c.in-Some.ensures.steps in
-    let g = follows_good line_form long_line (line_of s) l.invariant e in
-    let r : l.at + line_size (line_of s c.in-Some.i) ≤ a.k + space_of line_size (lines_from s a.first) = follows_room line_form long_line (line_of s) l.invariant e in
-    let q : length l.out ≡ length a.out.now = follows_same line_form long_line (line_of s) l.invariant in
-    (line-short (line_of s c.in-Some.i) g, omega arith, omega arith)
+    let f = follows_fit line_form long_line (line_of s) l.invariant e (c.requires.1, c.requires.2) in
+    (line-short (line_of s c.in-Some.i) (follows_good line_form long_line (line_of s) l.invariant e), f.0, f.1)
 
 pub loop-i-preserved : goal.loop-i-preserved
 loop-i-preserved c = let s = c.args.s.now in
