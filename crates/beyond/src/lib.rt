@@ -10,15 +10,16 @@ use curves::Frame;
 use free::{Chord, Span};
 use shape::V;
 use sheet::Ends;
+use stack::Stack;
 
 // Whether the first free bow of a two-way pair along c exceeds 10^9.
 fn pair_beyond(nodes: &[V], c: Chord) -> bool
     requires { length nodes.now ≤ 64 }
     ensures { result ≡ S.pair_beyond c nodes.now }
 {
-    let mut room = [Span::NONE; 64];
-    let up = bend::pair_up(c, free::blocked(nodes, c, &mut room));
-    up > 1e9
+    let mut spans: Stack<Span, 64> = Stack::new(Span::NONE);
+    c.blocked(nodes, &mut spans);
+    bend::pair_up(c, spans.as_slice()) > 1e9
 }
 
 // The same of an arrow, where it joins different states and a reverse arrow exists.
@@ -30,7 +31,7 @@ fn arrow_beyond(frame: &Frame, e: Ends) -> bool
         && bend::leads(frame.arrows, e.target, e.source)
         && pair_beyond(
             frame.centres,
-            free::chord_of(frame.centres, e.source, e.target),
+            Chord::of(frame.centres, e.source, e.target),
         )
 }
 
