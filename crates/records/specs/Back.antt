@@ -12,7 +12,8 @@ use Rattle.records.specs.Whole.{whole_of, whole_back}
 use Rattle.label_spots.specs.declared.Anchor.{Anchor}
 use Rattle.label_spots.specs.declared.Anchor.TheVariants.{Start, Middle, End}
 use Rattle.label_spots.specs.declared.Geometry.{Geometry}
-use Rattle.records.specs.Records.{corners_of, curve_of, anchor_number, anchor_of, fields, decode_geometry, decode_records}
+use Rattle.label_spots.specs.Labels.{anchor_number}
+use Rattle.records.specs.Records.{corners_of, curve_of, anchor_of, fields, decode_geometry, decode_records}
 use Rattle.laws.specs.Flats as Flats
 
 -- ---- records
