@@ -1,8 +1,8 @@
--- `clutter::traces_of` meets its contract.
-use Rattle.std.proofs.Common.{◌≡◌, map, take}
+-- `clutter::push_traces` meets its contract.
+use Rattle.std.proofs.Common.{◌≡◌, ◌≤◌, length, map, take}
 use Rattle.trace.specs.Form.{trace_in}
 use Rattle.clutter.specs.Clutter.{record_trace}
-use Rattle.clutter.proofs.traces_of.Given as goal
+use Rattle.clutter.proofs.push_traces.Given as goal
 
-abbrev pub invariant-loop-i : goal.invariant-loop-i
-invariant-loop-i l = map trace_in (take l.i l.room) ≡ map record_trace (take l.i l.drawn)
+abbrev pub invariant-loop-g : goal.invariant-loop-g
+invariant-loop-g l = (length l.traces ≤ l.g-index) × (map trace_in l.traces ≡ map record_trace (take l.g-index l.drawn))
