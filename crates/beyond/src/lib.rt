@@ -19,7 +19,8 @@ fn pair_beyond(nodes: &[V], c: Chord) -> bool
 {
     let mut spans: Stack<Span, 64> = Stack::new(Span::NONE);
     c.blocked(nodes, &mut spans);
-    bend::pair_up(c, spans.as_slice()) > 1e9
+    let up = bend::pair_up(c, spans.as_slice());
+    up > 1e9
 }
 
 // The same of an arrow, where it joins different states and a reverse arrow exists.
@@ -29,10 +30,7 @@ fn arrow_beyond(frame: &Frame, e: Ends) -> bool
 {
     directions::is_between(frame.flags.len(), e.source, e.target)
         && bend::leads(frame.arrows, e.target, e.source)
-        && pair_beyond(
-            frame.centres,
-            Chord::of(frame.centres, e.source, e.target),
-        )
+        && pair_beyond(frame.centres, Chord::of(frame.centres, e.source, e.target))
 }
 
 fn some_beyond(frame: &Frame, arrows: &[Ends]) -> bool

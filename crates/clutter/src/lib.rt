@@ -41,6 +41,8 @@ fn crossings(traces: &[Trace]) -> usize
     ensures { (result ≡ S.crossings (map trace_in traces.now)) × (result ≤ 65536) }
 {
     let mut sum: usize = 0;
+    // By a loop, here and in `collisions`: the definitions go by what lies before and behind an item, which no law ties to a chain of
+    // numbered items.
     for (i, t) in traces.iter().enumerate() {
         sum += crossed(t, &traces[i + 1..]);
     }
