@@ -1,7 +1,6 @@
 -- Arrows by their ends, and the search for the reverse arrow: "the arrows are searched directly" (document 02, T-03).
 use Rattle.std.specs.Prelude.{Bool, ◌&&◌, List, ℕ, eqb}
 use Rattle.std.specs.List.{list_any}
-use Rattle.laws.specs.Zip.{zip_by}
 pub use Rattle.sheet.specs.declared.Ends.{Ends}
 
 -- it leads from a to b

@@ -14,9 +14,10 @@ ghost use Rattle.bend.specs.Steps as S;
 use free::{CLEARANCE, Chord, Search, Span};
 use shape::{Curve, EPS, NODE_RADIUS, V};
 use sheet::Ends;
+use stack::Stack;
 
 // Which way the label of an arrow may go: beside a line, outside an arc (1 bent to the left, -1 to the right),
-// outwards from a loop.
+// outwards from a loop. The side of an arc is a number, since directions are multiplied by it.
 #[derive(Clone, Copy)]
 pub enum Shape {
     Line,
@@ -31,6 +32,8 @@ pub struct Routed {
     pub tip_angle: f64,
     pub shape: Shape,
 }
+
+// Functions of a chord, whose type is `free`'s.
 
 // The control point of the arc with bow h.
 fn control(c: Chord, h: f64) -> V
@@ -52,7 +55,7 @@ fn beside(c: Chord, k: usize, o: V, p: V, r: Near) -> Near
     requires { Q.GoodNear r }
     ensures { Q.RoomStep c k o p r result }
 {
-    if free::is_end(c, k) {
+    if c.is_end(k) {
         return r;
     }
     let q = p.dist_squared(o);
@@ -72,6 +75,7 @@ fn nearest(nodes: &[V], c: Chord, p: V, start: Near) -> Near
     ensures { Q.NearestRoom (C.other_states c nodes.now) p start result }
 {
     let mut r = start;
+    // By a loop, here and in `clearance`: a step requires that the room belongs to the square, which a fold does not hand on.
     for (k, o) in nodes.iter().enumerate() {
         r = beside(c, k, *o, p, r);
     }
@@ -193,9 +197,9 @@ fn bend(nodes: &[V], c: Chord, both_ways: bool) -> f64
     requires few { length nodes.now ≤ 64 }
     ensures { result ≡ B.bend c nodes.now both_ways }
 {
-    let mut room = [Span::NONE; 64];
-    let spans = free::blocked(nodes, c, &mut room);
-    bend_past(nodes, c, spans, both_ways)
+    let mut spans: Stack<Span, 64> = Stack::new(Span::NONE);
+    c.blocked(nodes, &mut spans);
+    bend_past(nodes, c, spans.as_slice(), both_ways)
 }
 
 fn straight(c: Chord) -> Routed
@@ -232,14 +236,14 @@ fn with_bow(c: Chord, h: f64) -> Routed
     bowed(c, h)
 }
 
-// The arrow between two different states.
+// The arrow between two different states; `both_ways` is what the search for a reverse arrow answers.
 pub fn between(nodes: &[V], from: usize, to: usize, both_ways: bool) -> Routed
     requires few { length nodes.now ≤ 64 }
     requires from_in_bounds { from < length nodes.now }
     requires to_in_bounds { to < length nodes.now }
     ensures { result ≡ W.between nodes.now from to both_ways }
 {
-    let c = free::chord_of(nodes, from, to);
+    let c = Chord::of(nodes, from, to);
     let h = bend(nodes, c, both_ways);
     with_bow(c, h)
 }

@@ -10,14 +10,16 @@ use curves::Frame;
 use free::{Chord, Span};
 use shape::V;
 use sheet::Ends;
+use stack::Stack;
 
 // Whether the first free bow of a two-way pair along c exceeds 10^9.
 fn pair_beyond(nodes: &[V], c: Chord) -> bool
     requires { length nodes.now ≤ 64 }
     ensures { result ≡ S.pair_beyond c nodes.now }
 {
-    let mut room = [Span::NONE; 64];
-    let up = bend::pair_up(c, free::blocked(nodes, c, &mut room));
+    let mut spans: Stack<Span, 64> = Stack::new(Span::NONE);
+    c.blocked(nodes, &mut spans);
+    let up = bend::pair_up(c, spans.as_slice());
     up > 1e9
 }
 
@@ -28,10 +30,7 @@ fn arrow_beyond(frame: &Frame, e: Ends) -> bool
 {
     directions::is_between(frame.flags.len(), e.source, e.target)
         && bend::leads(frame.arrows, e.target, e.source)
-        && pair_beyond(
-            frame.centres,
-            free::chord_of(frame.centres, e.source, e.target),
-        )
+        && pair_beyond(frame.centres, Chord::of(frame.centres, e.source, e.target))
 }
 
 fn some_beyond(frame: &Frame, arrows: &[Ends]) -> bool

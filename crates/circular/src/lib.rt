@@ -5,8 +5,9 @@ ghost use Rattle.std.specs.Prelude.{◌≡◌, ◌<◌, ◌≤◌, length};
 ghost use Rattle.shape.specs.Centres as P;
 ghost use Rattle.circular.specs.Ring as S;
 
-use float::{PI, TAU};
+use float::TAU;
 use shape::{NODE_RADIUS, V};
+use std::f64::consts::PI;
 
 // The smallest distance between neighbours on the ring.
 const CIRCLE_GAP: f64 = 150.0;

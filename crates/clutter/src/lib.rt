@@ -9,20 +9,21 @@ ghost use Rattle.clutter.specs.Clutter as S;
 
 use label_spots::Geometry;
 use shape::{NODE_RADIUS, Rect, V};
+use stack::Stack;
 use trace::Trace;
 
 // The square of the distance below which a state is too near to a label that is drawn.
 const NEAR24_SQUARED: f64 = (NODE_RADIUS + 2.0) * (NODE_RADIUS + 2.0);
 
-// The traces of the arrows, in the room lent.
-fn traces_of<'a>(drawn: &[Geometry], room: &'a mut [Trace]) -> &'a [Trace]
-    requires { length drawn.now ≤ length room.old }
-    ensures { map trace_in result.now ≡ map S.record_trace drawn.now }
+// The traces of the arrows.
+fn push_traces(drawn: &[Geometry], traces: &mut Stack<Trace, 256>)
+    requires few { length drawn.now ≤ 256 }
+    requires none { traces.old ≡ [] }
+    ensures { map trace_in traces.new ≡ map S.record_trace drawn.now }
 {
-    for (i, g) in drawn.iter().enumerate() {
-        room[i] = Trace::of(Some(g.edge), g.curve);
+    for g in drawn {
+        traces.push(Trace::of(Some(g.edge), g.curve));
     }
-    &room[..drawn.len()]
 }
 
 // ---- pairs of arrows
@@ -40,6 +41,8 @@ fn crossings(traces: &[Trace]) -> usize
     ensures { (result ≡ S.crossings (map trace_in traces.now)) × (result ≤ 65536) }
 {
     let mut sum: usize = 0;
+    // By a loop, here and in `collisions`: the definitions go by what lies before and behind an item, which no law ties to a chain of
+    // numbered items.
     for (i, t) in traces.iter().enumerate() {
         sum += crossed(t, &traces[i + 1..]);
     }
@@ -48,7 +51,7 @@ fn crossings(traces: &[Trace]) -> usize
 
 // ---- labels
 
-// Whether a state with centre c is nearer to the box than its radius and 2, by the squares.
+// Whether a state with centre c is nearer to the box than its radius and 2, by the squares, as worked out for this distance.
 #[tactic(auto, using(crate::specs::Near::near_by_squares))]
 fn near24(b: Rect, c: V) -> bool
     ensures { result ≡ S.near24 b c }
@@ -110,9 +113,9 @@ pub fn clutter(nodes: &[V], drawn: &[Geometry]) -> usize
     requires { length drawn.now ≤ 256 }
     ensures { result ≡ S.clutter_of nodes.now drawn.now }
 {
-    let mut room = [Trace::NONE; 256];
-    let traces = traces_of(drawn, &mut room);
-    let pairs = crossings(traces);
-    let labels = collisions(nodes, traces, drawn);
+    let mut traces: Stack<Trace, 256> = Stack::new(Trace::NONE);
+    push_traces(drawn, &mut traces);
+    let pairs = crossings(traces.as_slice());
+    let labels = collisions(nodes, traces.as_slice(), drawn);
     pairs + labels
 }

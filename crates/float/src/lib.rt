@@ -10,10 +10,9 @@ ghost use Rattle.float.specs.Standins as S;
 
 use root::{FRACTION, INFINITY_BITS, LEADING, SIGN};
 use std::cmp::Ordering;
+use std::f64::consts::PI;
 
-// The circle's half turn and its whole turn.
-pub const PI: f64 = 3.141592653589793;
-
+// The circle's whole turn.
 pub const TAU: f64 = remainder::TAU;
 
 // The bits of 2^52, from which on every f64 is whole.
@@ -274,7 +273,7 @@ fn turned_back(back: bool, angle: f64) -> f64
 fn minus_first(first: bool, second: bool) -> bool
     ensures { result ≡ S.minus_first first second }
 {
-    if first { !second } else { false }
+    first && !second
 }
 
 // Whether a stands before b.
@@ -287,10 +286,7 @@ pub fn precedes(a: f64, b: f64) -> bool
     if a == b {
         return minus_first(negative(a), negative(b));
     }
-    if a != a {
-        return false;
-    }
-    b != b
+    a == a && b != b
 }
 
 pub fn total_cmp(a: f64, b: f64) -> Ordering

@@ -1,12 +1,13 @@
 // The bows that states beside an arrow block, and the first free one.
 #![tactic(auto)]
 
-ghost use Rattle.std.specs.Prelude.{◌≡◌, ◌<◌, ◌≤◌, length};
+ghost use Rattle.std.specs.Prelude.{◌≡◌, [], ◌<◌, ◌≤◌, length};
 ghost use Rattle.free.specs.Chords as C;
 ghost use Rattle.free.specs.Blocked as B;
 ghost use Rattle.free.specs.Free as F;
 
 use shape::{NODE_RADIUS, V};
+use stack::Stack;
 
 // The free space that an arrow keeps around states that it passes.
 pub const CLEARANCE: f64 = 10.0;
@@ -29,68 +30,69 @@ pub struct Span {
     pub hi: f64,
 }
 
-pub fn chord_of(nodes: &[V], from: usize, to: usize) -> Chord
-    requires from_in_bounds { from < length nodes.now }
-    requires to_in_bounds { to < length nodes.now }
-    ensures { result ≡ C.chord nodes.now from to }
-{
-    let a = nodes[from];
-    let b = nodes[to];
-    let along = (b - a).unit_or(V::new(1.0, 0.0));
-    let len = a.dist(b);
-    Chord {
-        from,
-        to,
-        a,
-        b,
-        along,
-        len,
-    }
-}
-
-// Whether state k is an end of the chord.
-pub fn is_end(c: Chord, k: usize) -> bool
-    ensures { result ≡ C.is_end c k }
-{
-    k == c.from || k == c.to
-}
-
-// Whether a state at p does not lie beside the chord.
-fn off_chord(c: Chord, p: V) -> bool
-    ensures { result ≡ B.off_chord c p }
-{
-    let distance = (p - c.a).dot(c.along);
-    distance <= 0.0 || c.len <= distance
-}
-
-// The bows at which the arc comes nearer than CLEARANCE to the rim of a state at p.
-fn span_of(c: Chord, p: V) -> Span
-    ensures { result ≡ B.span_of c p }
-{
-    let rel = p - c.a;
-    let t = rel.dot(c.along) / c.len;
-    let rise = 2.0 * t * (1.0 - t);
-    let across = rel.dot(c.along.left());
-    let need = NODE_RADIUS + CLEARANCE;
-    Span {
-        lo: (across - need) / rise,
-        hi: (across + need) / rise,
-    }
-}
-
-// The intervals that the states block, one behind another in the room lent.
-pub fn blocked<'a>(nodes: &[V], c: Chord, room: &'a mut [Span]) -> &'a [Span]
-    requires { length nodes.now ≤ length room.old }
-    ensures { result.now ≡ B.blocked c nodes.now }
-{
-    let mut n = 0;
-    for (k, p) in nodes.iter().enumerate() {
-        if !is_end(c, k) && !off_chord(c, *p) {
-            room[n] = span_of(c, *p);
-            n += 1;
+impl Chord {
+    // The chord from one state to another.
+    pub fn of(nodes: &[V], from: usize, to: usize) -> Chord
+        requires from_in_bounds { from < length nodes.now }
+        requires to_in_bounds { to < length nodes.now }
+        ensures { result ≡ C.chord nodes.now from to }
+    {
+        let a = nodes[from];
+        let b = nodes[to];
+        let along = (b - a).unit_or(V::new(1.0, 0.0));
+        let len = a.dist(b);
+        Chord {
+            from,
+            to,
+            a,
+            b,
+            along,
+            len,
         }
     }
-    &room[..n]
+
+    // Whether state k is an end of the chord.
+    pub fn is_end(self, k: usize) -> bool
+        ensures { result ≡ C.is_end self k }
+    {
+        k == self.from || k == self.to
+    }
+
+    // Whether a state at p does not lie beside the chord.
+    fn is_off(self, p: V) -> bool
+        ensures { result ≡ B.off_chord self p }
+    {
+        let distance = (p - self.a).dot(self.along);
+        distance <= 0.0 || self.len <= distance
+    }
+
+    // The bows at which the arc comes nearer than CLEARANCE to the rim of a state at p.
+    fn span_of(self, p: V) -> Span
+        ensures { result ≡ B.span_of self p }
+    {
+        let rel = p - self.a;
+        let t = rel.dot(self.along) / self.len;
+        let rise = 2.0 * t * (1.0 - t);
+        let across = rel.dot(self.along.left());
+        let need = NODE_RADIUS + CLEARANCE;
+        Span {
+            lo: (across - need) / rise,
+            hi: (across + need) / rise,
+        }
+    }
+
+    // The intervals that the states block, one behind another.
+    pub fn blocked(self, nodes: &[V], spans: &mut Stack<Span, 64>)
+        requires few { length nodes.now ≤ 64 }
+        requires none { spans.old ≡ [] }
+        ensures { spans.new ≡ B.blocked self nodes.now }
+    {
+        for (k, p) in nodes.iter().enumerate() {
+            if !self.is_end(k) && !self.is_off(*p) {
+                spans.push(self.span_of(*p));
+            }
+        }
+    }
 }
 
 // The way that the search for a free bow goes.
@@ -129,7 +131,7 @@ pub fn inside_some(spans: &[Span], h: f64) -> bool
     spans.iter().any(|s| s.contains(h))
 }
 
-// What a pass has come to: where h is, and whether anything moved it.
+// What a pass has come to: where h is, and whether anything moved it. Not an Option, since h is the answer either way.
 #[derive(Clone, Copy)]
 pub struct Pass {
     pub h: f64,
@@ -165,6 +167,7 @@ pub fn first_free(spans: &[Span], start: f64, way: Search) -> f64
     ensures { result ≡ F.first_free way spans.now start }
 {
     let mut h = start;
+    // The document's form: one more pass until one moves nothing.
     loop {
         let p = full_pass(way, spans, h);
         h = p.h;

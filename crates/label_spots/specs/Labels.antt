@@ -1,7 +1,7 @@
 -- Where the label block of an arrow stands beside a spot, and the drawing of the arrow with it.
 use Rattle.std.specs.Prelude.{cond, Float}
 use Rattle.float.specs.Ops.{◌⊕◌, ◌⊖◌, ◌⊗◌, ◌⊘◌, lt, le}
-use Rattle.float.specs.Constants.{f0, f2, label_gap, nearly}
+use Rattle.float.specs.Constants.{f0, f1, f2, label_gap, nearly}
 use Rattle.float.specs.Standins.{abs}
 use Rattle.shape.specs.declared.«V».{«V»}
 use Rattle.shape.specs.declared.Rect.{Rect}
@@ -13,6 +13,12 @@ use Rattle.label_spots.specs.declared.Anchor.TheVariants.{Start, Middle, End}
 use Rattle.label_spots.specs.declared.Placed.{Placed}
 use Rattle.label_spots.specs.declared.Turn.{Turn}
 use Rattle.label_spots.specs.declared.Geometry.{Geometry}
+
+-- "anchor 0 start, 1 middle, 2 end"
+abbrev pub anchor_number : Anchor → Float
+anchor_number Start = f0
+anchor_number Middle = f1
+anchor_number End = f2
 
 abbrev pub placed_by : Float → Float → Anchor → Placed
 placed_by x y a = record { label = vec x y; anchor = a }

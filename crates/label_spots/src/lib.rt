@@ -29,6 +29,19 @@ pub enum Anchor {
     End,
 }
 
+// As a record has it.
+impl From<Anchor> for f64 {
+    ghost from_gives = { λ anchor number. number ≡ L.anchor_number anchor };
+
+    fn from(anchor: Anchor) -> f64 {
+        match anchor {
+            Anchor::Start => 0.0,
+            Anchor::Middle => 1.0,
+            Anchor::End => 2.0,
+        }
+    }
+}
+
 #[derive(Clone, Copy)]
 pub struct Placed {
     pub label: V,
@@ -69,7 +82,7 @@ impl Geometry {
     };
 }
 
-// Along a straight arrow, and whether above it; best first.
+// Positions and sides in tables of their own, as document 01 lists them: along a straight arrow, and whether above it; best first.
 const LINE_AT: [f64; 10] = [0.5, 0.5, 0.36, 0.64, 0.36, 0.64, 0.24, 0.76, 0.24, 0.76];
 
 const LINE_UP: [bool; 10] = [
@@ -89,16 +102,11 @@ fn normal(curve: Curve, t: f64) -> V
 }
 
 // Whether a side is above a horizontal arrow, or right of a vertical one.
+#[tactic(auto, unfolding(crate::specs::Spots::is_up))]
 fn is_up(v: V) -> bool
     ensures { result ≡ S.is_up v }
 {
-    if v.y < -EPS {
-        return true;
-    }
-    if float::abs(v.y) <= EPS {
-        return v.x > 0.0;
-    }
-    false
+    v.y < -EPS || (float::abs(v.y) <= EPS && v.x > 0.0)
 }
 
 // The side of a straight arrow that is tried first.
@@ -230,17 +238,13 @@ fn left_of(anchor: Anchor, x: f64, w: f64) -> f64
 pub fn labelled(t: Turn, spot: Spot) -> Geometry
     ensures { result ≡ L.labelled t spot }
 {
-    let p = place_label(spot.at, spot.side, t.width, t.height);
-    let arrow = t.arrow;
-    let curve = arrow.curve;
-    let label = p.label;
-    let anchor = p.anchor;
+    let Placed { label, anchor } = place_label(spot.at, spot.side, t.width, t.height);
     let x0 = left_of(anchor, label.x, t.width);
     Geometry {
         edge: t.edge,
-        curve,
-        tip: curve.end(),
-        tip_angle: arrow.tip_angle,
+        curve: t.arrow.curve,
+        tip: t.arrow.curve.end(),
+        tip_angle: t.arrow.tip_angle,
         label,
         anchor,
         label_box: Rect {

@@ -1,18 +1,18 @@
 -- What is written is read back: a record, records one after another. Assumes nothing.
-use Rattle.std.specs.Prelude.{◌≡◌, ℕ, ◌+◌, ◌*◌, ◌<◌, ◌≤◌, List, [], ◌∷◌, ◌++◌, length, refl, Float}
+use Rattle.std.specs.Prelude.{◌≡◌, ℕ, ◌*◌, ◌<◌, ◌≤◌, List, [], ◌∷◌, ◌++◌, length, refl, Float}
 use Rattle.std.proofs.Common.{ap, ◌∙◌, arith}
 use mathlib.Core.List.{flat_map}
 use Rattle.std.specs.Float.Ieee.{of_bits}
 use Rattle.std.specs.Float.Ieee as Ieee
-use Rattle.laws.specs.Flat.{part}
 use Rattle.laws.specs.Put.{put}
 use Rattle.shape.specs.declared.Curve.{Curve}
 use Rattle.shape.specs.declared.Curve.TheVariants.{Line, Quad, Cubic}
-use Rattle.records.specs.Whole.{whole_of, whole_back}
+use Rattle.records.specs.Whole.{whole_back}
 use Rattle.label_spots.specs.declared.Anchor.{Anchor}
 use Rattle.label_spots.specs.declared.Anchor.TheVariants.{Start, Middle, End}
 use Rattle.label_spots.specs.declared.Geometry.{Geometry}
-use Rattle.records.specs.Records.{corners_of, curve_of, anchor_number, anchor_of, fields, decode_geometry, decode_records}
+use Rattle.label_spots.specs.Labels.{anchor_number}
+use Rattle.records.specs.Records.{corners_of, curve_of, anchor_of, fields, decode_geometry, decode_records}
 use Rattle.laws.specs.Flats as Flats
 
 -- ---- records

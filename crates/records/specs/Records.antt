@@ -13,6 +13,7 @@ use Rattle.records.specs.Whole.{whole_of}
 use Rattle.label_spots.specs.declared.Anchor.{Anchor}
 use Rattle.label_spots.specs.declared.Anchor.TheVariants.{Start, Middle, End}
 use Rattle.label_spots.specs.declared.Geometry.{Geometry}
+use Rattle.label_spots.specs.Labels.{anchor_number}
 use Rattle.records.specs.declared.Corners.{Corners}
 
 -- ---- writing
@@ -29,11 +30,6 @@ abbrev pub corners_of : Curve → Corners
 corners_of (Line p q) = corners f2 p q unused unused
 corners_of (Quad p c q) = corners f3 p c q unused
 corners_of (Cubic p c d q) = corners f4 p c d q
-
-abbrev pub anchor_number : Anchor → Float
-anchor_number Start = f0
-anchor_number Middle = f1
-anchor_number End = f2
 
 abbrev pub fields : Geometry → List Float
 fields g =

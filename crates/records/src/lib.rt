@@ -4,7 +4,7 @@
 ghost use Rattle.std.specs.Prelude.{◌≡◌};
 ghost use Rattle.records.specs.Records as S;
 
-use label_spots::{Anchor, Geometry};
+use label_spots::Geometry;
 use shape::{Curve, V};
 
 // The numbers of a record.
@@ -24,7 +24,7 @@ impl From<Curve> for Corners {
     ghost from_gives = { λ curve corners. corners ≡ S.corners_of curve };
 
     fn from(curve: Curve) -> Corners {
-        let none = V { x: 0.0, y: 0.0 };
+        let none = V::ORIGIN;
         match curve {
             Curve::Line(a, b) => Corners {
                 n: 2.0,
@@ -42,17 +42,6 @@ impl From<Curve> for Corners {
             },
             Curve::Cubic(a, b, c, d) => Corners { n: 4.0, a, b, c, d },
         }
-    }
-}
-
-// Not a `From`: neither the type of an anchor nor f64 is this crate's.
-fn anchor_number(anchor: Anchor) -> f64
-    ensures { result ≡ S.anchor_number anchor }
-{
-    match anchor {
-        Anchor::Start => 0.0,
-        Anchor::Middle => 1.0,
-        Anchor::End => 2.0,
     }
 }
 
@@ -77,7 +66,7 @@ pub fn fields(g: &Geometry) -> [f64; RECORD_NUMBERS]
         g.tip_angle,
         g.label.x,
         g.label.y,
-        anchor_number(g.anchor),
+        f64::from(g.anchor),
         g.label_box.x0,
         g.label_box.y0,
         g.label_box.x1,

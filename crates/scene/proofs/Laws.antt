@@ -19,10 +19,9 @@ use Rattle.shape.specs.Plane.{box_dist, box_dist_squared}
 use Rattle.root.specs.Worked.{first_26}
 use Rattle.shape.specs.Squares.{box_near_squared}
 use Rattle.label_spots.specs.declared.Turn.{Turn}
-use Rattle.label_spots.specs.declared.Geometry.{Geometry}
 use Rattle.label_spots.specs.Spots.{spot_count, spot-count}
 use Rattle.scene.specs.Scene.{Scene, near26, box_cost, most}
-use Rattle.scene.specs.Turn.{places, labelled_at, box_at, taken, taken_least}
+use Rattle.scene.specs.Turn.{places, box_at, taken, taken_least}
 use Rattle.scene.specs.Cut.{cut_cost, cost-le, cut_full, early}
 
 -- ---- a state: below 26 by the squares

@@ -23,7 +23,7 @@ const KEEP: f64 = 4.0;
 const NEAR26_SQUARED: f64 = (NODE_RADIUS + KEEP) * (NODE_RADIUS + KEEP);
 
 // Above every cost.
-const NO_LIMIT: usize = 18446744073709551615;
+const NO_LIMIT: usize = usize::MAX;
 
 // What is drawn already while labels are placed: the states' centres, the labels placed so far, and the traces.
 #[derive(Clone, Copy)]
@@ -35,7 +35,8 @@ pub struct Scene<'a> {
 
 // ---- sums over the scene
 
-// Whether a state with centre c is nearer to the box than its radius and KEEP, by the squares.
+// Whether a state with centre c is nearer to the box than its radius and KEEP, by the squares. That the squares tell it is worked out
+// for this distance, so `trace` and `clutter` have a test of their own for theirs.
 #[tactic(auto, using(crate::proofs::Laws::near26_is))]
 fn near(b: Rect, c: V) -> bool
     ensures { result ≡ S.near26 b c }
@@ -145,10 +146,7 @@ fn labelled_at(t: Turn, up: V, j: usize) -> Geometry
     requires { (up ≡ upper t.arrow.curve) × (j < spot_count t.arrow.shape) }
     ensures { result ≡ T.labelled_at t j }
 {
-    let arrow = t.arrow;
-    let curve = arrow.curve;
-    let shape = arrow.shape;
-    label_spots::labelled(t, label_spots::spot_at(curve, shape, up, j))
+    label_spots::labelled(t, label_spots::spot_at(t.arrow.curve, t.arrow.shape, up, j))
 }
 
 impl<'a> Scene<'a> {
@@ -157,8 +155,7 @@ impl<'a> Scene<'a> {
         requires { up ≡ upper t.arrow.curve }
         ensures { result ≡ T.taken (S.scene_in self.now) t }
     {
-        let arrow = t.arrow;
-        let places = label_spots::spot_count(arrow.shape);
+        let places = label_spots::spot_count(t.arrow.shape);
         first_least(places, |limit: usize, j: usize| {
             self.cut_cost(t.edge, labelled_at(t, up, j).label_box, limit)
         })
@@ -169,8 +166,7 @@ impl<'a> Scene<'a> {
     pub fn take_place(&self, t: Turn) -> Geometry
         ensures { result ≡ T.placed_arrow (S.scene_in self.now) t }
     {
-        let arrow = t.arrow;
-        let up = label_spots::upper(arrow.curve);
+        let up = label_spots::upper(t.arrow.curve);
         labelled_at(t, up, self.take_spot(t, up))
     }
 }

@@ -12,12 +12,12 @@ use Rattle.laws.specs.Counting.{how_many, how_many-le}
 use Rattle.laws.specs.Lists.{get_d_any}
 use Rattle.laws.specs.Chains.{how_many_list}
 use Rattle.std.specs.List.{count_by}
-use Rattle.float.specs.Constants.{f0_5, f1, cramped_room}
+use Rattle.float.specs.Constants.{f0_5, cramped_room}
 use Rattle.float.specs.Ops.{lt}
 use Rattle.shape.specs.declared.«V».{«V»}
 use Rattle.shape.specs.declared.Curve.{Curve}
-use Rattle.shape.specs.Plane.{polar, angle}
-use Rattle.shape.specs.Curves.{at, tangent}
+use Rattle.shape.specs.Plane.{polar}
+use Rattle.shape.specs.Curves.{at}
 use Rattle.trace.specs.Traces.{Trace, crossed, near25, arrow, trace_of}
 use Rattle.bend.specs.declared.Routed.{Routed}
 use Rattle.bend.specs.declared.Shape.TheVariants as Shape
@@ -27,7 +27,6 @@ use Rattle.label_spots.specs.Labels.{labelled}
 use Rattle.scene.specs.Scene.{Scene, box_cost}
 use Rattle.scene.specs.Cut.{cost-le}
 use Rattle.directions.specs.Directions.{directions, room, upwards}
-use Rattle.directions.specs.Loop.{loop_curve}
 use Rattle.self_loop.specs.Looped.{Loop, loop_routed, loop_at, loop_drawn, states_but, cramped, loop_adds, loop_cost, direction_cost, loop_taken, loop_least}
 use Rattle.self_loop.specs.Early.{loop_early}
 

@@ -143,8 +143,7 @@ pub fn self_loop(scene: &Scene, turn: &Loop) -> Geometry
     requires few { length turn.now.taken.now ≤ 512 }
     ensures { let s = S.scene_in scene.now in result ≡ L.looped s (L.loop_in s turn.now) }
 {
-    let mut listed = [0.0f64; 516];
-    let n = directions::directions(turn.taken, &mut listed);
-    let phi = turn.take_direction(scene, &listed[..n]);
+    let listed = directions::directions(turn.taken);
+    let phi = turn.take_direction(scene, listed.as_slice());
     turn.drawn(scene.states[turn.node], phi)
 }

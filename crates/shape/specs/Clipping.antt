@@ -1,6 +1,6 @@
 -- Whether a segment meets a box, by Liang and Barsky's clipping (A New Concept and Method for Line Clipping, ACM TOG 3(1), 1984),
 -- and whether two segments cross.
-use Rattle.std.specs.Prelude.{Bool, true, false, cond, ◌&&◌, Float, is_some, Option, None, Some}
+use Rattle.std.specs.Prelude.{Bool, cond, ◌&&◌, Float, is_some, Option, None, Some}
 use Rattle.float.specs.Ops.{◌⊖◌, ◌⊗◌, ◌⊘◌, lt, eq, neg}
 use Rattle.float.specs.Constants.{f0, f1}
 use Rattle.shape.specs.declared.«V».{«V»}

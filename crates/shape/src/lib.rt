@@ -1,8 +1,7 @@
 // Points, boxes and curves of f64 by value; clipping and crossing. Each operation rounds once, in the order written.
 #![tactic(auto)]
 
-ghost use Rattle.std.specs.Prelude.{◌≡◌, cond, ◌≤◌, ◌<◌, length};
-ghost use Rattle.float.specs.Ops.{lt, le};
+ghost use Rattle.std.specs.Prelude.{◌≡◌};
 ghost use Rattle.shape.specs.Plane as S;
 ghost use Rattle.shape.specs.Curves as C;
 ghost use Rattle.shape.specs.Clipping as L;
@@ -168,8 +167,8 @@ impl Rect {
     pub fn overlaps(self, o: Rect) -> bool
         ensures { result ≡ S.overlaps self o }
     {
-        let across = below(self.x0, o.x1) + below(o.x0, self.x1);
-        let along = below(self.y0, o.y1) + below(o.y0, self.y1);
+        let across = usize::from(self.x0 < o.x1) + usize::from(o.x0 < self.x1);
+        let along = usize::from(self.y0 < o.y1) + usize::from(o.y0 < self.y1);
         across + along == 4
     }
 
@@ -211,8 +210,8 @@ impl Rect {
     pub fn reaches(self, o: Rect) -> bool
         ensures { result ≡ S.touches self o }
     {
-        let across = at_most(self.x0, o.x1) + at_most(o.x0, self.x1);
-        let along = at_most(self.y0, o.y1) + at_most(o.y0, self.y1);
+        let across = usize::from(self.x0 <= o.x1) + usize::from(o.x0 <= self.x1);
+        let along = usize::from(self.y0 <= o.y1) + usize::from(o.y0 <= self.y1);
         across + along == 4
     }
 
@@ -250,26 +249,6 @@ impl Rect {
             y1: float::max(self.y1, p.y),
         }
     }
-}
-
-// 1 where a is below b.
-fn below(a: f64, b: f64) -> usize
-    ensures { (result ≡ cond (lt a b) 1 0) × (result ≤ 1) }
-{
-    if a < b {
-        return 1;
-    }
-    0
-}
-
-// 1 where a is at most b.
-fn at_most(a: f64, b: f64) -> usize
-    ensures { (result ≡ cond (le a b) 1 0) × (result ≤ 1) }
-{
-    if a <= b {
-        return 1;
-    }
-    0
 }
 
 // How far `v` lies outside lo .. hi.
@@ -410,8 +389,5 @@ pub fn segments_cross(a: V, b: V, c: V, d: V) -> bool
     ensures { result ≡ L.segments_cross a b c d }
 {
     let ends = orient(c, d, a) * orient(c, d, b);
-    if ends < 0.0 {
-        return orient(a, b, c) * orient(a, b, d) < 0.0;
-    }
-    false
+    ends < 0.0 && orient(a, b, c) * orient(a, b, d) < 0.0
 }

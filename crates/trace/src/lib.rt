@@ -1,11 +1,11 @@
 // Curves sampled as lines from point to point, for collision tests.
 #![tactic(auto)]
 
-ghost use Rattle.std.specs.Prelude.{◌≡◌, ◌<◌, map};
+ghost use Rattle.std.specs.Prelude.{◌≡◌, Bool, ◌<◌, map};
 ghost use Rattle.std.specs.List.{list_any, range_with_len};
 ghost use Rattle.shape.specs.Plane.{touches};
 ghost use Rattle.trace.specs.Traces as S;
-ghost use Rattle.trace.specs.Form as F;
+ghost use Rattle.trace.specs.Form.{points_in, trace_in};
 
 use shape::{Curve, NODE_RADIUS, Rect, V};
 
@@ -46,7 +46,7 @@ pub enum Points {
 impl Points {
     #[tactic(auto, using(crate::proofs::Laws::curve_samples), unfolding(crate::specs::Traces::samples))]
     pub fn of(c: Curve) -> Points
-        ensures { F.points_in result ≡ S.samples c }
+        ensures { points_in result ≡ S.samples c }
     {
         match c {
             Curve::Line(p, q) => Points::Ends([p, q]),
@@ -55,12 +55,25 @@ impl Points {
     }
 
     pub fn as_slice(&self) -> &[V]
-        ensures { result.now ≡ F.points_in self.now }
+        ensures { result.now ≡ points_in self.now }
     {
         match self {
             Points::Ends(p) => p,
             Points::Samples(p) => p,
         }
+    }
+
+    // Whether f holds of some point and the next.
+    fn any_segment<F: Fn(V, V) -> bool>(&self, f: F) -> bool
+        requires { F.IsAlwaysCallable f }
+        ensures { (p : V → V → Bool) → ((a b : V) (r : Bool) → F.post f a b r → r ≡ p a b)
+            → result ≡ S.any_segment p (points_in self.now) }
+    {
+        let points = self.as_slice();
+        points
+            .iter()
+            .zip(points.iter().skip(1))
+            .any(|(a, b)| f(*a, *b))
     }
 }
 
@@ -70,36 +83,6 @@ fn bounds_of(points: &[V]) -> Rect
     ensures { result ≡ S.bounds_of points.now }
 {
     points.iter().fold(Rect::empty(), |b, p| b.extended(*p))
-}
-
-// Whether some segment from point to point meets the box.
-fn any_hit(points: &[V], r: Rect) -> bool
-    ensures { result ≡ S.any_segment (S.segment_hits r) points.now }
-{
-    points
-        .iter()
-        .zip(points.iter().skip(1))
-        .any(|(a, b)| shape::segment_hits_rect(*a, *b, r))
-}
-
-// Whether some segment crosses the one from a to b, in the box ab.
-fn any_pair(points: &[V], ab: Rect, a: V, b: V) -> bool
-    ensures { result ≡ S.any_segment (S.pair_cross ab a b) points.now }
-{
-    points
-        .iter()
-        .zip(points.iter().skip(1))
-        .any(|(c, d)| pair_cross(ab, a, b, *c, *d))
-}
-
-// Whether some segment crosses the trace.
-fn any_crossing(points: &[V], t: &Trace) -> bool
-    ensures { result ≡ S.any_segment (S.segment_crosses (F.trace_in t.now)) points.now }
-{
-    points
-        .iter()
-        .zip(points.iter().skip(1))
-        .any(|(a, b)| t.segment_crosses(*a, *b))
 }
 
 // Whether some point is near to a state's centre o.
@@ -129,7 +112,7 @@ impl Trace {
 
     #[tactic(auto, unfolding(crate::specs::Traces::trace_of))]
     pub fn of(owner: Option<usize>, curve: Curve) -> Trace
-        ensures { F.trace_in result ≡ S.trace_of owner curve }
+        ensures { trace_in result ≡ S.trace_of owner curve }
     {
         let points = Points::of(curve);
         Trace {
@@ -142,7 +125,7 @@ impl Trace {
     // Whether the arrow does not own the trace.
     #[tactic(auto, unfolding(crate::specs::Traces::foreign))]
     fn foreign(&self, own: usize) -> bool
-        ensures { result ≡ S.foreign own (F.trace_in self.now) }
+        ensures { result ≡ S.foreign own (trace_in self.now) }
     {
         self.owner != Some(own)
     }
@@ -157,32 +140,36 @@ impl Trace {
     // Whether the trace is not the arrow's own and meets the box; its bounds are tested first.
     #[tactic(auto, using(crate::proofs::Laws::apart_struck), unfolding(crate::specs::Traces::struck, crate::specs::Traces::hits_rect))]
     pub fn strikes(&self, own: usize, r: Rect) -> bool
-        ensures { result ≡ S.struck own r (F.trace_in self.now) }
+        ensures { result ≡ S.struck own r (trace_in self.now) }
     {
-        self.reaches(r) && self.foreign(own) && any_hit(self.points.as_slice(), r)
+        self.reaches(r)
+            && self.foreign(own)
+            && self
+                .points
+                .any_segment(|a, b| shape::segment_hits_rect(a, b, r))
     }
 
     // Whether the segment from a to b crosses one of the trace.
     #[tactic(auto, unfolding(crate::specs::Traces::segment_crosses))]
     fn segment_crosses(&self, a: V, b: V) -> bool
-        ensures { result ≡ S.segment_crosses (F.trace_in self.now) a b }
+        ensures { result ≡ S.segment_crosses (trace_in self.now) a b }
     {
         let ab = Rect::spanning(a, b);
-        ab.touches(self.bounds) && any_pair(self.points.as_slice(), ab, a, b)
+        ab.touches(self.bounds) && self.points.any_segment(|c, d| pair_cross(ab, a, b, c, d))
     }
 
     // Whether two traces cross.
     #[tactic(auto, unfolding(crate::specs::Traces::crosses))]
     pub fn crosses(&self, t: &Trace) -> bool
-        ensures { result ≡ S.crosses (F.trace_in self.now) (F.trace_in t.now) }
+        ensures { result ≡ S.crosses (trace_in self.now) (trace_in t.now) }
     {
-        self.bounds.touches(t.bounds) && any_crossing(self.points.as_slice(), t)
+        self.bounds.touches(t.bounds) && self.points.any_segment(|a, b| t.segment_crosses(a, b))
     }
 
     // Whether the trace is not the arrow's own and crosses the loop.
     #[tactic(auto, using(crate::proofs::Laws::apart_crossed), unfolding(crate::specs::Traces::crossed))]
     pub fn crossed(&self, own: usize, looped: &Trace) -> bool
-        ensures { result ≡ S.crossed own (F.trace_in looped.now) (F.trace_in self.now) }
+        ensures { result ≡ S.crossed own (trace_in looped.now) (trace_in self.now) }
     {
         self.reaches(looped.bounds) && self.foreign(own) && self.crosses(looped)
     }
@@ -190,7 +177,7 @@ impl Trace {
     // Whether a point of the trace is near to a state's centre o.
     #[tactic(auto, unfolding(crate::specs::Traces::near25))]
     pub fn near(&self, o: V) -> bool
-        ensures { result ≡ S.near25 (F.trace_in self.now) o }
+        ensures { result ≡ S.near25 (trace_in self.now) o }
     {
         any_near(self.points.as_slice(), o)
     }

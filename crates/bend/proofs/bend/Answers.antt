@@ -7,4 +7,4 @@ use Rattle.bend.proofs.bend.Goals as goal
 pub returns : goal.returns
 unfolding bend
 returns c = let a = c.args in
-    c.bend_past.ensures ∙ ap (λ (l : List Span). bend_past a.c a.nodes.now l a.both_ways) c.blocked-spans.ensures
+    c.bend_past.ensures ∙ ap (λ (l : List Span). bend_past a.c a.nodes.now l a.both_ways) (c.as_slice.ensures.all ∙ c.blocked.ensures)

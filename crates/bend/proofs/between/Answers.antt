@@ -9,5 +9,5 @@ pub returns : goal.returns
 unfolding between
 returns c = let a = c.args in
     c.with_bow.ensures
-    ∙ ap (with_bow c.chord_of-c.result) c.bend-h.ensures
-    ∙ ap (λ (d : Chord). with_bow d (bend d a.nodes.now a.both_ways)) c.chord_of-c.ensures
+    ∙ ap (with_bow c.of-c.result) c.bend-h.ensures
+    ∙ ap (λ (d : Chord). with_bow d (bend d a.nodes.now a.both_ways)) c.of-c.ensures

@@ -4,4 +4,4 @@ use Rattle.label_spots.proofs.labelled.Goals as goal
 
 pub returns : goal.returns
 unfolding labelled
-returns c = rw (c.end.ensures, c.left_of-x0.ensures, ← c.place_label-p.ensures)
+returns c = rw (c.end.ensures, c.left_of-x0.ensures, ← c.place_label-anchor.ensures)

@@ -1,10 +1,10 @@
--- `free::chord_of` meets its contract.
+-- `free::Chord::of` meets its contract.
 use Rattle.std.proofs.Common.{ap₂}
 use Rattle.laws.specs.Lists.{get_d_any}
 use Rattle.float.specs.Constants.{f0}
 use Rattle.shape.specs.Plane.{vec}
 use Rattle.free.specs.Chords.{chord, chord_of}
-use Rattle.free.proofs.chord_of.Goals as goal
+use Rattle.free.proofs.Chord.of.Goals as goal
 
 pub returns : goal.returns
 unfolding chord
