@@ -163,19 +163,19 @@ module _ (n : ℕ) (arrows : List Ends) (start : ℕ) where
             ∙ take_all (length found' - length found) (drop (length found) found') (omega (arith, new-length))
 
     -- by what the code reads of both
-    module _ (high more : List ℕ) (f : high ≡ found) (g : more ≡ found') where
-      less : length more - length high ≡ length found' - length found
-      less = ap₂ (λ (x y : List ℕ). length x - length y) g f
+    module _ (high more : ℕ) (f : high ≡ length found) (g : more ≡ length found') where
+      less : more - high ≡ length found' - length found
+      less = ap₂ ◌-◌ g f
 
-      pub search_stop : length more - length high ≡ 0 → Reached n arrows start found' sizes
+      pub search_stop : more - high ≡ 0 → Reached n arrows start found' sizes
       search_stop z = stop (sym less ∙ z)
 
-      pub search_step : (sizes' : List ℕ) (i : ℕ) → left ≡ n - i → i < n → (length more - length high ≡ 0 → ⊥)
-          → sizes' ≡ sizes ++ ((length more - length high) ∷ []) → Searching found' sizes' (length high) (n - (i + 1))
+      pub search_step : (sizes' : List ℕ) (i : ℕ) → left ≡ n - i → i < n → (more - high ≡ 0 → ⊥)
+          → sizes' ≡ sizes ++ ((more - high) ∷ []) → Searching found' sizes' high (n - (i + 1))
       search_step sizes' i l h z e =
           let next : left - 1 ≡ n - (i + 1) = omega (arith, l, h) in
-          subst (λ (k : ℕ). Searching found' sizes' (length high) k) next
-          (subst (λ (k : ℕ). Searching found' sizes' k (left - 1)) (sym (ap length f))
+          subst (λ (k : ℕ). Searching found' sizes' high k) next
+          (subst (λ (k : ℕ). Searching found' sizes' k (left - 1)) (sym f)
           (subst (λ (x : List ℕ). Searching found' x (length found) (left - 1)) (sym (e ∙ ap (λ (k : ℕ). sizes ++ (k ∷ [])) less))
           (step (λ h. z (less ∙ h)) (omega (arith, l, h)))))
 
@@ -240,16 +240,16 @@ module _ (n : ℕ) (arrows : List Ends) (start : ℕ) where
         one_column (v ∷ u) h = refl
 
     -- by what the code reads of those reached
-    module _ (seen : List ℕ) (f : seen ≡ found) where
-      pub fill_none : n ≤ length seen → split sizes all ≡ columns n arrows start
-      fill_none h = (no_rest (subst (λ (l : List ℕ). n ≤ length l) f h)).1
+    module _ (seen : ℕ) (f : seen ≡ length found) where
+      pub fill_none : n ≤ seen → split sizes all ≡ columns n arrows start
+      fill_none h = (no_rest (omega (arith, f, h))).1
 
-      module _ (sizes' : List ℕ) (h : length seen < n) (g : sizes' ≡ sizes ++ ((n - length seen) ∷ [])) where
+      module _ (sizes' : List ℕ) (h : seen < n) (g : sizes' ≡ sizes ++ ((n - seen) ∷ [])) where
         with_rest : (sum_all sizes' ≡ length all) × (split sizes' all ≡ columns n arrows start)
         with_rest =
             subst (λ (z : List ℕ). (sum_all z ≡ length all) × (split z all ≡ columns n arrows start))
-            (sym (g ∙ ap (λ (l : List ℕ). sizes ++ ((n - length l) ∷ [])) f))
-            (rest (subst (λ (l : List ℕ). length l < n) f h))
+            (sym (g ∙ ap (λ (l : ℕ). sizes ++ ((n - l) ∷ [])) f))
+            (rest (omega (arith, f, h)))
 
         pub fill_long : sum_all sizes' ≡ length all
         fill_long = with_rest.0

@@ -46,6 +46,7 @@ struct Found {
     sizes: Stack<usize, 64>,
 }
 
+// `room` and `fair` are facts of a net and of a list together, and so no invariant of either.
 impl<'a> Net<'a> {
     // Whether an arrow leads from v to another state.
     fn leaves(&self, v: usize, arrow: Ends) -> bool
@@ -88,7 +89,7 @@ impl<'a> Net<'a> {
         ensures { found.new ≡ D.explore self.now.states self.now.arrows.now found.old (drop low found.old) }
     {
         // By place: the loop adds to `found` while it reads it.
-        for i in low..found.as_slice().len() {
+        for i in low..found.len() {
             let v = found.as_slice()[i];
             self.visit(found, v);
         }
@@ -108,9 +109,9 @@ impl<'a> Net<'a> {
         let mut low: usize = 0;
         // At most one turn for each state: every turn but the last finds one.
         for _ in 0..self.states {
-            let high = order.as_slice().len();
+            let high = order.len();
             self.explore(&mut order, low);
-            let new = order.as_slice().len() - high;
+            let new = order.len() - high;
             if new == 0 {
                 break;
             }
@@ -143,7 +144,7 @@ impl<'a> Net<'a> {
         ensures columns { split result.sizes result.order ≡ D.columns self.now.states self.now.arrows.now start }
     {
         let mut found = self.reach(start);
-        let reached = found.order.as_slice().len();
+        let reached = found.order.len();
         self.put_unreached(&mut found.order);
         if reached < self.states {
             found.sizes.push(self.states - reached);
@@ -163,7 +164,8 @@ fn start_of(sizes: &[usize], l: usize) -> usize
     sizes[..l].iter().sum()
 }
 
-// The columns one after another in `order`; `sizes` says how long each is.
+// The columns one after another in `order`; `sizes` says how long each is. (`order` is an array, since columns are put in
+// another order within it, and a stack lends its values only to be read.)
 #[derive(Drop)]
 pub struct Columns {
     order: [usize; 64],
@@ -202,7 +204,7 @@ impl Columns {
         ensures count { result ≡ length self.now }
         ensures within { result ≤ 64 }
     {
-        self.sizes.as_slice().len()
+        self.sizes.len()
     }
 
     // How many states column l has.

@@ -1,29 +1,28 @@
 -- What a loop meets at number k: the record, the state, and what is left. How lines grow field by field, and tests in a row. Assumes nothing.
-use mathlib.Core.Path.{◌≡◌, refl, sym, ap, ◌∙◌}
-use mathlib.Core.Bool.{Bool, true, false, not, ◌&&◌}
+use mathlib.Core.Path.{◌≡◌, refl, sym, ap, ap₂, ◌∙◌}
+use mathlib.Core.Bool.{Bool, true, ◌&&◌}
 use mathlib.Core.List.{List, [], ◌∷◌, ◌++◌, append_assoc, append-nil, map, flat_map}
 use Prim.Native.Nat.{ℕ, suc, ◌+◌, ◌≤◌, ◌<◌}
 use native.Mathlib.Numerals.{add-one}
-use borrow.Author.Tests.{not-true, not-false}
 use lib.Ieee.{Float, nan}
 use lib.ListN.{length, drop, get_or}
 use Rattle.text.specs.declared.Writer.{Writer}
 use Rattle.text.specs.Writing.{Adds, adds_as, adds-more}
 use Rattle.laws.specs.Every.{every, every_join, every_map, every-all}
 use Rattle.laws.specs.Joined.{flat_join}
-use Rattle.laws.specs.Bools.{and_no, and_true, and_yes}
+use Rattle.laws.specs.Bools.{and_true}
 use Rattle.shape.specs.declared.«V».{«V»}
 use Rattle.shape.specs.Plane.{vec, rect}
 use Rattle.shape.specs.declared.Curve.TheVariants.{Line}
 use Rattle.label_spots.specs.declared.Anchor.TheVariants.{Start}
-use Rattle.number.specs.Number.{writable}
-use Rattle.svg.specs.Paths.{curve_path, path_writable, head_of, head_path}
+use Rattle.number.specs.Number.{writable, num_text}
+use Rattle.svg.specs.Paths.{curve_path, path_writable, point_text, point_writable, head_of, head_path}
 use Rattle.std.specs.List.{list_all}
 use Rattle.std.proofs.Common.{drop-cons, drop_of_length-le}
 use Rattle.laws.specs.Chains.{every_list}
 use Rattle.label_spots.specs.declared.Geometry.{Geometry}
 use Rattle.totals.specs.declared.Totals.{Totals}
-use Rattle.drawing_text.specs.Lines.{paths_of, paths_writable, Field, TextLine, named, listed_state, states_from, starts, field_text, fields_text, body_text, line_text, lines_text, float_field, field_writable, fields_writable, line_writable, lines_writable, point_fields, tip_line, size_line, state_line, start_line, total_line, record_lines, list_lines, list_writable}
+use Rattle.drawing_text.specs.Lines.{paths_of, paths_writable, Field, TextLine, named, listed_state, states_from, starts, field_text, fields_text, body_text, line_text, lines_text, float_field, word_field, anchor_word, label_line, field_writable, fields_writable, line_writable, lines_writable, point_fields, tip_line, size_line, state_line, start_line, total_line, record_lines, list_lines, list_writable}
 
 -- ---- the states from state k on
 pub states_front : (nodes : List «V») (k : ℕ) → k < length nodes
@@ -61,6 +60,11 @@ adds_field f u v = adds_as (sym (append-nil (32 ∷ field_text f))) (adds-more u
 pub adds-fields : {u v w : Writer} (fs gs : List Field) → Adds u v (fields_text fs) → Adds v w (fields_text gs) → Adds u w (fields_text (fs ++ gs))
 unfolding fields_text
 adds-fields fs gs u v = adds_as (sym (flat_join (λ (f : Field). 32 ∷ field_text f) fs gs)) (adds-more u v)
+
+-- a point's two floats
+pub adds_point : {u v : Writer} (p : «V») → Adds u v (point_text p) → Adds u v (fields_text (point_fields p))
+unfolding fields_text field_text flat_map point_text
+adds_point p u = adds_as (ap (λ (t : List ℕ). 32 ∷ num_text p.x ++ t) (sym (append-nil (32 ∷ num_text p.y)))) u
 
 -- ---- a line: its name, some fields more, its newline
 pub adds-name : {u v x : Writer} (w : List ℕ) (fs : List Field) → Adds u v w → Adds v x (fields_text fs) → Adds u x (body_text (named w fs))
@@ -114,25 +118,30 @@ pub size_tests : (w h : Float) → line_writable (size_line w h) ≡ (writable w
 unfolding line_writable fields_writable field_writable every
 size_tests w h = ap (λ (b : Bool). writable w && b) (and_true (writable h))
 
-pub point_tests : (p : «V») → fields_writable (point_fields p) ≡ (writable p.x && writable p.y)
+pub point_tests : (p : «V») → fields_writable (point_fields p) ≡ point_writable p
 unfolding fields_writable field_writable every
 point_tests p = ap (λ (b : Bool). writable p.x && b) (and_true (writable p.y))
 
-pub tip_tests : (g : Geometry) → line_writable (tip_line g) ≡ (fields_writable (point_fields g.tip) && writable g.tip_angle)
+pub tip_tests : (g : Geometry) → line_writable (tip_line g) ≡ (point_writable g.tip && writable g.tip_angle)
 unfolding line_writable fields_writable field_writable every
-tip_tests g = tests_fields (point_fields g.tip) (float_field g.tip_angle ∷ []) ∙ ap (λ (b : Bool). fields_writable (point_fields g.tip) && b) (and_true (writable g.tip_angle))
+tip_tests g = tests_fields (point_fields g.tip) (float_field g.tip_angle ∷ []) ∙ ap₂ ◌&&◌ (point_tests g.tip) (and_true (writable g.tip_angle))
+
+pub label_tests : (g : Geometry) → line_writable (label_line g) ≡ point_writable g.label
+unfolding line_writable fields_writable field_writable every
+label_tests g = tests_fields (point_fields g.label) (word_field (anchor_word g.anchor) ∷ [])
+    ∙ ap (λ (b : Bool). b && true) (point_tests g.label) ∙ and_true (point_writable g.label)
 
 pub record_tests : (g : Geometry) → lines_writable (record_lines g)
-    ≡ (path_writable (curve_path g.curve) && (line_writable (tip_line g) && (path_writable (head_path (head_of g.tip g.tip_angle)) && fields_writable (point_fields g.label))))
+    ≡ (path_writable (curve_path g.curve) && (line_writable (tip_line g) && (path_writable (head_path (head_of g.tip g.tip_angle)) && line_writable (label_line g))))
 unfolding lines_writable line_writable fields_writable field_writable every
 record_tests g = rw (and_true, and_true, and_true, and_true) refl
 
-states_every : (k : ℕ) (nodes : List «V») → lines_writable (map state_line (states_from k nodes)) ≡ every (λ p. fields_writable (point_fields p)) nodes
+states_every : (k : ℕ) (nodes : List «V») → lines_writable (map state_line (states_from k nodes)) ≡ every point_writable nodes
 unfolding lines_writable line_writable fields_writable field_writable every states_from
 states_every k [] = refl
-states_every k (p ∷ nodes) = ap (λ (b : Bool). fields_writable (point_fields p) && b) (states_every (suc k) nodes)
+states_every k (p ∷ nodes) = ap₂ ◌&&◌ (point_tests p) (states_every (suc k) nodes)
 
-pub states_tests : (k : ℕ) (nodes : List «V») → lines_writable (map state_line (states_from k nodes)) ≡ list_all (λ p. fields_writable (point_fields p)) nodes
+pub states_tests : (k : ℕ) (nodes : List «V») → lines_writable (map state_line (states_from k nodes)) ≡ list_all point_writable nodes
 states_tests k nodes = states_every k nodes ∙ every_list _ nodes
 
 -- "Order: size, states, then four lines a record, then starts."

@@ -6,7 +6,7 @@ ghost use mathlib.Core.List.{[], ◌∷◌, map, flat_map};
 ghost use Rattle.std.specs.List.{list_all};
 ghost use Rattle.laws.specs.Writers.{as_usize};
 ghost use Rattle.text.specs.Writing.{Adds};
-ghost use Rattle.svg.specs.Paths.{curve_path, path_writable};
+ghost use Rattle.svg.specs.Paths.{curve_path, path_writable, point_writable};
 ghost use Rattle.sheet.specs.Meaning.{is_start};
 ghost use Rattle.drawing_text.specs.Lines as S;
 ghost use Rattle.drawing_text.specs.Listing as L;
@@ -22,8 +22,7 @@ use totals::Totals;
 fn put_path_line(w: &mut Writer, g: &Geometry)
     ensures { Adds w.old w.new (S.path_line (curve_path g.now.curve)) }
 {
-    let curve = g.curve;
-    svg::put_path(w, curve);
+    svg::put_path(w, g.curve);
     w.byte(b'\n');
 }
 
@@ -41,10 +40,7 @@ pub fn put_paths(w: &mut Writer, drawn: &[Geometry])
 pub fn paths_length(drawn: &[Geometry]) -> usize
     ensures { result ≡ as_usize (length (S.paths_text drawn.now)) }
 {
-    let mut w = Writer {
-        out: &mut [],
-        at: 0,
-    };
+    let mut w = number::measuring();
     put_paths(&mut w, drawn);
     w.at
 }
@@ -52,8 +48,7 @@ pub fn paths_length(drawn: &[Geometry]) -> usize
 fn path_ok(g: &Geometry) -> bool
     ensures { result ≡ path_writable (curve_path g.now.curve) }
 {
-    let curve = g.curve;
-    svg::curve_writable(curve)
+    svg::curve_writable(g.curve)
 }
 
 // Whether every coordinate of their paths may be written.
@@ -78,13 +73,6 @@ fn put_field(w: &mut Writer, v: f64)
 {
     w.byte(b' ');
     number::put_num(w, v);
-}
-
-fn put_point(w: &mut Writer, p: V)
-    ensures { Adds w.old w.new (S.fields_text (S.point_fields p)) }
-{
-    put_field(w, p.x);
-    put_field(w, p.y);
 }
 
 // A blank and a whole number.
@@ -145,16 +133,15 @@ fn put_state_line(w: &mut Writer, k: usize, c: V)
     ensures { Adds w.old w.new (S.line_text (S.state_line (S.listed_state k c))) }
 {
     put_titled(w, b"state", k);
-    put_point(w, c);
+    svg::put_point(w, c);
     w.byte(b'\n');
 }
 
 fn put_edge_line(w: &mut Writer, g: &Geometry)
     ensures { Adds w.old w.new (S.line_text (S.edge_line g.now)) }
 {
-    let curve = g.curve;
     put_titled(w, b"edge", g.edge);
-    put_curve(w, curve);
+    put_curve(w, g.curve);
     w.byte(b'\n');
 }
 
@@ -162,7 +149,7 @@ fn put_tip_line(w: &mut Writer, g: &Geometry)
     ensures { Adds w.old w.new (S.line_text (S.tip_line g.now)) }
 {
     put_titled(w, b"tip", g.edge);
-    put_point(w, g.tip);
+    svg::put_point(w, g.tip);
     put_field(w, g.tip_angle);
     w.byte(b'\n');
 }
@@ -178,10 +165,9 @@ fn put_head_line(w: &mut Writer, g: &Geometry)
 fn put_label_line(w: &mut Writer, g: &Geometry)
     ensures { Adds w.old w.new (S.line_text (S.label_line g.now)) }
 {
-    let anchor = g.anchor;
     put_titled(w, b"label", g.edge);
-    put_point(w, g.label);
-    put_anchor(w, anchor);
+    svg::put_point(w, g.label);
+    put_anchor(w, g.anchor);
     w.byte(b'\n');
 }
 
@@ -277,18 +263,18 @@ fn size_ok(width: f64, height: f64) -> bool
     number::writable(width) && number::writable(height)
 }
 
-#[tactic(auto, using(crate::proofs::Laws::point_tests))]
-fn point_ok(p: V) -> bool
-    ensures { result ≡ S.fields_writable (S.point_fields p) }
-{
-    number::writable(p.x) && number::writable(p.y)
-}
-
 #[tactic(auto, using(crate::proofs::Laws::tip_tests))]
 fn tip_ok(g: &Geometry) -> bool
     ensures { result ≡ S.line_writable (S.tip_line g.now) }
 {
-    point_ok(g.tip) && number::writable(g.tip_angle)
+    svg::point_writable(g.tip) && number::writable(g.tip_angle)
+}
+
+#[tactic(auto, using(crate::proofs::Laws::label_tests))]
+fn label_ok(g: &Geometry) -> bool
+    ensures { result ≡ S.line_writable (S.label_line g.now) }
+{
+    svg::point_writable(g.label)
 }
 
 // The four lines of a record.
@@ -296,7 +282,7 @@ fn tip_ok(g: &Geometry) -> bool
 fn record_ok(g: &Geometry) -> bool
     ensures { result ≡ S.lines_writable (S.record_lines g.now) }
 {
-    path_ok(g) && tip_ok(g) && svg::head_writable(g.tip, g.tip_angle) && point_ok(g.label)
+    path_ok(g) && tip_ok(g) && svg::head_writable(g.tip, g.tip_angle) && label_ok(g)
 }
 
 // The line of a start state; nothing is written for any other.
@@ -310,9 +296,9 @@ fn start_ok(flag: u8, k: usize, c: V) -> bool
 }
 
 fn states_ok(nodes: &[V]) -> bool
-    ensures { result ≡ list_all (λ p. S.fields_writable (S.point_fields p)) nodes.now }
+    ensures { result ≡ list_all point_writable nodes.now }
 {
-    nodes.iter().all(|p| point_ok(*p))
+    nodes.iter().all(|p| svg::point_writable(*p))
 }
 
 fn records_ok(drawn: &[Geometry]) -> bool
@@ -365,10 +351,7 @@ impl<'a> Listing<'a> {
         requires level { length self.now.flags.now ≡ length self.now.nodes.now }
         ensures { result ≡ as_usize (length (L.text_of self.now)) }
     {
-        let mut w = Writer {
-            out: &mut [],
-            at: 0,
-        };
+        let mut w = number::measuring();
         self.put(&mut w);
         w.at
     }

@@ -1,7 +1,7 @@
 // A written number: at most two decimals, no trailing zeros, never `-0`; not finite gives `0`.
 #![tactic(auto)]
 
-ghost use Rattle.std.specs.Prelude.{◌≡◌, ◌<◌, not, ◌&&◌, length, ◌==◌};
+ghost use Rattle.std.specs.Prelude.{◌≡◌, ◌<◌, not, ◌&&◌, [], length, ◌==◌};
 ghost use Rattle.laws.specs.Writers.{as_usize};
 ghost use Rattle.text.specs.Writing.{Adds};
 ghost use Rattle.float.specs.Standins.{negative};
@@ -15,10 +15,7 @@ use text::Writer;
 pub fn writable(v: f64) -> bool
     ensures { result ≡ S.writable v }
 {
-    if float::is_finite(v) {
-        return !(1e13 <= float::abs(v));
-    }
-    true
+    !float::is_finite(v) || !(1e13 <= float::abs(v))
 }
 
 // The whole number of hundredths; 0 where v is not finite or refusal 10 stops it.
@@ -35,10 +32,7 @@ fn size_of(v: f64) -> u64
 fn has_minus(v: f64, n: u64) -> bool
     ensures { result ≡ (negative v && not (n == 0)) }
 {
-    if float::negative(v) {
-        return n != 0;
-    }
-    false
+    float::negative(v) && n != 0
 }
 
 #[tactic(auto, unfolding(crate::specs::Number::minus_text))]
@@ -76,14 +70,21 @@ pub fn put_num(w: &mut Writer, v: f64)
     put_fraction(w, n % 100);
 }
 
+// A writer over no bytes: what is put is measured.
+pub fn measuring<'a>() -> Writer<'a>
+    ensures { (result.out.now ≡ []) × (result.at ≡ 0) }
+{
+    Writer {
+        out: &mut [],
+        at: 0,
+    }
+}
+
 // How many bytes the text of v has.
 fn num_length(v: f64) -> usize
     ensures { result ≡ as_usize (length (S.num_text v)) }
 {
-    let mut w = Writer {
-        out: &mut [],
-        at: 0,
-    };
+    let mut w = measuring();
     put_num(&mut w, v);
     w.at
 }

@@ -22,6 +22,7 @@ fn write_records(drawn: &[Geometry], records: &mut [f64])
     requires { RECORD_NUMBERS * length drawn.now ≤ length records.old }
     ensures { records.new ≡ put records.old 0 (F.numbers_of drawn.now) }
 {
+    // By place: `zip` over `chunks_exact_mut` is not proved here.
     for (k, g) in drawn.iter().enumerate() {
         let at = RECORD_NUMBERS * k;
         slices::copy(&records::fields(g), &mut records[at..at + RECORD_NUMBERS]);
@@ -66,6 +67,7 @@ fn write_centres(centres: &[V], xs: &mut [f64], ys: &mut [f64])
     ensures { (xs.new ≡ put xs.old 0 (map (λ c. c.x) centres.now))
         × (ys.new ≡ put ys.old 0 (map (λ c. c.y) centres.now)) }
 {
+    // By place: `zip` over `iter_mut` is not proved here.
     for (k, c) in centres.iter().enumerate() {
         xs[k] = c.x;
         ys[k] = c.y;

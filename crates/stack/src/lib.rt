@@ -1,4 +1,4 @@
-// Values one after another in fixed memory.
+// Values one after another in fixed memory. (`ArrayVec` of `arrayvec` asks for a `Default`, which a curve has not.)
 #![tactic(auto)]
 
 ghost use Rattle.std.specs.Prelude.{◌≡◌, ◌≤◌, ◌<◌, List, [], ◌∷◌, ◌++◌, take, length};
@@ -38,6 +38,14 @@ impl<T: Copy, const N: usize> Stack<T, N> {
     {
         self.space[self.many] = x;
         self.many += 1;
+    }
+
+    // How many there are.
+    pub fn len(&self) -> usize
+        ensures within { result ≤ N }
+        ensures all { result ≡ length self.now }
+    {
+        self.many
     }
 
     pub fn as_slice(&self) -> &[T]

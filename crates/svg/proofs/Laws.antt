@@ -14,45 +14,46 @@ use Rattle.svg.specs.declared.Head.{Head}
 use Rattle.svg.specs.Paths.{head_of, head_path, curve_path, point_text, points_text, more_text, path_text, curve_text, head_text, point_writable, points_writable, path_writable}
 
 -- ---- a test and then another
-two : (a b : Bool) → (a && b) ≡ ((a && true) && ((b && true) && true))
+two : (a b : Bool) → ((a && true) && ((b && true) && true)) ≡ (a && b)
 two true true = refl
 two true false = refl
 two false b = refl
 
-three : (a c b : Bool) → ((a && c) && b) ≡ ((a && true) && ((c && (b && true)) && true))
+three : (a c b : Bool) → ((a && true) && ((c && (b && true)) && true)) ≡ ((a && c) && b)
 three true true true = refl
 three true true false = refl
 three true false b = refl
 three false c b = refl
 
-four : (a c d b : Bool) → ((a && c) && (d && b)) ≡ ((a && true) && ((c && (d && (b && true))) && true))
+four : (a c d b : Bool) → ((a && true) && ((c && (d && (b && true))) && true)) ≡ ((a && c) && (d && b))
 four true true true true = refl
 four true true true false = refl
 four true true false b = refl
 four true false d b = refl
 four false c d b = refl
 
-corners : (a b c : Bool) → ((a && b) && c) ≡ ((a && true) && ((b && true) && ((c && true) && (true && true))))
+corners : (a b c : Bool) → ((a && true) && ((b && true) && ((c && true) && (true && true)))) ≡ ((a && b) && c)
 corners true true true = refl
 corners true true false = refl
 corners true false c = refl
 corners false b c = refl
 
-pub line-writable : (a b : «V») → (point_writable a && point_writable b) ≡ path_writable (curve_path (Line a b))
+pub line_writable : (a b : «V») → path_writable (curve_path (Line a b)) ≡ (point_writable a && point_writable b)
 unfolding path_writable points_writable
-line-writable a b = two (point_writable a) (point_writable b)
+line_writable a b = two (point_writable a) (point_writable b)
 
-pub quad_writable : (a c b : «V») → ((point_writable a && point_writable c) && point_writable b) ≡ path_writable (curve_path (Quad a c b))
+pub quad_writable : (a c b : «V») → path_writable (curve_path (Quad a c b)) ≡ ((point_writable a && point_writable c) && point_writable b)
 unfolding path_writable points_writable
 quad_writable a c b = three (point_writable a) (point_writable c) (point_writable b)
 
-pub cubic_writable : (a c d b : «V») → ((point_writable a && point_writable c) && (point_writable d && point_writable b)) ≡ path_writable (curve_path (Cubic a c d b))
+pub cubic_writable : (a c d b : «V») → path_writable (curve_path (Cubic a c d b))
+    ≡ ((point_writable a && point_writable c) && (point_writable d && point_writable b))
 unfolding path_writable points_writable
 cubic_writable a c d b = four (point_writable a) (point_writable c) (point_writable d) (point_writable b)
 
-pub head-writable : (h : Head) → ((point_writable h.tip && point_writable h.left) && point_writable h.right) ≡ path_writable (head_path h)
+pub head_writable : (h : Head) → path_writable (head_path h) ≡ ((point_writable h.tip && point_writable h.left) && point_writable h.right)
 unfolding path_writable points_writable
-head-writable h = corners (point_writable h.tip) (point_writable h.left) (point_writable h.right)
+head_writable h = corners (point_writable h.tip) (point_writable h.left) (point_writable h.right)
 
 -- ---- the arrowhead
 pub head_is : (tip ahead long base across side left right : «V») (angle : Float) → ahead ≡ polar angle → long ≡ mul ahead arrow_length → base ≡ sub tip long

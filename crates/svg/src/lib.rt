@@ -34,58 +34,42 @@ fn arrowhead(tip: V, angle: f64) -> Head
     Head { tip, left, right }
 }
 
-fn point_writable(p: V) -> bool
+// Whether both coordinates of a point may be written.
+pub fn point_writable(p: V) -> bool
     ensures { result ≡ S.point_writable p }
 {
-    if number::writable(p.x) {
-        return number::writable(p.y);
-    }
-    false
+    number::writable(p.x) && number::writable(p.y)
 }
 
 fn both_writable(a: V, b: V) -> bool
     ensures { result ≡ (S.point_writable a && S.point_writable b) }
 {
-    if point_writable(a) {
-        return point_writable(b);
-    }
-    false
+    point_writable(a) && point_writable(b)
 }
 
 // Whether every coordinate of a curve may be written.
+#[tactic(auto, using(crate::proofs::Laws::line_writable, crate::proofs::Laws::quad_writable, crate::proofs::Laws::cubic_writable))]
 pub fn curve_writable(k: Curve) -> bool
     ensures { result ≡ S.path_writable (S.curve_path k) }
 {
     match k {
         Curve::Line(a, b) => both_writable(a, b),
-        Curve::Quad(a, c, b) => {
-            if both_writable(a, c) {
-                return point_writable(b);
-            }
-            false
-        }
-        Curve::Cubic(a, c, d, b) => {
-            if both_writable(a, c) {
-                return both_writable(d, b);
-            }
-            false
-        }
+        Curve::Quad(a, c, b) => both_writable(a, c) && point_writable(b),
+        Curve::Cubic(a, c, d, b) => both_writable(a, c) && both_writable(d, b),
     }
 }
 
 // Whether every coordinate of an arrowhead may be written.
+#[tactic(auto, using(crate::proofs::Laws::head_writable))]
 pub fn head_writable(tip: V, angle: f64) -> bool
     ensures { result ≡ S.path_writable (S.head_path (S.head_of tip angle)) }
 {
     let h = arrowhead(tip, angle);
-    if both_writable(h.tip, h.left) {
-        return point_writable(h.right);
-    }
-    false
+    both_writable(h.tip, h.left) && point_writable(h.right)
 }
 
 // A blank and x, a blank and y.
-fn put_point(w: &mut Writer, p: V)
+pub fn put_point(w: &mut Writer, p: V)
     ensures { Adds w.old w.new (S.point_text p) }
 {
     w.byte(b' ');

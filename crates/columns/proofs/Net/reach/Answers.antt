@@ -15,7 +15,7 @@ loop-preserved c = let a = c.args in
     let l = c.loop in
     let n = a.self.now.states in
     search_step n a.self.now.arrows.now a.start l.order c.explore.new.found l.sizes l.low (n - l.counter) l.invariant
-    c.explore.ensures _ _ c.as_slice-high.ensures.all c.as_slice.ensures.all
+    c.explore.ensures _ _ c.len-high.ensures.all c.len.ensures.all
     c.push-in-loop.new.self l.counter refl c.loop-test.true c.if-new-eq0.false c.push-in-loop.ensures
 
 pub returns : goal.returns
@@ -28,5 +28,5 @@ returns c = let a = c.args in
           (search_all n a.self.now.arrows.now a.start l.order l.sizes l.low (n - l.counter) l.invariant (omega (arith, w.loop-test.false)))
       | then-loop-test+then-new-eq0 w ↦ subst done (sym w.order-is)
           (search_stop n a.self.now.arrows.now a.start l.order w.explore.new.found l.sizes l.low (n - l.counter) l.invariant
-          w.explore.ensures _ _ w.as_slice-high.ensures.all w.as_slice.ensures.all w.if-new-eq0.true)
+          w.explore.ensures _ _ w.len-high.ensures.all w.len.ensures.all w.if-new-eq0.true)
     ]
