@@ -1,3 +1,3 @@
 pub mod Lay
 pub mod Traces
-pub mod Zeroed
+pub mod Counted

@@ -8,7 +8,7 @@ ghost use Rattle.trace.specs.Form.{trace_in};
 ghost use Rattle.routing.specs.Routing.{start_curve, start_traces, rim};
 ghost use Rattle.routing.specs.Sheets.{or_zero};
 ghost use Rattle.curves.specs.Lay as S;
-ghost use Rattle.curves.specs.Zeroed.{centre_zeroed};
+ghost use Rattle.curves.specs.Counted as C;
 
 use bend::Routed;
 use shape::{Curve, NODE_RADIUS, START_ARROW_LENGTH, V};
@@ -29,22 +29,30 @@ pub fn or_zero(v: f64) -> f64
     0.0
 }
 
-// A centre as it counts.
-pub fn centre_or_zero(c: V) -> V
-    ensures { result ≡ centre_zeroed c }
+// State k's centre as it counts: 0 for what is missing or not finite.
+fn centre_at(centres: &[V], k: usize) -> V
+    ensures { result ≡ C.counted_at centres.now k }
 {
+    let c = centres.get(k).copied().unwrap_or(V::ORIGIN);
     V::new(or_zero(c.x), or_zero(c.y))
 }
 
-// The centres as they count, in the room lent for them. By index, since a proof knows nothing of a slice that an
-// adapter of `iter_mut` writes.
-pub fn zeroed(centres: &[V], room: &mut [V])
-    requires { length room.old ≡ length centres.now }
-    ensures { room.new ≡ map centre_zeroed centres.now }
+// The centres as they count, one in each place.
+fn count_into(centres: &[V], nodes: &mut [V])
+    ensures { nodes.new ≡ C.counted centres.now (length nodes.old) }
 {
-    for (k, c) in centres.iter().enumerate() {
-        room[k] = centre_or_zero(*c);
+    for (k, node) in nodes.iter_mut().enumerate() {
+        *node = centre_at(centres, k);
     }
+}
+
+// The centres of n states as they count, in the room lent for them.
+pub fn counted<'a>(centres: &[V], n: usize, room: &'a mut [V; 64]) -> &'a [V]
+    requires { n ≤ 64 }
+    ensures { result.now ≡ C.counted centres.now n }
+{
+    count_into(centres, &mut room[..n]);
+    &room[..n]
 }
 
 // ---- what is routed
@@ -157,7 +165,7 @@ fn push_start<const N: usize>(flag: u8, c: V, traces: &mut Stack<Trace, N>)
     ensures all { map trace_in traces.new ≡ map trace_in traces.old ++ start_traces (flag ∷ []) (c ∷ []) }
     ensures many { length traces.new ≤ length traces.old + 1 }
 {
-    if flag % 2 == 1 {
+    if sheet::is_start(flag) {
         traces.push(Trace::of(None, start_curve(c)));
     }
 }
@@ -213,7 +221,7 @@ impl<'a> Frame<'a> {
         ensures { angles.new ≡ rim (S.frame_in self.now) k }
     {
         self.meet(laid, k, angles);
-        if self.flags[k] % 2 == 1 {
+        if sheet::is_start(self.flags[k]) {
             angles.push(PI);
         }
     }
