@@ -10,7 +10,10 @@ ghost use Rattle.routing.specs.Sheets.{or_zero};
 ghost use Rattle.curves.specs.Lay as S;
 ghost use Rattle.curves.specs.Counted as C;
 
+mod frame;
+
 use bend::Routed;
+pub use frame::Frame;
 use shape::{Curve, NODE_RADIUS, START_ARROW_LENGTH, V};
 use sheet::Ends;
 use stack::Stack;
@@ -57,14 +60,6 @@ pub fn counted<'a>(centres: &[V], n: usize, room: &'a mut [V; 64]) -> &'a [V]
 
 // ---- what is routed
 
-// The states' flag bytes and centres, and the arrows' ends.
-#[derive(Clone, Copy)]
-pub struct Frame<'a> {
-    pub flags: &'a [u8],
-    pub centres: &'a [V],
-    pub arrows: &'a [Ends],
-}
-
 // An arrow between different states: its curve, and the angles at which it leaves the first and reaches the second.
 #[derive(Clone, Copy)]
 pub struct Crossing {
@@ -84,7 +79,6 @@ pub enum Laid {
 impl<'a> Frame<'a> {
     // An arrow between different states; the reverse arrow is looked for among all.
     fn crossing(&self, e: Ends) -> Crossing
-        requires few { length self.now.centres.now ≤ 64 }
         requires source { e.source < length self.now.centres.now }
         requires target { e.target < length self.now.centres.now }
         ensures { result ≡ S.crossing_by (S.frame_in self.now) e }
@@ -100,7 +94,6 @@ impl<'a> Frame<'a> {
 
     #[tactic(auto, unfolding(crate::specs::Lay::laid_by))]
     fn laid(&self, e: Ends) -> Laid
-        requires whole { S.Whole self.now }
         ensures { result ≡ S.laid_by (S.frame_in self.now) e }
     {
         let n = self.flags.len();
@@ -115,7 +108,6 @@ impl<'a> Frame<'a> {
 
     // All arrows, in order.
     fn lay_arrows<const N: usize>(&self, laid: &mut Stack<Laid, N>)
-        requires whole { S.Whole self.now }
         requires room { length laid.old + length self.now.arrows.now ≤ N }
         ensures { laid.new ≡ laid.old ++ map (S.laid_by (S.frame_in self.now)) self.now.arrows.now }
     {
@@ -214,7 +206,6 @@ impl<'a> Frame<'a> {
 
     // The angles at which arrows and the start mark meet the rim of state k, before any loop is drawn.
     pub fn rim(&self, laid: &[Laid], k: usize, angles: &mut Stack<f64, 257>)
-        requires whole { S.Whole self.now }
         requires all { laid.now ≡ S.laid_of (S.frame_in self.now) }
         requires state { k < length self.now.centres.now }
         requires none { angles.old ≡ [] }
@@ -236,7 +227,6 @@ impl<'a> Frame<'a> {
         laid: &mut Stack<Laid, A>,
         traces: &mut Stack<Trace, T>,
     )
-        requires whole { S.Whole self.now }
         requires none { (laid.old ≡ []) × (traces.old ≡ []) }
         requires room { (length self.now.arrows.now ≤ A) × (length self.now.arrows.now + length self.now.centres.now ≤ T) }
         ensures laid { laid.new ≡ S.laid_of (S.frame_in self.now) }

@@ -2,7 +2,7 @@
 use mathlib.Core.Path.{sym, ◌∙◌}
 use Rattle.curves.specs.Lay.{frame_in}
 use Rattle.curves.proofs.Laws.{rim_start, rim_other}
-use Rattle.curves.proofs.Frame.rim.Goals as goal
+use Rattle.curves.proofs.frame.Frame.rim.Goals as goal
 
 pub returns-then-is_start : goal.returns-then-is_start
 returns-then-is_start c = let a = c.args in

@@ -5,7 +5,7 @@ use Rattle.trace.specs.Traces.{Trace}
 use Rattle.routing.specs.Routing.{start_traces}
 use Rattle.curves.specs.Lay.{frame_in, laid_of, laid_traces}
 use Rattle.curves.proofs.Laws.{first_are}
-use Rattle.curves.proofs.Frame.lay.Goals as goal
+use Rattle.curves.proofs.frame.Frame.lay.Goals as goal
 
 pub returns-clause-traces : goal.returns-clause-traces
 returns-clause-traces g c = let f = c.args.self.now in
