@@ -1,6 +1,6 @@
 -- Steps of the proofs. Assumes nothing.
 use Rattle.std.specs.Prelude.{◌≡◌, refl, true, false, not, ℕ, ◌+◌, ◌≤◌, ◌<◌, ltb, length, get_or, drop, Option, Some}
-use Rattle.std.proofs.Common.{sym, ap, ap₂, ◌∙◌, arith, ltb-true, true≢false, add-one, drop-cons, drop_of_length-le, length-append}
+use Rattle.std.proofs.Common.{sym, ap, ap₂, ◌∙◌, ltb-true, true≢false, add-one, drop-cons, drop_of_length-le, length-append}
 use Rattle.std.proofs.lemmas.Bool.{not-true}
 use mathlib.Core.List.{List, [], ◌∷◌, ◌++◌, map, flat_map}
 use Rattle.std.proofs.Math.ListN.{get_or-map}

@@ -8,7 +8,7 @@ ghost use Rattle.scene.specs.Turn.{placed_arrow};
 ghost use Rattle.self_loop.specs.Looped.{looped};
 ghost use Rattle.routing.specs.Routing.{loop_turn, turn_of, numbered_at};
 ghost use Rattle.routing_laws.specs.Passes.{turned, passed, gathered};
-ghost use Rattle.curves.specs.Lay.{Whole, frame_in, laid_of};
+ghost use Rattle.curves.specs.Lay.{frame_in, laid_of};
 ghost use Rattle.turns.specs.Steps as S;
 
 use bend::Shape;
@@ -54,7 +54,6 @@ pub struct Drawing<const ARROWS: usize, const BOXES: usize, const TRACES: usize>
 impl<const ARROWS: usize, const BOXES: usize, const TRACES: usize> Drawing<ARROWS, BOXES, TRACES> {
     // Loop i in the direction that it takes.
     fn loop_of(&self, frame: &Frame, laid: &[Laid], size: Block, i: usize) -> Geometry
-        requires whole { Whole frame.now }
         requires all { laid.now ≡ laid_of (frame_in frame.now) }
         requires arrow { i < length frame.now.arrows.now }
         requires state { (numbered_at (frame_in frame.now) i).ends.source < length frame.now.centres.now }
@@ -108,7 +107,6 @@ impl<const ARROWS: usize, const BOXES: usize, const TRACES: usize> Drawing<ARROW
 
     // The turn of arrow i.
     fn turn(&mut self, frame: &Frame, laid: &[Laid], size: Block, i: usize)
-        requires whole { Whole frame.now }
         requires all { laid.now ≡ laid_of (frame_in frame.now) }
         requires arrow { (i < length frame.now.arrows.now) × (i < ARROWS) }
         requires room { (length self.old.boxes < BOXES)
@@ -133,7 +131,6 @@ impl<const ARROWS: usize, const BOXES: usize, const TRACES: usize> Drawing<ARROW
 
     // The turn of arrow i in the pass of a sort.
     fn turn_at(&mut self, sort: Sort, frame: &Frame, laid: &[Laid], sizes: &[Block], i: usize)
-        requires whole { Whole frame.now }
         requires all { laid.now ≡ laid_of (frame_in frame.now) }
         requires sized { length sizes.now ≡ length frame.now.arrows.now }
         requires arrow { (i < length frame.now.arrows.now) × (i < ARROWS) }
@@ -149,7 +146,6 @@ impl<const ARROWS: usize, const BOXES: usize, const TRACES: usize> Drawing<ARROW
 
     // The pass of a sort.
     fn pass(&mut self, sort: Sort, frame: &Frame, laid: &[Laid], sizes: &[Block])
-        requires whole { Whole frame.now }
         requires all { laid.now ≡ laid_of (frame_in frame.now) }
         requires sized { (length sizes.now ≡ length frame.now.arrows.now) × (length frame.now.arrows.now ≤ ARROWS) }
         requires room { (length self.old.boxes + length frame.now.arrows.now ≤ BOXES)
@@ -165,7 +161,6 @@ impl<const ARROWS: usize, const BOXES: usize, const TRACES: usize> Drawing<ARROW
 
     // The turns of all arrows.
     pub fn run(&mut self, frame: &Frame, laid: &[Laid], sizes: &[Block])
-        requires whole { Whole frame.now }
         requires all { laid.now ≡ laid_of (frame_in frame.now) }
         requires sized { (length sizes.now ≡ length frame.now.arrows.now) × (length frame.now.arrows.now ≤ ARROWS) }
         requires room { (length self.old.boxes + 3 * length frame.now.arrows.now ≤ BOXES)
