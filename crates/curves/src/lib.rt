@@ -52,7 +52,8 @@ fn count_into(centres: &[V], nodes: &mut [V])
 // The centres of n states as they count, in the room lent for them.
 pub fn counted<'a>(centres: &[V], n: usize, room: &'a mut [V; 64]) -> &'a [V]
     requires { n ≤ 64 }
-    ensures { result.now ≡ C.counted centres.now n }
+    ensures all { result.now ≡ C.counted centres.now n }
+    ensures many { length result.now ≡ n }
 {
     count_into(centres, &mut room[..n]);
     &room[..n]

@@ -4,7 +4,7 @@
 ghost use Rattle.std.specs.Prelude.{◌≡◌, ◌+◌, ◌*◌, ◌≤◌, ◌<◌, length};
 ghost use Rattle.laws.specs.Put.{put};
 ghost use Rattle.routing.specs.Routing.{records};
-ghost use Rattle.curves.specs.Lay.{Whole, frame_in};
+ghost use Rattle.curves.specs.Lay.{frame_in};
 
 use curves::{Frame, Laid};
 use label::Block;
@@ -23,7 +23,6 @@ fn draw<const ARROWS: usize, const BOXES: usize, const TRACES: usize>(
     sizes: &[Block],
     out: &mut [Geometry],
 ) -> usize
-    requires whole { Whole frame.now }
     requires sized { length sizes.now ≡ length frame.now.arrows.now }
     requires arrows { length frame.now.arrows.now ≤ ARROWS }
     requires boxes { 3 * length frame.now.arrows.now ≤ BOXES }
@@ -47,7 +46,6 @@ fn draw<const ARROWS: usize, const BOXES: usize, const TRACES: usize>(
 // The drawing of a graph at given centres: a record for each arrow that has one, in arrow order; how many. Setting
 // the space to 0 is a large part of drawing a small sheet, which has less.
 pub fn geometry(frame: &Frame, sizes: &[Block], out: &mut [Geometry]) -> usize
-    requires whole { Whole frame.now }
     requires sized { length sizes.now ≡ length frame.now.arrows.now }
     requires room { length frame.now.arrows.now ≤ length out.old }
     ensures { let drawn = records (frame_in frame.now) sizes.now in
