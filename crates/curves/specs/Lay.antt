@@ -1,5 +1,6 @@
 -- What stands before any label is placed: "It begins with the states and traces that `geometry` has before any label."
-use Rattle.std.specs.Prelude.{cond, ℕ, suc, eqb, length, Float}
+use Rattle.std.specs.Prelude.{Bool, true, false, cond, ℕ, suc, eqb, length, Float}
+use Rattle.laws.specs.Counting.{how_many, worth}
 use mathlib.Core.List.{List, [], ◌∷◌, ◌++◌, map}
 use Rattle.shape.specs.Centres.{centre}
 use Rattle.sheet.specs.Meaning.{ends_below}
@@ -39,6 +40,18 @@ traces_laid k (Between c) = trace_of (arrow k) c.routed.curve ∷ []
 unfoldable pub laid_traces : ℕ → List Laid → List Trace
 laid_traces k [] = []
 laid_traces k (l ∷ ls) = traces_laid k l ++ laid_traces (suc k) ls
+
+-- how many arrows have one
+abbrev pub is_crossing : Laid → Bool
+is_crossing LeftOut = false
+is_crossing Loop = false
+is_crossing (Between c) = true
+
+abbrev pub crosses : Laid → ℕ
+crosses l = worth is_crossing 1 l
+
+abbrev pub crossings : List Laid → ℕ
+crossings ls = how_many is_crossing ls
 
 -- those of the first scene
 abbrev pub first_traces : Frame → List Trace

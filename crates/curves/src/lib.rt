@@ -122,9 +122,9 @@ impl<'a> Frame<'a> {
 
 // The trace of arrow i, where it joins different states.
 fn push_laid<const N: usize>(i: usize, laid: &Laid, traces: &mut Stack<Trace, N>)
-    requires room { length traces.old < N }
+    requires room { length traces.old + S.crosses laid.now ≤ N }
     ensures all { map trace_in traces.new ≡ map trace_in traces.old ++ S.traces_laid i laid.now }
-    ensures many { length traces.new ≤ length traces.old + 1 }
+    ensures many { length traces.new ≤ length traces.old + S.crosses laid.now }
 {
     if let Laid::Between(c) = laid {
         traces.push(Trace::of(Some(i), c.routed.curve));
@@ -133,9 +133,9 @@ fn push_laid<const N: usize>(i: usize, laid: &Laid, traces: &mut Stack<Trace, N>
 
 // The traces of all arrows.
 fn push_arrows<const N: usize>(laid: &[Laid], traces: &mut Stack<Trace, N>)
-    requires room { length traces.old + length laid.now ≤ N }
+    requires room { length traces.old + S.crossings laid.now ≤ N }
     ensures all { map trace_in traces.new ≡ map trace_in traces.old ++ S.laid_traces 0 laid.now }
-    ensures many { length traces.new ≤ length traces.old + length laid.now }
+    ensures many { length traces.new ≤ length traces.old + S.crossings laid.now }
 {
     for (i, l) in laid.iter().enumerate() {
         push_laid(i, l, traces);
@@ -232,7 +232,7 @@ impl<'a> Frame<'a> {
         requires room { (length self.now.arrows.now ≤ A) × (length self.now.arrows.now + length self.now.centres.now ≤ T) }
         ensures laid { laid.new ≡ S.laid_of (S.frame_in self.now) }
         ensures traces { map trace_in traces.new ≡ S.first_traces (S.frame_in self.now) }
-        ensures many { length traces.new ≤ length self.now.arrows.now + length self.now.centres.now }
+        ensures many { length traces.new ≤ S.crossings (S.laid_of (S.frame_in self.now)) + length self.now.centres.now }
     {
         self.lay_arrows(laid);
         push_arrows(laid.as_slice(), traces);

@@ -17,23 +17,22 @@ use turns::Drawing;
 // A small sheet has at most so many states and so many arrows.
 const FEW: usize = 32;
 
-// The drawing in space for so many arrows, boxes and traces; how many records it has.
-fn draw<const ARROWS: usize, const BOXES: usize, const TRACES: usize>(
+// The drawing in space for so many arrows, each with a box at most, and so many traces; how many records it has.
+fn draw<const ARROWS: usize, const TRACES: usize>(
     frame: &Frame,
     sizes: &[Block],
     out: &mut [Geometry],
 ) -> usize
     requires sized { length sizes.now ≡ length frame.now.arrows.now }
     requires arrows { length frame.now.arrows.now ≤ ARROWS }
-    requires boxes { 3 * length frame.now.arrows.now ≤ BOXES }
-    requires traces { 2 * length frame.now.arrows.now + length frame.now.centres.now ≤ TRACES }
-    requires small { (ARROWS ≤ 256) × (BOXES ≤ 768) × (TRACES ≤ 576) }
+    requires traces { length frame.now.arrows.now + length frame.now.centres.now ≤ TRACES }
+    requires small { (ARROWS ≤ 256) × (TRACES ≤ 320) }
     requires room { length frame.now.arrows.now ≤ length out.old }
     ensures { let drawn = records (frame_in frame.now) sizes.now in
         (result ≡ length drawn) × (out.new ≡ put out.old 0 drawn) }
 {
     let mut laid: Stack<Laid, ARROWS> = Stack::new(Laid::LeftOut);
-    let mut drawing: Drawing<ARROWS, BOXES, TRACES> = Drawing {
+    let mut drawing: Drawing<ARROWS, TRACES> = Drawing {
         boxes: Stack::new(Rect::NONE),
         traces: Stack::new(Trace::NONE),
         drawn: [None; ARROWS],
@@ -52,7 +51,7 @@ pub fn geometry(frame: &Frame, sizes: &[Block], out: &mut [Geometry]) -> usize
         (result ≡ length drawn) × (out.new ≡ put out.old 0 drawn) }
 {
     if frame.flags.len() <= FEW && frame.arrows.len() <= FEW {
-        return draw::<32, 96, 96>(frame, sizes, out);
+        return draw::<32, 64>(frame, sizes, out);
     }
-    draw::<256, 768, 576>(frame, sizes, out)
+    draw::<256, 320>(frame, sizes, out)
 }

@@ -29,7 +29,7 @@ enum Sort {
     Straight,
 }
 
-// Whether an arrow is of this sort.
+// Whether an arrow is of this sort: by cases, as the definition goes.
 fn is_sort(laid: &Laid, sort: Sort) -> bool
     ensures { result ≡ S.is_sort sort laid.now }
 {
@@ -45,13 +45,13 @@ fn is_sort(laid: &Laid, sort: Sort) -> bool
 
 // What is drawn so far: the labels' boxes, the traces, and the drawing of each arrow that has one.
 #[derive(Drop)]
-pub struct Drawing<const ARROWS: usize, const BOXES: usize, const TRACES: usize> {
-    pub boxes: Stack<Rect, BOXES>,
+pub struct Drawing<const ARROWS: usize, const TRACES: usize> {
+    pub boxes: Stack<Rect, ARROWS>,
     pub traces: Stack<Trace, TRACES>,
     pub drawn: [Option<Geometry>; ARROWS],
 }
 
-impl<const ARROWS: usize, const BOXES: usize, const TRACES: usize> Drawing<ARROWS, BOXES, TRACES> {
+impl<const ARROWS: usize, const TRACES: usize> Drawing<ARROWS, TRACES> {
     // Loop i in the direction that it takes.
     fn loop_of(&self, frame: &Frame, laid: &[Laid], size: Block, i: usize) -> Geometry
         requires all { laid.now ≡ laid_of (frame_in frame.now) }
@@ -98,7 +98,7 @@ impl<const ARROWS: usize, const BOXES: usize, const TRACES: usize> Drawing<ARROW
 
     // Adds the drawing of arrow i: its label's box enters the scene.
     fn add(&mut self, i: usize, g: Geometry)
-        requires room { (length self.old.boxes < BOXES) × (i < ARROWS) }
+        requires room { (length self.old.boxes < ARROWS) × (i < ARROWS) }
         ensures { self.new ≡ S.added self.old i g }
     {
         self.boxes.push(g.label_box);
@@ -109,7 +109,7 @@ impl<const ARROWS: usize, const BOXES: usize, const TRACES: usize> Drawing<ARROW
     fn turn(&mut self, frame: &Frame, laid: &[Laid], size: Block, i: usize)
         requires all { laid.now ≡ laid_of (frame_in frame.now) }
         requires arrow { (i < length frame.now.arrows.now) × (i < ARROWS) }
-        requires room { (length self.old.boxes < BOXES)
+        requires room { (length self.old.boxes < ARROWS)
             × (length self.old.traces + S.looped_at laid.now i ≤ TRACES) }
         ensures turned { let f = frame_in frame.now in
             S.drawn_in f self.new ≡ S.turned_by f size i (S.drawn_in f self.old) }
@@ -134,10 +134,11 @@ impl<const ARROWS: usize, const BOXES: usize, const TRACES: usize> Drawing<ARROW
         requires all { laid.now ≡ laid_of (frame_in frame.now) }
         requires sized { length sizes.now ≡ length frame.now.arrows.now }
         requires arrow { (i < length frame.now.arrows.now) × (i < ARROWS) }
-        requires room { (length self.old.boxes < BOXES) × (length self.old.traces + S.more sort 1 ≤ TRACES) }
+        requires room { let one = S.one_at sort laid.now i in
+            (length self.old.boxes + one ≤ ARROWS) × (length self.old.traces + S.more sort one ≤ TRACES) }
         ensures turned { let f = frame_in frame.now in
             S.drawn_in f self.new ≡ turned f sizes.now (S.pass_of sort) (S.drawn_in f self.old) (numbered_at f i) }
-        ensures many { S.Grown self.old self.new 1 (S.more sort 1) }
+        ensures many { let one = S.one_at sort laid.now i in S.Grown self.old self.new one (S.more sort one) }
     {
         if is_sort(&laid[i], sort) {
             self.turn(frame, laid, sizes[i], i);
@@ -148,11 +149,11 @@ impl<const ARROWS: usize, const BOXES: usize, const TRACES: usize> Drawing<ARROW
     fn pass(&mut self, sort: Sort, frame: &Frame, laid: &[Laid], sizes: &[Block])
         requires all { laid.now ≡ laid_of (frame_in frame.now) }
         requires sized { (length sizes.now ≡ length frame.now.arrows.now) × (length frame.now.arrows.now ≤ ARROWS) }
-        requires room { (length self.old.boxes + length frame.now.arrows.now ≤ BOXES)
-            × (length self.old.traces + S.more sort (length frame.now.arrows.now) ≤ TRACES) }
+        requires room { let many = S.many_of sort laid.now in
+            (length self.old.boxes + many ≤ ARROWS) × (length self.old.traces + S.more sort many ≤ TRACES) }
         ensures passed { let f = frame_in frame.now in
             S.drawn_in f self.new ≡ passed f sizes.now (S.pass_of sort) (S.drawn_in f self.old) }
-        ensures many { S.Grown self.old self.new (length frame.now.arrows.now) (S.more sort (length frame.now.arrows.now)) }
+        ensures many { let many = S.many_of sort laid.now in S.Grown self.old self.new many (S.more sort many) }
     {
         for i in 0..frame.arrows.len() {
             self.turn_at(sort, frame, laid, sizes, i);
@@ -163,8 +164,8 @@ impl<const ARROWS: usize, const BOXES: usize, const TRACES: usize> Drawing<ARROW
     pub fn run(&mut self, frame: &Frame, laid: &[Laid], sizes: &[Block])
         requires all { laid.now ≡ laid_of (frame_in frame.now) }
         requires sized { (length sizes.now ≡ length frame.now.arrows.now) × (length frame.now.arrows.now ≤ ARROWS) }
-        requires room { (length self.old.boxes + 3 * length frame.now.arrows.now ≤ BOXES)
-            × (length self.old.traces + length frame.now.arrows.now ≤ TRACES) }
+        requires room { (length self.old.boxes + length frame.now.arrows.now ≤ ARROWS)
+            × (length self.old.traces + S.loops_of laid.now ≤ TRACES) }
         ensures { let f = frame_in frame.now in
             S.drawn_in f self.new ≡ S.all_passed f sizes.now (S.drawn_in f self.old) }
     {
