@@ -3,7 +3,7 @@
 
 ghost use Rattle.std.specs.Prelude.{◌≡◌, ◌≤◌, ◌<◌, length};
 ghost use Rattle.std.specs.List.{list_any};
-ghost use Rattle.curves.specs.Lay.{Whole, frame_in};
+ghost use Rattle.curves.specs.Lay.{frame_in};
 ghost use Rattle.beyond.specs.Beyond as S;
 
 use curves::Frame;
@@ -25,7 +25,6 @@ fn pair_beyond(nodes: &[V], c: Chord) -> bool
 
 // The same of an arrow, where it joins different states and a reverse arrow exists.
 fn arrow_beyond(frame: &Frame, e: Ends) -> bool
-    requires whole { Whole frame.now }
     ensures { result ≡ S.ends_refused (frame_in frame.now) e }
 {
     directions::is_between(frame.flags.len(), e.source, e.target)
@@ -34,7 +33,6 @@ fn arrow_beyond(frame: &Frame, e: Ends) -> bool
 }
 
 fn some_beyond(frame: &Frame, arrows: &[Ends]) -> bool
-    requires whole { Whole frame.now }
     ensures { result ≡ list_any (S.ends_refused (frame_in frame.now)) arrows.now }
 {
     arrows.iter().any(|e| arrow_beyond(frame, *e))
@@ -42,7 +40,6 @@ fn some_beyond(frame: &Frame, arrows: &[Ends]) -> bool
 
 // Whether the drawing of a graph at these centres is refused by 9.
 pub fn beyond(frame: &Frame) -> bool
-    requires whole { Whole frame.now }
     ensures { result ≡ S.beyond (frame_in frame.now) }
 {
     some_beyond(frame, frame.arrows)

@@ -2,8 +2,8 @@
 use Rattle.std.specs.Prelude.{◌≡◌, List, [], ℕ, ◌≤◌, length, take, Float}
 use Rattle.std.proofs.Common.{refl, sym, ap, ◌∙◌, arith}
 use Rattle.std.proofs.lemmas.List.{length-map}
-use Rattle.laws.specs.Filled.{front_is, put_whole}
-use Rattle.laws.specs.Refusals.{Clear, First, FirstOrClear, stops, goes, first_or_clear, clear_none, clear_from, first_decides, clear_decides}
+use Rattle.laws.specs.Filled.{front_is}
+use Rattle.laws.specs.Refusals.{Clear, First, clear_none, clear_from, first_decides, clear_decides}
 use Rattle.sheet.specs.Sheet.{meaning}
 use Rattle.sheet.specs.Refusals.{refusals}
 use Rattle.sheet.specs.Order.{accepted_exactly}
@@ -14,7 +14,7 @@ use Rattle.label_spots.specs.declared.Geometry.{Geometry}
 use Rattle.routing.specs.Sheets.{ends_of, frame_of, sizes_of}
 use Rattle.routing_laws.proofs.Decoded.{records_most}
 use Rattle.draw.specs.Drawn.{xs_of, ys_of, draw_refusals, draw_of, draw_after}
-use Rattle.draw.specs.Given.{given, draw_given, after_given}
+use Rattle.draw.specs.Given.{given, decided_given}
 use Rattle.calls.specs.Calls.{values, number, drawn_of}
 use Rattle.calls.specs.Decided.{refused-first, answered-clear}
 use Rattle.calls.specs.Drawing.{drawing_at}
@@ -27,29 +27,9 @@ pub record DrawingHeld (s : List ℕ) (k : Limits) (xs ys : List Float) (drawn :
   pub whole : drawn ≡ drawn_of s xs ys
 
 -- drawn at the centres that are given, as at their numbers
-module _ (s : List ℕ) (k : Limits) (xs ys : List Float) (few_states : k.states ≤ 64) where
-  abbrev us : List Float
-  us = xs_of (given xs ys)
-
-  abbrev vs : List Float
-  vs = ys_of (given xs ys)
-
-  by_outcome : FirstOrClear (draw_refusals k s xs ys) → drawing_at k s us vs ≡ drawing_at k s xs ys
-  by_outcome (stops n f) =
-      let e : number n ≡ draw_of k s us vs = sym (draw_given k s xs ys few_states ∙ first_decides number _ _ n f) in
-      first_decides number _ _ n (refused-first (draw_refusals k s us vs) (length (drawn_of s us vs)) n e)
-      ∙ sym (first_decides number _ _ n f)
-  by_outcome (goes c) =
-      let gs = drawn_of s xs ys in
-      let e : values (length gs) ≡ draw_of k s us vs = sym (draw_given k s xs ys few_states ∙ clear_decides number _ _ c) in
-      let w = answered-clear (draw_refusals k s us vs) (length (drawn_of s us vs)) (length gs) e in
-      let q : draw_after k s us vs gs ≡ draw_after k s xs ys gs = after_given k s xs ys few_states gs in
-      let d : drawn_of s us vs ≡ gs = sym (put_whole gs (drawn_of s us vs) w.1) ∙ sym (clear_decides (λ n. gs) _ _ w.0)
-      ∙ q ∙ clear_decides (λ n. gs) _ _ c ∙ put_whole gs gs refl in
-      clear_decides number _ _ w.0 ∙ ap (λ (hs : List Geometry). values hs) d ∙ sym (clear_decides number _ _ c)
-
-  pub drawing_given : (cs : List «V») → cs ≡ given xs ys → drawing_at k s (xs_of cs) (ys_of cs) ≡ drawing_at k s xs ys
-  drawing_given cs e = rw e (by_outcome (first_or_clear (draw_refusals k s xs ys)))
+pub drawing_given : (s : List ℕ) (k : Limits) (xs ys : List Float) → k.states ≤ 64 → (cs : List «V») → cs ≡ given xs ys
+    → drawing_at k s (xs_of cs) (ys_of cs) ≡ drawing_at k s xs ys
+drawing_given s k xs ys h cs e = rw e (decided_given number (λ gs. values gs) k s xs ys h)
 
 module _ (s : List ℕ) (k : Limits) (xs ys : List Float) where
   pub draw_stopped : (n : ℕ) → number n ≡ drawing_at k s xs ys → First (draw_refusals k s xs ys) n

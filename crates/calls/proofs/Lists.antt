@@ -1,6 +1,6 @@
 -- Laying out and listing, from what planning and drawing a sheet give. Assumes nothing.
-use Rattle.std.specs.Prelude.{◌≡◌, Bool, not, ◌&&◌, ◌||◌, List, [], ◌∷◌, ℕ, ◌≤◌, ltb, length, take, Float}
-use Rattle.std.proofs.Common.{refl, sym, ap, ◌∙◌, arith, ltb-false}
+use Rattle.std.specs.Prelude.{◌≡◌, Bool, not, ◌&&◌, ◌||◌, List, [], ◌∷◌, ℕ, ◌≤◌, ◌<◌, ltb, length, take, Float}
+use Rattle.std.proofs.Common.{refl, sym, ap, ap₂, ◌∙◌, arith, ltb-false}
 use Rattle.std.proofs.lemmas.List.{length-map}
 use Rattle.laws.specs.Cases.{by_bool}
 use Rattle.laws.specs.Filled.{front_is}
@@ -25,7 +25,9 @@ use Rattle.draw.specs.Given.{xs_centres, ys_centres}
 use Rattle.layout.specs.Layout.{plan_of, last_kind}
 use Rattle.plan.specs.Measured.{layout_beyond}
 use Rattle.layout.specs.Alike.{layout-whole}
-use Rattle.plan.specs.Planned.{plan_refusals, planned, centres_planned}
+use Rattle.plan.specs.Planned.{plan_refusals, size_of, planned, centres_planned}
+use Rattle.plan.specs.Laws.{plan_kind}
+use Rattle.fit.specs.declared.Size.{Size}
 use Rattle.calls.specs.Calls.{Outcome, number, values, capped_limits, drawn_of, onto, layout_for, layout, xs_after, ys_after, listing, listing_writable, list_refusals, list, list_after}
 use Rattle.calls.specs.Laws.{accepted_shown}
 use Rattle.calls.specs.Decided.{refused-first, answered-clear}
@@ -37,12 +39,12 @@ use Rattle.calls.proofs.Held.{DrawingHeld, draw_stopped}
 -- ---- what the answer says of the refusals
 
 -- the layout, with its centres
-pub record Laid (s : List ℕ) (m : Limits) (kind n : ℕ) (w h : Float) (cs : List «V») : Type 0 where
+pub record Laid (s : List ℕ) (m : Limits) (kind n : ℕ) (z : Size) (cs : List «V») : Type 0 where
   pub clear : Clear (plan_refusals (capped_limits m) kind s)
   pub many : n ≡ length (meaning s).states
   pub few : n ≤ 64
-  pub wide : w ≡ (layout_for s kind).width
-  pub high : h ≡ (layout_for s kind).height
+  pub wide : z.width ≡ (layout_for s kind).width
+  pub high : z.height ≡ (layout_for s kind).height
   pub placed : cs ≡ centres (layout_for s kind).xs (layout_for s kind).ys
   pub xs_are : xs_of cs ≡ (layout_for s kind).xs
   pub ys_are : ys_of cs ≡ (layout_for s kind).ys
@@ -52,48 +54,53 @@ module _ (s : List ℕ) (m : Limits) (kind : ℕ) where
   abbrev planning : List Refusal
   planning = plan_refusals (capped_limits m) kind s
 
-  -- by what planning under the limits that count has answered and left
-  pub planning-refused : {k : Limits} → k ≡ capped_limits m → (n : ℕ) → number n ≡ planned k kind s → First planning n
-  planning-refused c n e = refused-first planning _ n (e ∙ ap (λ (l : Limits). planned l kind s) c)
-
-  pub plan-clear : {k : Limits} → k ≡ capped_limits m → (n : ℕ) (w h : Float) → values (n, w, h) ≡ planned k kind s
-      → Clear planning × ◌≡◌ {A = ℕ × Float × Float} (n, w, h) (length (meaning s).states, (layout_for s kind).width, (layout_for s kind).height)
-  plan-clear c n w h e = answered-clear planning _ (n, w, h) (e ∙ ap (λ (l : Limits). planned l kind s) c)
+  -- a number that no kind has
+  pub kind_refused : last_kind < kind → First planning 11
+  kind_refused h = refused-first planning _ 11 (plan_kind (capped_limits m) kind s [] h).0
 
   shown_by : Clear planning → OnMainScreen (meaning s)
   shown_by c = accepted_shown m s (clear_from (refusals (capped_limits m) s) [] planning clear_none c refl)
 
-  -- an accepted sheet has at most 64 states
-  pub few_states : {k : Limits} → k ≡ capped_limits m → (n : ℕ) (w h : Float) → values (n, w, h) ≡ planned k kind s → n ≤ 64
-  few_states c n w h e =
-      let p = plan-clear c n w h e in
-      let i : n ≡ length (meaning s).states = ap (λ (t : ℕ × Float × Float). t.0) p.1 in
-      omega (arith, (shown_by p.0).states)
+  -- by what planning under the limits that count, by the kind of that number, has answered and left
+  module _ {k : Limits} (c : k ≡ capped_limits m) {j : ℕ} (i : j ≡ kind) where
+    pub planning-refused : (n : ℕ) → number n ≡ planned k j s → First planning n
+    planning-refused n e = refused-first planning _ n (e ∙ ap₂ (λ (l : Limits) (q : ℕ). planned l q s) c i)
 
-  pub laid : {k : Limits} → k ≡ capped_limits m → (n : ℕ) (w h : Float) (before after : List «V») → 64 ≤ length before
-      → values (n, w, h) ≡ planned k kind s → after ≡ centres_planned k kind s before → Laid s m kind n w h (take n after)
-  laid {k} o n w h before after i e f =
-      let p = plan-clear o n w h e in
-      let c : Clear planning = p.0 in
-      let q : OnMainScreen (meaning s) = shown_by c in
-      let r : n ≡ length (meaning s).states = ap (λ (t : ℕ × Float × Float). t.0) p.1 in
-      let l = layout_for s kind in
-      let z = layout-whole kind (meaning s) (ltb-false last_kind kind (c.none 11)) in
-      let same : length l.ys ≡ length l.xs = z.1 ∙ sym z.0 in
-      let j : length (centres l.xs l.ys) ≡ length (meaning s).states = zip_length vec l.xs l.ys same ∙ z.0 in
-      let y : after ≡ put before 0 (centres l.xs l.ys) = f ∙ ap (λ (l : Limits). centres_planned l kind s before) o ∙ clear_decides (λ j. before) _ planning c in
-      let x : take n after ≡ centres l.xs l.ys = front_is before (centres l.xs l.ys) n after (r ∙ sym j) (omega (arith, q.states)) y in
-      record {
-        clear = c;
-        many = r;
-        few = omega (arith, q.states);
-        wide = ap (λ (t : ℕ × Float × Float). t.1) p.1;
-        high = ap (λ (t : ℕ × Float × Float). t.2) p.1;
-        placed = x;
-        xs_are = ap xs_of x ∙ xs_centres l.xs l.ys same;
-        ys_are = ap ys_of x ∙ ys_centres l.xs l.ys same;
-        centres_many = ap length x ∙ j ∙ sym r;
-      }
+    plan-clear : (n : ℕ) (z : Size) → values (n, z) ≡ planned k j s → Clear planning × ◌≡◌ {A = ℕ × Size} (n, z) (length (meaning s).states, size_of kind (meaning s))
+    plan-clear n z e = answered-clear planning _ (n, z) (e ∙ ap₂ (λ (l : Limits) (q : ℕ). planned l q s) c i)
+
+    -- an accepted sheet has at most 64 states
+    pub few_states : (n : ℕ) (z : Size) → values (n, z) ≡ planned k j s → n ≤ 64
+    few_states n z e =
+        let p = plan-clear n z e in
+        let r : n ≡ length (meaning s).states = ap (λ (t : ℕ × Size). t.0) p.1 in
+        omega (arith, (shown_by p.0).states)
+
+    pub laid : (n : ℕ) (z : Size) (before after : List «V») → 64 ≤ length before → values (n, z) ≡ planned k j s
+        → after ≡ centres_planned k j s before → Laid s m kind n z (take n after)
+    laid n z before after room e f =
+        let p = plan-clear n z e in
+        let d : Clear planning = p.0 in
+        let q : OnMainScreen (meaning s) = shown_by d in
+        let r : n ≡ length (meaning s).states = ap (λ (t : ℕ × Size). t.0) p.1 in
+        let l = layout_for s kind in
+        let w = layout-whole kind (meaning s) (ltb-false last_kind kind (d.none 11)) in
+        let same : length l.ys ≡ length l.xs = w.1 ∙ sym w.0 in
+        let t : length (centres l.xs l.ys) ≡ length (meaning s).states = zip_length vec l.xs l.ys same ∙ w.0 in
+        let y : after ≡ put before 0 (centres l.xs l.ys) = f ∙ ap₂ (λ (l : Limits) (q : ℕ). centres_planned l q s before) c i
+        ∙ clear_decides (λ j. before) _ planning d in
+        let x : take n after ≡ centres l.xs l.ys = front_is before (centres l.xs l.ys) n after (r ∙ sym t) (omega (arith, q.states)) y in
+        record {
+          clear = d;
+          many = r;
+          few = omega (arith, q.states);
+          wide = ap (λ (t : ℕ × Size). t.1.width) p.1;
+          high = ap (λ (t : ℕ × Size). t.1.height) p.1;
+          placed = x;
+          xs_are = ap xs_of x ∙ xs_centres l.xs l.ys same;
+          ys_are = ap ys_of x ∙ ys_centres l.xs l.ys same;
+          centres_many = ap length x ∙ t ∙ sym r;
+        }
 
   -- ---- layout
 
@@ -108,16 +115,15 @@ module _ (s : List ℕ) (m : Limits) (kind : ℕ) where
     abbrev placing : List Refusal
     placing = place_refusals (layout_for s kind).xs (layout_for s kind).ys (length xs) (length ys)
 
-    pub layout-refused : {k : Limits} → k ≡ capped_limits m → (n : ℕ) → number n ≡ planned k kind s → Layouts (number n) xs ys
+    pub layout-refused : (n : ℕ) → First planning n → Layouts (number n) xs ys
     unfolding layout xs_after ys_after
-    layout-refused c n e =
-        let f : First planning n = planning-refused c n e in
+    layout-refused n f =
         (sym (first-joined number _ planning placing n f), sym (first-joined (λ j. xs) _ planning placing n f), sym (first-joined (λ j. ys) _ planning placing n f))
 
-    pub layout_laid : (n : ℕ) (w h : Float) (cs : List «V») → Laid s m kind n w h cs → (r : Outcome (ℕ × Float × Float)) (a b : List Float)
-        → PlacedInto (xs_of cs) (ys_of cs) w h xs ys r a b → Layouts r a b
+    pub layout_laid : (n : ℕ) (z : Size) (cs : List «V») → Laid s m kind n z cs → (r : Outcome (ℕ × Float × Float)) (a b : List Float)
+        → PlacedInto (xs_of cs) (ys_of cs) z.width z.height xs ys r a b → Layouts r a b
     unfolding layout xs_after ys_after
-    layout_laid n w h cs l r a b f =
+    layout_laid n z cs l r a b f =
         let p = layout_for s kind in
         let q : length p.xs ≡ length (meaning s).states = sym (ap length l.xs_are) ∙ length-map cs (λ c. c.x) ∙ l.centres_many ∙ l.many in
         let g : PlacedInto p.xs p.ys p.width p.height xs ys r a b = rw (l.xs_are, l.ys_are, l.wide, l.high) at f in (
@@ -178,18 +184,17 @@ module _ (s : List ℕ) (m : Limits) (kind : ℕ) where
     abbrev pub Lists : Outcome ℕ → List ℕ → Type 0
     Lists r b = (r ≡ list s m kind (length out)) × (b ≡ list_after s m kind out)
 
-    pub list-refused : {k : Limits} → k ≡ capped_limits m → (n : ℕ) → number n ≡ planned k kind s → Lists (number n) out
+    pub list-refused : (n : ℕ) → First planning n → Lists (number n) out
     unfolding list list_after
-    list-refused c n e =
-        let f : First planning n = planning-refused c n e in (
-          sym (list-met (length out) number (values (length (listing s kind))) ∙ first_decides number _ planning n f),
-          sym (list-met (length out) (λ j. out) (onto (listing s kind) out) ∙ first_decides (λ j. out) _ planning n f),
-        )
+    list-refused n f = (
+      sym (list-met (length out) number (values (length (listing s kind))) ∙ first_decides number _ planning n f),
+      sym (list-met (length out) (λ j. out) (onto (listing s kind) out) ∙ first_decides (λ j. out) _ planning n f),
+    )
 
-    pub list_laid : {k : Limits} → k ≡ capped_limits m → (n : ℕ) (w h : Float) (cs : List «V») → Laid s m kind n w h cs → (r : Outcome ℕ) (b : List ℕ)
-        → r ≡ listing_at k s w h cs (length out) → b ≡ listed_after k s w h cs out → Lists r b
+    pub list_laid : {k : Limits} → k ≡ capped_limits m → (n : ℕ) (z : Size) (cs : List «V») → Laid s m kind n z cs → (r : Outcome ℕ) (b : List ℕ)
+        → r ≡ listing_at k s z.width z.height cs (length out) → b ≡ listed_after k s z.width z.height cs out → Lists r b
     unfolding list list_after
-    list_laid c n w h cs l r b e f = (
+    list_laid c n z cs l r b e f = (
       rw (c, l.xs_are, l.ys_are, l.placed, l.wide, l.high) at e
           ∙ sym (list-met (length out) number (values (length (listing s kind))) ∙ clear_decides number _ planning l.clear),
       rw (c, l.xs_are, l.ys_are, l.placed, l.wide, l.high) at f

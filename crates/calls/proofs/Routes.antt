@@ -1,32 +1,25 @@
 -- Routing and counting clutter, from what drawing a sheet gives. Assumes nothing.
-use Rattle.std.specs.Prelude.{◌≡◌, List, map, ℕ, ◌≤◌, length, get_or, take, Float}
+use Rattle.std.specs.Prelude.{◌≡◌, List, ℕ, ◌≤◌, length, Float}
 use Rattle.std.proofs.Common.{sym, ap, ap₂, ◌∙◌}
 use Rattle.laws.specs.Refusals.{Refusal, Clear, First, first_decides, clear_decides, first-joined, clear-joined}
-use Rattle.laws.specs.Tables.{table-take, map-table}
-use Rattle.float.specs.Constants.{f0}
 use Rattle.sheet.specs.Sheet.{meaning}
 use Rattle.sheet.specs.declared.Limits.{Limits}
 use Rattle.shape.specs.declared.«V».{«V»}
-use Rattle.shape.specs.Plane.{vec}
-use Rattle.curves.specs.Zeroed.{centre_zeroed}
+use Rattle.curves.specs.Counted.{counted}
 use Rattle.label_spots.specs.declared.Geometry.{Geometry}
 use Rattle.routing.specs.Sheets.{frame_of, centres_at}
 use Rattle.clutter.specs.Clutter.{clutter_of}
 use Rattle.drawing_text.specs.Lines.{paths_text}
 use Rattle.draw.specs.Drawn.{draw_refusals}
-use Rattle.draw.specs.Given.{given}
+use Rattle.draw.specs.Given.{given, centres_given}
 use Rattle.calls.specs.Calls.{Outcome, number, values, capped_limits, drawn_of, numbers_of, onto, route, records_after, text_after, clutter}
 use Rattle.calls.specs.Drawing.{drawing_at}
 use Rattle.outputs.specs.Answers.{fill_refusals, FilledInto}
 use Rattle.calls.proofs.Held.{DrawingHeld, draw_stopped}
 
 -- the centres that are given, as they count
-pub nodes_given : (xs ys : List Float) (cs : List «V») → cs ≡ given xs ys → (n : ℕ) → n ≤ 64 → map centre_zeroed (take n cs) ≡ centres_at xs ys n
-unfolding given
-nodes_given xs ys cs e n h =
-    ap (λ (ps : List «V»). map centre_zeroed (take n ps)) e
-    ∙ ap (map centre_zeroed) (table-take (λ k. vec (get_or xs k f0) (get_or ys k f0)) 0 n 64 h)
-    ∙ map-table (λ k. vec (get_or xs k f0) (get_or ys k f0)) centre_zeroed 0 n
+pub nodes_given : (xs ys : List Float) (cs : List «V») → cs ≡ given xs ys → (n : ℕ) → n ≤ 64 → counted cs n ≡ centres_at xs ys n
+nodes_given xs ys cs e n h = ap (λ (ps : List «V»). counted ps n) e ∙ centres_given xs ys n h
 
 module _ (s : List ℕ) (m : Limits) (xs ys : List Float) {k : Limits} (c : k ≡ capped_limits m) where
   abbrev drawing : List Refusal

@@ -1,6 +1,6 @@
 -- The calls by the definitions of the crates below. Assumes nothing.
 use Rattle.std.specs.Prelude.{◌≡◌, refl, List, ℕ, ◌≤◌, length, Float}
-use Rattle.std.proofs.Common.{arith, lt-ltb, le-ltb, le-leb}
+use Rattle.std.proofs.Common.{◌∙◌, arith, min, lt-ltb, le-ltb, le-leb}
 use Rattle.std.proofs.lemmas.Bool.{lt-leb}
 use Rattle.laws.specs.Cases.{by_bool, by_lt}
 use Rattle.laws.specs.Refusals.{decide, Clear}
@@ -15,6 +15,9 @@ use Rattle.number.specs.Number.{too_large, num_text, written, written_after}
 use Rattle.calls.specs.Calls.{main_screen, smaller, capped_limits, check, label_size, write_num, write_num_after}
 
 -- ---- the limits that count
+
+min_smaller : (a b : ℕ) → min a b ≡ smaller a b
+min_smaller a b = by_lt b a (λ h. rw (lt-ltb b a h) (omega arith)) (λ h. rw (le-ltb b a h) (omega arith))
 
 smaller_most : (a b : ℕ) → smaller a b ≤ b
 smaller_most a b = by_lt b a (λ h. rw (lt-ltb b a h) (omega arith)) (λ h. rw (le-ltb b a h) h)
@@ -44,15 +47,14 @@ capped-largest l m a b = record {
 }
 
 -- worked out limit by limit
-pub capped_by : (m main : Limits) {a b c : ℕ} → main ≡ main_screen → (a ≡ smaller m.states main.states) × (a ≤ main.states)
-    → (b ≡ smaller m.arrows main.arrows) × (b ≤ main.arrows) → (c ≡ smaller m.lines main.lines) × (c ≤ main.lines)
-    → (record { states = a; arrows = b; lines = c } ≡ capped_limits m) × (a ≤ 64) × (b ≤ 256)
+pub capped_by : (m main : Limits) {a b c : ℕ} → main ≡ main_screen → a ≡ min m.states main.states → b ≡ min m.arrows main.arrows
+    → c ≡ min m.lines main.lines → (record { states = a; arrows = b; lines = c } ≡ capped_limits m) × (a ≤ 64) × (b ≤ 256)
 unfolding capped_limits
 capped_by m main {a} {b} {c} e p q r =
-    let p' : (a ≡ smaller m.states 64) × (a ≤ 64) = rw e at p in
-    let q' : (b ≡ smaller m.arrows 256) × (b ≤ 256) = rw e at q in
-    let r' : (c ≡ smaller m.lines 8) × (c ≤ 8) = rw e at r in
-    (rw (p'.0, q'.0, r'.0), p'.1, q'.1)
+    let p' : a ≡ min m.states 64 = rw e at p in
+    let q' : b ≡ min m.arrows 256 = rw e at q in
+    let r' : c ≡ min m.lines 8 = rw e at r in
+    (rw (p' ∙ min_smaller m.states 64, q' ∙ min_smaller m.arrows 256, r' ∙ min_smaller m.lines 8), omega (arith, p'), omega (arith, q'))
 
 -- what is accepted under limits that count, is within the main screen's
 pub accepted_shown : (m : Limits) (s : List ℕ) → Clear (refusals (capped_limits m) s) → OnMainScreen (meaning s)

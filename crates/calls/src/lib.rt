@@ -12,19 +12,14 @@ ghost use Rattle.calls.specs.Listed as F;
 ghost use Rattle.calls.specs.Saved as W;
 
 use drawing_text::Listing;
+use fit::Size;
 use label_spots::Geometry;
+use layout::Kind;
 use refusal::Refusal;
 use shape::V;
 use sheet::Limits;
 
 // ---- limits
-
-// The smaller of a limit and the main screen's.
-fn smaller(limit: usize, main: usize) -> usize
-    ensures { (result ≡ S.smaller limit main) × (result ≤ main) }
-{
-    if main < limit { main } else { limit }
-}
 
 // The limits that count: each above the main screen's counts as the main screen's.
 fn capped_limits(limits: Limits) -> Limits
@@ -32,9 +27,9 @@ fn capped_limits(limits: Limits) -> Limits
 {
     let main = sheet::main_screen();
     Limits {
-        states: smaller(limits.states, main.states),
-        arrows: smaller(limits.arrows, main.arrows),
-        lines: smaller(limits.lines, main.lines),
+        states: limits.states.min(main.states),
+        arrows: limits.arrows.min(main.arrows),
+        lines: limits.lines.min(main.lines),
     }
 }
 
@@ -81,6 +76,22 @@ fn draw_in<'a>(
     Ok(&room[..count])
 }
 
+// The same at the centres whose x and y are given apart.
+fn draw_given<'a>(
+    sheet: &[u8],
+    m: Limits,
+    xs: &[f64],
+    ys: &[f64],
+    room: &'a mut [Geometry],
+) -> Result<&'a [Geometry], Refusal>
+    requires limits { (m.states ≤ 64) × (m.arrows ≤ 256) }
+    requires room { 256 ≤ length room.old }
+    ensures { D.drawing_as result ≡ D.drawing_at m sheet.now xs.now ys.now }
+{
+    let centres = draw::given(xs, ys);
+    draw_in(sheet, m, &centres, room)
+}
+
 // Routes a sheet at the given centres: its records and their paths.
 pub fn route(
     sheet: &[u8],
@@ -100,9 +111,8 @@ pub fn route(
         × (text.new ≡ S.text_after s limits x y recordRoom text.old) }
 {
     let m = capped_limits(limits);
-    let centres = draw::given(xs, ys);
     let mut room = [Geometry::NONE; 256];
-    let drawn = draw_in(sheet, m, &centres, &mut room)?;
+    let drawn = draw_given(sheet, m, xs, ys, &mut room)?;
     outputs::write_route(drawn, records, text)
 }
 
@@ -113,13 +123,12 @@ pub fn clutter(sheet: &[u8], limits: Limits, xs: &[f64], ys: &[f64]) -> Result<u
     ensures { outcome result ≡ S.clutter sheet.now limits xs.now ys.now }
 {
     let m = capped_limits(limits);
-    let centres = draw::given(xs, ys);
     let mut room = [Geometry::NONE; 256];
-    let drawn = draw_in(sheet, m, &centres, &mut room)?;
+    let drawn = draw_given(sheet, m, xs, ys, &mut room)?;
     let n = meaning::state_count(sheet);
+    let centres = draw::given(xs, ys);
     let mut space = [V::ORIGIN; 64];
-    let nodes = &mut space[..n];
-    curves::zeroed(&centres[..n], nodes);
+    let nodes = curves::counted(&centres, n, &mut space);
     Ok(clutter::clutter(nodes, drawn))
 }
 
@@ -139,10 +148,11 @@ pub fn layout(
         × (xs.new ≡ S.xs_after sheet.now limits kind xs.old yRoom)
         × (ys.new ≡ S.ys_after sheet.now limits kind xRoom ys.old) }
 {
+    let kind = Kind::try_from(kind)?;
     let m = capped_limits(limits);
     let mut centres = [V::ORIGIN; 64];
-    let (states, width, height) = plan::plan(sheet, m, kind, &mut centres)?;
-    outputs::write_layout(&centres[..states], width, height, xs, ys)
+    let (states, size) = plan::plan(sheet, m, kind, &mut centres)?;
+    outputs::write_layout(&centres[..states], size.width, size.height, xs, ys)
 }
 
 // ---- listing
@@ -151,8 +161,7 @@ pub fn layout(
 fn list_by(
     sheet: &[u8],
     m: Limits,
-    width: f64,
-    height: f64,
+    size: Size,
     centres: &[V],
     out: &mut [u8],
 ) -> Result<usize, Refusal>
@@ -161,8 +170,8 @@ fn list_by(
     requires limits { (m.states ≤ 64) × (m.arrows ≤ 256) }
     ensures { let s = sheet.now in
         let cs = centres.now in
-        (outcome result ≡ F.listing_at m s width height cs (length out.old))
-        × (out.new ≡ F.listed_after m s width height cs out.old) }
+        (outcome result ≡ F.listing_at m s size.width size.height cs (length out.old))
+        × (out.new ≡ F.listed_after m s size.width size.height cs out.old) }
 {
     let mut space = [0u8; 64];
     let flags = &mut space[..centres.len()];
@@ -170,8 +179,8 @@ fn list_by(
     let mut room = [Geometry::NONE; 256];
     let drawn = draw_in(sheet, m, centres, &mut room)?;
     let listing = Listing {
-        width,
-        height,
+        width: size.width,
+        height: size.height,
         nodes: centres,
         flags,
         drawn,
@@ -185,10 +194,11 @@ pub fn list(sheet: &[u8], limits: Limits, kind: u8, out: &mut [u8]) -> Result<us
     ensures { (outcome result ≡ S.list sheet.now limits kind (length out.old))
         × (out.new ≡ S.list_after sheet.now limits kind out.old) }
 {
+    let kind = Kind::try_from(kind)?;
     let m = capped_limits(limits);
     let mut centres = [V::ORIGIN; 64];
-    let (n, width, height) = plan::plan(sheet, m, kind, &mut centres)?;
-    list_by(sheet, m, width, height, &centres[..n], out)
+    let (n, size) = plan::plan(sheet, m, kind, &mut centres)?;
+    list_by(sheet, m, size, &centres[..n], out)
 }
 
 // ---- writing a sheet

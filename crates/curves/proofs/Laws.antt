@@ -2,9 +2,9 @@
 use mathlib.Core.Path.{◌≡◌, refl, sym, ap, ap₂, ◌∙◌}
 use mathlib.Core.Bool.{true, false, cond, true≢false}
 use mathlib.Core.List.{List, [], ◌∷◌, ◌++◌, map, flat_map, append-nil, append_assoc}
-use Prim.Native.Nat.{ℕ, suc, ◌+◌, ◌%◌, ◌≤◌, ◌<◌}
+use Prim.Native.Nat.{ℕ, suc, ◌+◌, ◌≤◌, ◌<◌}
 use native.Mathlib.Numerals.{add-one}
-use borrow.Author.Tests.{eqb-true, eq-eqb, ne_eqb}
+use borrow.Author.Tests.{eqb-true, ne_eqb}
 use Rattle.std.proofs.Common.{drop-cons, drop_of_length-le}
 use lib.Dec.{eqb}
 use lib.ListN.{length, get_or, drop}
@@ -86,11 +86,11 @@ finite_no (inf s) e = refl
 finite_no (fin s m e) h = absurd (true≢false h)
 
 -- ---- start arrows
-pub start_yes : (flag : ℕ) (c : «V») → flag % 2 ≡ 1 → start_traces (flag ∷ []) (c ∷ []) ≡ trace_of nobody (start_curve c) ∷ []
-start_yes flag c e = rw (eq-eqb (flag % 2) 1 e)
+pub start_yes : (flag : ℕ) (c : «V») → is_start flag ≡ true → start_traces (flag ∷ []) (c ∷ []) ≡ trace_of nobody (start_curve c) ∷ []
+start_yes flag c e = rw e
 
-pub start_no : (flag : ℕ) (c : «V») → (flag % 2 ≡ 1 → ⊥) → start_traces (flag ∷ []) (c ∷ []) ≡ []
-start_no flag c e = rw (ne_eqb (flag % 2) 1 e)
+pub start_no : (flag : ℕ) (c : «V») → is_start flag ≡ false → start_traces (flag ∷ []) (c ∷ []) ≡ []
+start_no flag c e = rw e
 
 pub starts_more : (flags : List ℕ) (cs : List «V») (k : ℕ) (p q r : List Trace) → length cs ≡ length flags → k < length flags
     → q ≡ p ++ start_traces (get_or flags k 0 ∷ []) (centre cs k ∷ []) → p ++ start_traces (drop k flags) (drop k cs) ≡ r
@@ -152,11 +152,11 @@ module _ (f : Frame) (k : ℕ) (old m : List Float) (ls : List Laid) (w : ls ≡
       (e ∙ ap (λ (x : List Float). x ++ all_met k f.arrows ls) o ∙ ap (all_met k f.arrows) w)
       ∙ rim_met f k
 
-  pub rim_start : (t : List Float) → get_or f.flags k 0 % 2 ≡ 1 → t ≡ m ++ (π ∷ []) → t ≡ rim f k
-  rim_start t s g = g ∙ (rw (eq-eqb (get_or f.flags k 0 % 2) 1 s) at met_all)
+  pub rim_start : (t : List Float) → is_start (get_or f.flags k 0) ≡ true → t ≡ m ++ (π ∷ []) → t ≡ rim f k
+  rim_start t s g = g ∙ (rw s at met_all)
 
-  pub rim_other : (get_or f.flags k 0 % 2 ≡ 1 → ⊥) → m ≡ rim f k
-  rim_other s = sym (append-nil m) ∙ (rw (ne_eqb (get_or f.flags k 0 % 2) 1 s) at met_all)
+  pub rim_other : is_start (get_or f.flags k 0) ≡ false → m ≡ rim f k
+  rim_other s = sym (append-nil m) ∙ (rw s at met_all)
 
 pub met_more : (k : ℕ) (es : List Ends) (ls : List Laid) (i : ℕ) (e : Ends) (l : Laid) (p q r : List Float) → i < length es → i < length ls
     → e ≡ get_or es i e → l ≡ get_or ls i l → q ≡ p ++ met_by k e l

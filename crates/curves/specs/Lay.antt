@@ -1,5 +1,6 @@
 -- What stands before any label is placed: "It begins with the states and traces that `geometry` has before any label."
-use Rattle.std.specs.Prelude.{◌≡◌, cond, ℕ, suc, ◌≤◌, eqb, length, Float}
+use Rattle.std.specs.Prelude.{Bool, true, false, cond, ℕ, suc, eqb, length, Float}
+use Rattle.laws.specs.Counting.{how_many, worth}
 use mathlib.Core.List.{List, [], ◌∷◌, ◌++◌, map}
 use Rattle.shape.specs.Centres.{centre}
 use Rattle.sheet.specs.Meaning.{ends_below}
@@ -8,7 +9,7 @@ use Rattle.bend.specs.Leads.{leads}
 use Rattle.bend.specs.Between.{between}
 use Rattle.directions.specs.Rims.{leave_angle, reach_angle}
 use Rattle.routing.specs.Routing.{Frame, Ends, first_scene}
-use Rattle.curves.specs.declared.Frame.{Frame as Lent}
+use Rattle.curves.specs.declared.frame.Frame.{Frame as Lent}
 use Rattle.curves.specs.declared.Crossing.{Crossing}
 use Rattle.curves.specs.declared.Laid.{Laid}
 use Rattle.curves.specs.declared.Laid.TheVariants.{LeftOut, Loop, Between}
@@ -16,12 +17,6 @@ use Rattle.curves.specs.declared.Laid.TheVariants.{LeftOut, Loop, Between}
 -- the frame that is lent
 abbrev pub frame_in : Lent → Frame
 frame_in f = record { flags = f.flags.now; centres = f.centres.now; arrows = f.arrows.now }
-
--- a flag byte for each state, and the most states and arrows
-pub record Whole (f : Lent) : Type 0 where
-  pub level : length f.flags.now ≡ length f.centres.now
-  pub few : length f.centres.now ≤ 64
-  pub arrows : length f.arrows.now ≤ 256
 
 -- an arrow between different states, and where it meets their rims
 abbrev pub crossing_by : Frame → Ends → Crossing
@@ -45,6 +40,18 @@ traces_laid k (Between c) = trace_of (arrow k) c.routed.curve ∷ []
 unfoldable pub laid_traces : ℕ → List Laid → List Trace
 laid_traces k [] = []
 laid_traces k (l ∷ ls) = traces_laid k l ++ laid_traces (suc k) ls
+
+-- how many arrows have one
+abbrev pub is_crossing : Laid → Bool
+is_crossing LeftOut = false
+is_crossing Loop = false
+is_crossing (Between c) = true
+
+abbrev pub crosses : Laid → ℕ
+crosses l = worth is_crossing 1 l
+
+abbrev pub crossings : List Laid → ℕ
+crossings ls = how_many is_crossing ls
 
 -- those of the first scene
 abbrev pub first_traces : Frame → List Trace

@@ -1,3 +1,4 @@
 pub mod Lay
 pub mod Traces
-pub mod Zeroed
+pub mod Counted
+pub mod Counts

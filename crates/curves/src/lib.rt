@@ -8,9 +8,12 @@ ghost use Rattle.trace.specs.Form.{trace_in};
 ghost use Rattle.routing.specs.Routing.{start_curve, start_traces, rim};
 ghost use Rattle.routing.specs.Sheets.{or_zero};
 ghost use Rattle.curves.specs.Lay as S;
-ghost use Rattle.curves.specs.Zeroed.{centre_zeroed};
+ghost use Rattle.curves.specs.Counted as C;
+
+mod frame;
 
 use bend::Routed;
+pub use frame::Frame;
 use shape::{Curve, NODE_RADIUS, START_ARROW_LENGTH, V};
 use sheet::Ends;
 use stack::Stack;
@@ -29,33 +32,34 @@ pub fn or_zero(v: f64) -> f64
     0.0
 }
 
-// A centre as it counts.
-pub fn centre_or_zero(c: V) -> V
-    ensures { result ≡ centre_zeroed c }
+// State k's centre as it counts: 0 for what is missing or not finite.
+fn centre_at(centres: &[V], k: usize) -> V
+    ensures { result ≡ C.counted_at centres.now k }
 {
+    let c = centres.get(k).copied().unwrap_or(V::ORIGIN);
     V::new(or_zero(c.x), or_zero(c.y))
 }
 
-// The centres as they count, in the room lent for them. By index, since a proof knows nothing of a slice that an
-// adapter of `iter_mut` writes.
-pub fn zeroed(centres: &[V], room: &mut [V])
-    requires { length room.old ≡ length centres.now }
-    ensures { room.new ≡ map centre_zeroed centres.now }
+// The centres as they count, one in each place.
+fn count_into(centres: &[V], nodes: &mut [V])
+    ensures { nodes.new ≡ C.counted centres.now (length nodes.old) }
 {
-    for (k, c) in centres.iter().enumerate() {
-        room[k] = centre_or_zero(*c);
+    for (k, node) in nodes.iter_mut().enumerate() {
+        *node = centre_at(centres, k);
     }
 }
 
-// ---- what is routed
-
-// The states' flag bytes and centres, and the arrows' ends.
-#[derive(Clone, Copy)]
-pub struct Frame<'a> {
-    pub flags: &'a [u8],
-    pub centres: &'a [V],
-    pub arrows: &'a [Ends],
+// The centres of n states as they count, in the room lent for them.
+pub fn counted<'a>(centres: &[V], n: usize, room: &'a mut [V; 64]) -> &'a [V]
+    requires { n ≤ 64 }
+    ensures all { result.now ≡ C.counted centres.now n }
+    ensures many { length result.now ≡ n }
+{
+    count_into(centres, &mut room[..n]);
+    &room[..n]
 }
+
+// ---- what is routed
 
 // An arrow between different states: its curve, and the angles at which it leaves the first and reaches the second.
 #[derive(Clone, Copy)]
@@ -76,7 +80,6 @@ pub enum Laid {
 impl<'a> Frame<'a> {
     // An arrow between different states; the reverse arrow is looked for among all.
     fn crossing(&self, e: Ends) -> Crossing
-        requires few { length self.now.centres.now ≤ 64 }
         requires source { e.source < length self.now.centres.now }
         requires target { e.target < length self.now.centres.now }
         ensures { result ≡ S.crossing_by (S.frame_in self.now) e }
@@ -92,7 +95,6 @@ impl<'a> Frame<'a> {
 
     #[tactic(auto, unfolding(crate::specs::Lay::laid_by))]
     fn laid(&self, e: Ends) -> Laid
-        requires whole { S.Whole self.now }
         ensures { result ≡ S.laid_by (S.frame_in self.now) e }
     {
         let n = self.flags.len();
@@ -107,7 +109,6 @@ impl<'a> Frame<'a> {
 
     // All arrows, in order.
     fn lay_arrows<const N: usize>(&self, laid: &mut Stack<Laid, N>)
-        requires whole { S.Whole self.now }
         requires room { length laid.old + length self.now.arrows.now ≤ N }
         ensures { laid.new ≡ laid.old ++ map (S.laid_by (S.frame_in self.now)) self.now.arrows.now }
     {
@@ -121,9 +122,9 @@ impl<'a> Frame<'a> {
 
 // The trace of arrow i, where it joins different states.
 fn push_laid<const N: usize>(i: usize, laid: &Laid, traces: &mut Stack<Trace, N>)
-    requires room { length traces.old < N }
+    requires room { length traces.old + S.crosses laid.now ≤ N }
     ensures all { map trace_in traces.new ≡ map trace_in traces.old ++ S.traces_laid i laid.now }
-    ensures many { length traces.new ≤ length traces.old + 1 }
+    ensures many { length traces.new ≤ length traces.old + S.crosses laid.now }
 {
     if let Laid::Between(c) = laid {
         traces.push(Trace::of(Some(i), c.routed.curve));
@@ -132,9 +133,9 @@ fn push_laid<const N: usize>(i: usize, laid: &Laid, traces: &mut Stack<Trace, N>
 
 // The traces of all arrows.
 fn push_arrows<const N: usize>(laid: &[Laid], traces: &mut Stack<Trace, N>)
-    requires room { length traces.old + length laid.now ≤ N }
+    requires room { length traces.old + S.crossings laid.now ≤ N }
     ensures all { map trace_in traces.new ≡ map trace_in traces.old ++ S.laid_traces 0 laid.now }
-    ensures many { length traces.new ≤ length traces.old + length laid.now }
+    ensures many { length traces.new ≤ length traces.old + S.crossings laid.now }
 {
     for (i, l) in laid.iter().enumerate() {
         push_laid(i, l, traces);
@@ -157,7 +158,7 @@ fn push_start<const N: usize>(flag: u8, c: V, traces: &mut Stack<Trace, N>)
     ensures all { map trace_in traces.new ≡ map trace_in traces.old ++ start_traces (flag ∷ []) (c ∷ []) }
     ensures many { length traces.new ≤ length traces.old + 1 }
 {
-    if flag % 2 == 1 {
+    if sheet::is_start(flag) {
         traces.push(Trace::of(None, start_curve(c)));
     }
 }
@@ -206,14 +207,13 @@ impl<'a> Frame<'a> {
 
     // The angles at which arrows and the start mark meet the rim of state k, before any loop is drawn.
     pub fn rim(&self, laid: &[Laid], k: usize, angles: &mut Stack<f64, 257>)
-        requires whole { S.Whole self.now }
         requires all { laid.now ≡ S.laid_of (S.frame_in self.now) }
         requires state { k < length self.now.centres.now }
         requires none { angles.old ≡ [] }
         ensures { angles.new ≡ rim (S.frame_in self.now) k }
     {
         self.meet(laid, k, angles);
-        if self.flags[k] % 2 == 1 {
+        if sheet::is_start(self.flags[k]) {
             angles.push(PI);
         }
     }
@@ -228,12 +228,11 @@ impl<'a> Frame<'a> {
         laid: &mut Stack<Laid, A>,
         traces: &mut Stack<Trace, T>,
     )
-        requires whole { S.Whole self.now }
         requires none { (laid.old ≡ []) × (traces.old ≡ []) }
         requires room { (length self.now.arrows.now ≤ A) × (length self.now.arrows.now + length self.now.centres.now ≤ T) }
         ensures laid { laid.new ≡ S.laid_of (S.frame_in self.now) }
         ensures traces { map trace_in traces.new ≡ S.first_traces (S.frame_in self.now) }
-        ensures many { length traces.new ≤ length self.now.arrows.now + length self.now.centres.now }
+        ensures many { length traces.new ≤ S.crossings (S.laid_of (S.frame_in self.now)) + length self.now.centres.now }
     {
         self.lay_arrows(laid);
         push_arrows(laid.as_slice(), traces);

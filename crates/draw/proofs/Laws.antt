@@ -15,7 +15,7 @@ use Rattle.laws.specs.Refusals.{decide, decide-first}
 use Rattle.shape.specs.declared.«V».{«V»}
 use Rattle.shape.specs.Plane.{vec}
 use Rattle.sheet.specs.Sheet.{State, Graph, flags_of}
-use Rattle.curves.specs.Zeroed.{centre_zeroed}
+use Rattle.curves.specs.Counted.{counted}
 use Rattle.label_spots.specs.declared.Geometry.{Geometry}
 use Rattle.routing.specs.Routing.{Ends, Frame, BlockSize, records}
 use Rattle.routing.specs.Sheets.{centre_at, centres_at, ends_of, size_of, frame_with, frame_of, sizes_of}
@@ -40,25 +40,6 @@ far_either (suc n) (c ∷ cs) =
     or_middle (far c.x) (any_of far (take n (xs_of cs))) (far c.y) (any_of far (take n (ys_of cs)))
     ∙ ap (λ (b : Bool). (far c.x || far c.y) || b) (far_either n cs)
 
--- ---- the centres that count: those there are, and 0 behind them
-
-zeros : (n k : ℕ) → replicate n (vec f0 f0) ≡ table (centre_at [] []) k n
-unfolding table of_bits
-zeros zero k = refl
-zeros (suc n) k = ap (λ (l : List «V»). vec f0 f0 ∷ l) (zeros n (suc k))
-
-pub counted : (cs : List «V») (n k m : ℕ) → k ≤ n → k ≤ length cs → (k < n → length cs ≤ k) → n ≤ k + m
-    → take n (map centre_zeroed (take k cs) ++ replicate m (vec f0 f0)) ≡ centres_at (xs_of cs) (ys_of cs) n
-unfolding table
-counted cs zero k m h i j l = refl
-counted [] (suc n) zero m h i j l = take-replicate (suc n) m (vec f0 f0) (omega arith) ∙ zeros (suc n) 0
-counted [] (suc n) (suc k) m h i j l = absurd (omega arith)
-counted (c ∷ cs) (suc n) zero m h i j l = absurd (omega (arith, j (omega arith)))
-counted (c ∷ cs) (suc n) (suc k) m h i j l =
-    ap (λ (r : List «V»). centre_zeroed c ∷ r)
-    (counted cs n k m (omega arith) (omega arith) (λ q. omega (arith, j (omega arith))) (omega arith)
-    ∙ sym (table-next (centre_at (xs_of (c ∷ cs)) (ys_of (c ∷ cs))) (centre_at (xs_of cs) (ys_of cs)) 0 n (λ q. refl)))
-
 -- ---- what is drawn
 
 -- what was stored in front of a lent slice of n
@@ -70,18 +51,14 @@ module _ (g : Graph) where
       → sizes ≡ sizes_of g → m ≡ length g.arrows → take m (sizes ++ rest) ≡ sizes_of g
   sizes_read rest e h = front rest e (h ∙ sym (length-map g.arrows size_of))
 
-  pub frame_read : (cs : List «V») {flags : List ℕ} {arrows : List Ends} {room : List «V»} {n m k : ℕ} (after : List ℕ) (behind : List Ends)
-      → flags ≡ flags_of g → arrows ≡ map ends_of g.arrows → room ≡ map centre_zeroed (take k cs)
-      → n ≡ length g.states → m ≡ length g.arrows → n ≤ 64 → k ≡ min n (length cs)
-      → frame_with (take n (flags ++ after)) (take n (room ++ drop k (replicate 64 (vec f0 f0)))) (take m (arrows ++ behind))
-      ≡ frame_of g (xs_of cs) (ys_of cs)
+  pub frame_read : (cs : List «V») {flags : List ℕ} {arrows : List Ends} {nodes : List «V»} {n m : ℕ} (after : List ℕ) (behind : List Ends)
+      → flags ≡ flags_of g → arrows ≡ map ends_of g.arrows → nodes ≡ counted cs n → n ≡ length g.states → m ≡ length g.arrows
+      → frame_with (take n (flags ++ after)) nodes (take m (arrows ++ behind)) ≡ frame_of g (xs_of cs) (ys_of cs)
   unfolding frame_of
-  frame_read cs {n = n} {k = k} after behind e h r i j w q =
+  frame_read cs after behind e h r i j =
       let flags_front = front after e (i ∙ sym (length-map g.states (λ (t : State). t.flags))) in
       let arrows_front = front behind h (j ∙ sym (length-map g.arrows ends_of)) in
-      let there = counted cs n k (64 - k) (omega (arith, q)) (omega (arith, q)) (λ t. omega (arith, q, t)) (omega (arith, q, w)) in
-      rw (flags_front, arrows_front, r, drop-replicate k 64 (vec f0 f0))
-      (ap (λ (l : List «V»). frame_with (flags_of g) l (map ends_of g.arrows)) (there ∙ ap (centres_at (xs_of cs) (ys_of cs)) i))
+      rw (flags_front, arrows_front) (ap (λ (l : List «V»). frame_with (flags_of g) l (map ends_of g.arrows)) (r ∙ ap (counted cs) i))
 
 module _ (g : Graph) (xs ys : List Float) {f : Frame} (e : f ≡ frame_of g xs ys) where
   -- refused by 9

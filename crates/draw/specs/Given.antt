@@ -76,7 +76,7 @@ given_at : (l : List Float) (k : ℕ) → k < 64 → number_given (table (number
 given_at l k h = table_at (number_given l) 0 64 k f0 h ∙ ap (number_given l) (zero-add k)
 
 module _ (xs ys : List Float) where
-  centres_given : (n : ℕ) → n ≤ 64 → centres_at (xs_of (given xs ys)) (ys_of (given xs ys)) n ≡ centres_at xs ys n
+  pub centres_given : (n : ℕ) → n ≤ 64 → centres_at (xs_of (given xs ys)) (ys_of (given xs ys)) n ≡ centres_at xs ys n
   centres_given n h =
       rw (xs_given xs ys, ys_given xs ys)
       (table_below _ (centre_at xs ys) 0 n (λ j l. rw (given_at xs j (omega arith), given_at ys j (omega arith))))
@@ -99,7 +99,7 @@ module _ (xs ys : List Float) where
 
 -- what is made of the records of a sheet that is not refused
 module _ {A : Type 0} (refuse : ℕ → A) (answer : List Geometry → A) (m : Limits) (s : List ℕ) (xs ys : List Float) where
-  abbrev decided : List Float → List Float → A
+  abbrev pub decided : List Float → List Float → A
   decided us vs = decide (refusals m s ++ centre_refusals (meaning s) us vs) refuse (answer (records_of (meaning s) us vs))
 
   refused_at : (us vs : List Float) (n : ℕ) → number n ≡ check_of m s → refuse n ≡ decided us vs
@@ -114,7 +114,7 @@ module _ {A : Type 0} (refuse : ℕ → A) (answer : List Geometry → A) (m : L
       ap₂ (λ (rs : List Refusal) (f : Frame). decide (refusals m s ++ rs) refuse (answer (records f (sizes_of g))))
       (refusals_given xs ys g w) (frame_given xs ys g w)
 
-  decided_given : m.states ≤ 64 → decided (xs_of (given xs ys)) (ys_of (given xs ys)) ≡ decided xs ys
+  pub decided_given : m.states ≤ 64 → decided (xs_of (given xs ys)) (ys_of (given xs ys)) ≡ decided xs ys
   decided_given few = by_outcome few (check_of m s) refl
 
 module _ (m : Limits) (s : List ℕ) (xs ys : List Float) (few : m.states ≤ 64) where

@@ -58,12 +58,10 @@ fn draw_near(
     let mut arrows = [Ends::NONE; 256];
     let mut sizes = [Block::NONE; 256];
     graph::read_graph(s, &mut flags[..n], &mut arrows[..m], &mut sizes[..m]);
-    let mut counted = [V::ORIGIN; 64];
-    let there = n.min(centres.len());
-    curves::zeroed(&centres[..there], &mut counted[..there]);
+    let mut room = [V::ORIGIN; 64];
     let frame = Frame {
         flags: &flags[..n],
-        centres: &counted[..n],
+        centres: curves::counted(centres, n, &mut room),
         arrows: &arrows[..m],
     };
     if beyond::beyond(&frame) {

@@ -4,7 +4,7 @@
 ghost use Rattle.std.specs.Prelude.{◌≡◌, ◌+◌, ◌*◌, ◌≤◌, ◌<◌, length};
 ghost use Rattle.laws.specs.Put.{put};
 ghost use Rattle.routing.specs.Routing.{records};
-ghost use Rattle.curves.specs.Lay.{Whole, frame_in};
+ghost use Rattle.curves.specs.Lay.{frame_in};
 
 use curves::{Frame, Laid};
 use label::Block;
@@ -17,24 +17,22 @@ use turns::Drawing;
 // A small sheet has at most so many states and so many arrows.
 const FEW: usize = 32;
 
-// The drawing in space for so many arrows, boxes and traces; how many records it has.
-fn draw<const ARROWS: usize, const BOXES: usize, const TRACES: usize>(
+// The drawing in space for so many arrows, each with a box at most, and so many traces; how many records it has.
+fn draw<const ARROWS: usize, const TRACES: usize>(
     frame: &Frame,
     sizes: &[Block],
     out: &mut [Geometry],
 ) -> usize
-    requires whole { Whole frame.now }
     requires sized { length sizes.now ≡ length frame.now.arrows.now }
     requires arrows { length frame.now.arrows.now ≤ ARROWS }
-    requires boxes { 3 * length frame.now.arrows.now ≤ BOXES }
-    requires traces { 2 * length frame.now.arrows.now + length frame.now.centres.now ≤ TRACES }
-    requires small { (ARROWS ≤ 256) × (BOXES ≤ 768) × (TRACES ≤ 576) }
+    requires traces { length frame.now.arrows.now + length frame.now.centres.now ≤ TRACES }
+    requires small { (ARROWS ≤ 256) × (TRACES ≤ 320) }
     requires room { length frame.now.arrows.now ≤ length out.old }
     ensures { let drawn = records (frame_in frame.now) sizes.now in
         (result ≡ length drawn) × (out.new ≡ put out.old 0 drawn) }
 {
     let mut laid: Stack<Laid, ARROWS> = Stack::new(Laid::LeftOut);
-    let mut drawing: Drawing<ARROWS, BOXES, TRACES> = Drawing {
+    let mut drawing: Drawing<ARROWS, TRACES> = Drawing {
         boxes: Stack::new(Rect::NONE),
         traces: Stack::new(Trace::NONE),
         drawn: [None; ARROWS],
@@ -47,14 +45,13 @@ fn draw<const ARROWS: usize, const BOXES: usize, const TRACES: usize>(
 // The drawing of a graph at given centres: a record for each arrow that has one, in arrow order; how many. Setting
 // the space to 0 is a large part of drawing a small sheet, which has less.
 pub fn geometry(frame: &Frame, sizes: &[Block], out: &mut [Geometry]) -> usize
-    requires whole { Whole frame.now }
     requires sized { length sizes.now ≡ length frame.now.arrows.now }
     requires room { length frame.now.arrows.now ≤ length out.old }
     ensures { let drawn = records (frame_in frame.now) sizes.now in
         (result ≡ length drawn) × (out.new ≡ put out.old 0 drawn) }
 {
     if frame.flags.len() <= FEW && frame.arrows.len() <= FEW {
-        return draw::<32, 96, 96>(frame, sizes, out);
+        return draw::<32, 64>(frame, sizes, out);
     }
-    draw::<256, 768, 576>(frame, sizes, out)
+    draw::<256, 320>(frame, sizes, out)
 }

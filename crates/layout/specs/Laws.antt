@@ -14,9 +14,9 @@ use Rattle.shape.specs.Plane.{vec}
 use Rattle.shape.specs.Centres.{centres}
 use Rattle.label_spots.specs.declared.Geometry.{Geometry}
 use Rattle.routing.specs.Routing.{BlockSize, records}
-use Rattle.routing.specs.Sheets.{frame_with, centres_at}
+use Rattle.routing.specs.Sheets.{frame_with}
 use Rattle.routing_laws.proofs.Decoded.{records_most}
-use Rattle.curves.specs.Zeroed.{centre_zeroed, zeroed_points}
+use Rattle.curves.specs.Counted.{counted}
 use Rattle.clutter.specs.Clutter.{clutter_of}
 use Rattle.clutter.specs.Bounds.{clutter-le}
 use Rattle.fit.specs.Fit.{fit_xs, fit_ys, fit_size}
@@ -59,22 +59,19 @@ placed_points q p cs e = ap placing_of e ∙ placing_back p (placed q p) (placed
 
 -- ---- the drawing at given centres, which are ns as they count
 
-module _ (p : Plan) (cs ns : List «V») (h : length cs ≡ many p) (e : ns ≡ map centre_zeroed cs) where
-  nodes_are : ns ≡ (plan_frame p (placing_of cs)).centres
-  nodes_are = e ∙ zeroed_points cs ∙ ap (centres_at (map (λ c. c.x) cs) (map (λ c. c.y) cs)) h
-
+module _ (p : Plan) (cs ns : List «V») (e : ns ≡ counted cs (many p)) where
   -- the frame of a placement
   pub frame_placed : (q : Placement) → cs ≡ centres_of (placed q p) → frame_with p.flags ns p.arrows ≡ plan_frame p (placed q p)
   frame_placed q k =
-      ap (λ (l : List «V»). frame_with p.flags l p.arrows) nodes_are ∙ ap (plan_frame p) (placed_points q p cs k)
+      ap (λ (l : List «V»). frame_with p.flags l p.arrows) e ∙ ap (plan_frame p) (placed_points q p cs k)
 
   module _ (gs : List Geometry) (g : gs ≡ records (frame_with p.flags ns p.arrows) p.sizes) where
     drawn_are : gs ≡ records_at p (placing_of cs)
-    drawn_are = g ∙ ap (λ (l : List «V»). records (frame_with p.flags l p.arrows) p.sizes) nodes_are
+    drawn_are = g ∙ ap (λ (l : List «V»). records (frame_with p.flags l p.arrows) p.sizes) e
 
     pub clutter_counted : (m : ℕ) → m ≡ clutter_of ns gs → m ≡ clutter_at p (placing_of cs)
     unfolding clutter_at
-    clutter_counted m k = k ∙ ap₂ clutter_of nodes_are drawn_are
+    clutter_counted m k = k ∙ ap₂ clutter_of e drawn_are
 
     pub fitted_left : (s : Size) (qs : List «V») → s ≡ fit_size p.flags cs gs
         → qs ≡ centres (fit_xs p.flags cs gs (map (λ c. c.x) cs)) (fit_ys p.flags cs gs (map (λ c. c.y) cs))

@@ -1,20 +1,14 @@
 -- What the code is lent, and what it answers and leaves. Assumes nothing.
-use Rattle.std.specs.Prelude.{◌≡◌, List, map, ◌≤◌, length}
+use Rattle.std.specs.Prelude.{◌≡◌, List, map}
 use Rattle.shape.specs.declared.«V».{«V»}
 use Rattle.shape.specs.Centres as P
 use Rattle.fit.specs.declared.Size.{Size}
-use Rattle.layout.specs.declared.Plan.{Plan as Lent}
+use Rattle.layout.specs.declared.plan.Plan.{Plan as Lent}
 use Rattle.layout.specs.Layout.{Plan, Placing, placing, Layout}
 
 -- the plan that is lent
 abbrev pub plan_in : Lent → Plan
 plan_in p = record { flags = p.flags.now; arrows = p.arrows.now; sizes = p.sizes.now }
-
--- the most states and arrows, and a size for each arrow
-pub record Whole (p : Lent) : Type 0 where
-  pub few : length p.flags.now ≤ 64
-  pub arrows : length p.arrows.now ≤ 256
-  pub sized : length p.sizes.now ≡ length p.arrows.now
 
 -- the x and the y of points
 abbrev pub placing_of : List «V» → Placing

@@ -8,10 +8,13 @@ ghost use Rattle.circular.specs.Ring.{largest};
 ghost use Rattle.layout.specs.Layout as S;
 ghost use Rattle.layout.specs.Lent as C;
 
+mod plan;
+
 use curves::Frame;
 use fit::{MARGIN, Size};
 use label::Block;
 use label_spots::Geometry;
+pub use plan::Plan;
 use refusal::Refusal;
 use shape::V;
 use sheet::Ends;
@@ -49,14 +52,6 @@ pub enum Placement {
     Ring,
 }
 
-// What is laid out: the states' flag bytes, the arrows' ends, and the sizes of their labels.
-#[derive(Clone, Copy)]
-pub struct Plan<'a> {
-    pub flags: &'a [u8],
-    pub arrows: &'a [Ends],
-    pub sizes: &'a [Block],
-}
-
 // ---- centres
 
 // The width of the widest label.
@@ -77,7 +72,6 @@ impl<'a> Plan<'a> {
     // The centres in layers.
     #[tactic(auto, unfolding(crate::specs::Layout::layers))]
     pub fn layers(&self, centres: &mut [V])
-        requires whole { C.Whole self.now }
         requires some { 0 < length self.now.flags.now }
         requires level { length centres.old ≡ length self.now.flags.now }
         ensures { centres.new ≡ S.centres_of (S.layers (C.plan_in self.now)) }
@@ -91,7 +85,6 @@ impl<'a> Plan<'a> {
     // The centres on the ring.
     #[tactic(auto, unfolding(crate::specs::Layout::ring))]
     pub fn ring(&self, centres: &mut [V])
-        requires whole { C.Whole self.now }
         requires some { 0 < length self.now.flags.now }
         requires level { length centres.old ≡ length self.now.flags.now }
         ensures { centres.new ≡ S.centres_of (S.ring (C.plan_in self.now)) }
@@ -102,7 +95,6 @@ impl<'a> Plan<'a> {
 
     // The centres of a placement.
     pub fn place(&self, placement: Placement, centres: &mut [V])
-        requires whole { C.Whole self.now }
         requires some { 0 < length self.now.flags.now }
         requires level { length centres.old ≡ length self.now.flags.now }
         ensures { centres.new ≡ S.centres_of (S.placed placement (C.plan_in self.now)) }
@@ -120,7 +112,6 @@ impl<'a> Plan<'a> {
     // The drawing at these centres, in the room lent for it.
     #[tactic(auto, using(laws::specs::Filled::front_is, routing_laws::proofs::Decoded::records_most))]
     fn draw<'b>(&self, nodes: &[V], room: &'b mut [Geometry]) -> &'b [Geometry]
-        requires whole { C.Whole self.now }
         requires level { length nodes.now ≡ length self.now.flags.now }
         requires room { 256 ≤ length room.old }
         ensures { let plan = C.plan_in self.now in
@@ -138,13 +129,10 @@ impl<'a> Plan<'a> {
     // The clutter at these centres.
     #[tactic(auto, using(crate::specs::Laws::clutter_counted, routing_laws::proofs::Decoded::records_most))]
     fn clutter(&self, centres: &[V]) -> usize
-        requires whole { C.Whole self.now }
-        requires level { length centres.now ≡ length self.now.flags.now }
         ensures { result ≡ S.clutter_at (C.plan_in self.now) (C.placing_of centres.now) }
     {
         let mut space = [V::ORIGIN; 64];
-        let nodes = &mut space[..centres.len()];
-        curves::zeroed(centres, nodes);
+        let nodes = curves::counted(centres, self.flags.len(), &mut space);
         let mut room = [Geometry::NONE; 256];
         let drawn = self.draw(nodes, &mut room);
         clutter::clutter(nodes, drawn)
@@ -153,7 +141,6 @@ impl<'a> Plan<'a> {
     // The clutter of a placement.
     #[tactic(auto, using(crate::specs::Laws::placed_points))]
     fn placed_clutter(&self, placement: Placement) -> usize
-        requires whole { C.Whole self.now }
         requires some { 0 < length self.now.flags.now }
         ensures { let plan = C.plan_in self.now in
             result ≡ S.clutter_at plan (S.placed placement plan) }
@@ -171,7 +158,6 @@ impl<'a> Plan<'a> {
     // Whether there are more than 2.5 arrows for each state.
     #[tactic(auto, unfolding(crate::specs::Layout::is_dense))]
     pub fn dense(&self) -> bool
-        requires whole { C.Whole self.now }
         ensures { result ≡ S.is_dense (C.plan_in self.now) }
     {
         2.5 * (self.flags.len() as f64) < (self.arrows.len() as f64)
@@ -180,7 +166,6 @@ impl<'a> Plan<'a> {
     // Whether Auto takes the ring.
     #[tactic(auto, unfolding(crate::specs::Layout::takes_ring, crate::specs::Layout::is_tangled))]
     fn takes_ring(&self) -> bool
-        requires whole { C.Whole self.now }
         requires some { 0 < length self.now.flags.now }
         ensures { result ≡ S.takes_ring (C.plan_in self.now) }
     {
@@ -195,7 +180,6 @@ impl<'a> Plan<'a> {
     // The placement by kind.
     #[tactic(auto, unfolding(crate::specs::Layout::chosen))]
     fn choose(&self, kind: Kind) -> Placement
-        requires whole { C.Whole self.now }
         requires some { 0 < length self.now.flags.now }
         ensures { let plan = C.plan_in self.now in
             S.placed result plan ≡ S.chosen (S.kind_number kind) plan }
@@ -219,13 +203,11 @@ impl<'a> Plan<'a> {
     // Fits the drawing at these centres.
     #[tactic(auto, using(crate::specs::Laws::fitted_left))]
     fn fit(&self, centres: &mut [V]) -> Size
-        requires whole { C.Whole self.now }
         requires level { length centres.old ≡ length self.now.flags.now }
         ensures { C.Left (S.fitted (C.plan_in self.now) (C.placing_of centres.old)) result centres.new }
     {
         let mut space = [V::ORIGIN; 64];
-        let nodes = &mut space[..centres.len()];
-        curves::zeroed(centres, nodes);
+        let nodes = curves::counted(centres, self.flags.len(), &mut space);
         let mut room = [Geometry::NONE; 256];
         let drawn = self.draw(nodes, &mut room);
         fit::fit(self.flags, drawn, centres)
@@ -233,7 +215,6 @@ impl<'a> Plan<'a> {
 
     // The layout by kind: the centres, and the size of the drawing.
     pub fn layout(&self, kind: Kind, centres: &mut [V]) -> Size
-        requires whole { C.Whole self.now }
         requires level { length centres.old ≡ length self.now.flags.now }
         ensures { C.Left (S.layout_of (S.kind_number kind) (C.plan_in self.now)) result centres.new }
     {

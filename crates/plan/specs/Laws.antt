@@ -1,7 +1,7 @@
 -- What is read of a sheet is the plan of its graph; refusals one after another; what a layout answers. Assumes nothing.
-use Rattle.std.specs.Prelude.{◌≡◌, true, List, [], ◌++◌, map, drop, ℕ, ◌≤◌, ◌<◌, ltb, length, Float}
-use Rattle.std.proofs.Math.Path.{refl, sym, ap}
-use Rattle.std.proofs.Common.{◌∙◌, subst, arith, lt-ltb, le-ltb}
+use Rattle.std.specs.Prelude.{◌≡◌, true, List, [], ◌++◌, map, drop, ℕ, ◌≤◌, ◌<◌, ltb, length}
+use Rattle.std.proofs.Math.Path.{refl, sym, ap, ap₂}
+use Rattle.std.proofs.Common.{◌∙◌, arith, lt-ltb, le-ltb}
 use Rattle.std.proofs.Math.Bool.{false}
 use Rattle.std.proofs.Math.ListN.{length-map}
 use Rattle.laws.specs.Put.{put, put_front}
@@ -22,7 +22,7 @@ use Rattle.layout.specs.Lent as Layout
 use Rattle.layout.specs.Alike.{same-plan}
 use Rattle.plan.specs.Measured.{layout_beyond}
 use Rattle.refusal.specs.Refused.{Outcome, values, number}
-use Rattle.plan.specs.Planned.{measured_refusals, sheet_refusals, plan_refusals, laid_out, plan_answer, centres_by}
+use Rattle.plan.specs.Planned.{measured_refusals, sheet_refusals, plan_refusals, laid_out, size_by, size_of, plan_answer, centres_by}
 
 -- ---- what is read
 
@@ -37,11 +37,11 @@ plan-read g a b c = rw (a, b, c) refl
 
 -- ---- what is answered and left under a list of refusals
 
-abbrev Left : List Refusal → ℕ → Graph → Outcome (ℕ × Float × Float) → List «V» → List «V» → Type 0
+abbrev Left : List Refusal → ℕ → Graph → Outcome (ℕ × Size) → List «V» → List «V» → Type 0
 Left rs kind g r cs qs = (r ≡ plan_answer rs kind g) × (qs ≡ centres_by rs kind g cs)
 
-abbrev answer : ℕ → Graph → Outcome (ℕ × Float × Float)
-answer kind g = values (length g.states, (laid_out kind g).width, (laid_out kind g).height)
+abbrev answer : ℕ → Graph → Outcome (ℕ × Size)
+answer kind g = values (length g.states, size_of kind g)
 
 abbrev stored : ℕ → Graph → List «V» → List «V»
 stored kind g cs = put cs 0 (centres (laid_out kind g).xs (laid_out kind g).ys)
@@ -49,13 +49,13 @@ stored kind g cs = put cs 0 (centres (laid_out kind g).xs (laid_out kind g).ys)
 left-refused : (rs : List Refusal) (n kind : ℕ) (g : Graph) (cs : List «V»)
     → ((A : Type 0) (refuse : ℕ → A) (accept : A) → refuse n ≡ decide rs refuse accept)
     → Left rs kind g (number n) cs cs
-left-refused rs n kind g cs e = (e (Outcome (ℕ × Float × Float)) number (answer kind g), e (List «V») (λ k. cs) (stored kind g cs))
+left-refused rs n kind g cs e = (e (Outcome (ℕ × Size)) number (answer kind g), e (List «V») (λ k. cs) (stored kind g cs))
 
-left_as : (rs qs : List Refusal) (kind : ℕ) (g : Graph) (r : Outcome (ℕ × Float × Float)) (cs cs' : List «V»)
+left_as : (rs qs : List Refusal) (kind : ℕ) (g : Graph) (r : Outcome (ℕ × Size)) (cs cs' : List «V»)
     → ((A : Type 0) (refuse : ℕ → A) (accept : A) → decide rs refuse accept ≡ decide qs refuse accept) → Left rs kind g r cs cs'
     → Left qs kind g r cs cs'
 left_as rs qs kind g r cs cs' e h =
-    (h.0 ∙ e (Outcome (ℕ × Float × Float)) number (answer kind g), h.1 ∙ e (List «V») (λ k. cs) (stored kind g cs))
+    (h.0 ∙ e (Outcome (ℕ × Size)) number (answer kind g), h.1 ∙ e (List «V») (λ k. cs) (stored kind g cs))
 
 module _ (m : Limits) (kind : ℕ) (s : List ℕ) (cs : List «V») where
   -- 11
@@ -72,7 +72,7 @@ module _ (m : Limits) (kind : ℕ) (s : List ℕ) (cs : List «V») where
       check-refused m s (measured_refusals kind (meaning s)) refuse accept n e
       ∙ decide-rest 11 (ltb last_kind kind) (sheet_refusals m kind s) refuse accept (le-ltb last_kind kind h))
 
-  pub plan_accepted : (r : Outcome (ℕ × Float × Float)) (qs : List «V») → kind ≤ last_kind → values tt ≡ check_of m s
+  pub plan_accepted : (r : Outcome (ℕ × Size)) (qs : List «V») → kind ≤ last_kind → values tt ≡ check_of m s
       → Left (measured_refusals kind (meaning s)) kind (meaning s) r cs qs → Left (plan_refusals m kind s) kind (meaning s) r cs qs
   plan_accepted r qs h e =
       left_as (measured_refusals kind (meaning s)) (plan_refusals m kind s) kind (meaning s) r cs qs
@@ -81,21 +81,10 @@ module _ (m : Limits) (kind : ℕ) (s : List ℕ) (cs : List «V») where
       ∙ decide-rest 11 (ltb last_kind kind) (sheet_refusals m kind s) refuse accept (le-ltb last_kind kind h))
 
 -- the number of a kind is at most the last
-kind_most : (k : Kind) → kind_number k ≤ last_kind
+pub kind_most : (k : Kind) → kind_number k ≤ last_kind
 kind_most Auto = omega arith
 kind_most Layered = omega arith
 kind_most Circular = omega arith
-
--- by a kind with the number that is given
-module _ (m : Limits) (k : Kind) {kind : ℕ} (e : kind_number k ≡ kind) (s : List ℕ) (cs : List «V») where
-  pub kind-refused : (n : ℕ) → number n ≡ check_of m s → Left (plan_refusals m kind s) kind (meaning s) (number n) cs cs
-  kind-refused n = plan-refused m kind s cs n (subst (λ (j : ℕ). j ≤ last_kind) e (kind_most k))
-
-  pub kind_accepted : (r : Outcome (ℕ × Float × Float)) (qs : List «V») → values tt ≡ check_of m s
-      → Left (measured_refusals (kind_number k) (meaning s)) (kind_number k) (meaning s) r cs qs
-      → Left (plan_refusals m kind s) kind (meaning s) r cs qs
-  kind_accepted r qs a h =
-      subst (λ (j : ℕ). Left (plan_refusals m j s) j (meaning s) r cs qs) e (plan_accepted m (kind_number k) s cs r qs (kind_most k) a h)
 
 -- ---- 9
 
@@ -116,7 +105,7 @@ module _ (kind : ℕ) (g : Graph) {p : Plan} (e : p ≡ plan_of g) where
   -- laid out, in the first n of cs
   pub plan-size : (n : ℕ) (s : Size) (cs qs : List «V») → layout_beyond kind p ≡ false → n ≡ length (flags_of g) → length qs ≡ n
       → n ≤ length cs → Layout.Left (layout_of kind p) s qs
-      → Left (measured_refusals kind g) kind g (values (n, s.width, s.height)) cs (qs ++ drop n cs)
+      → Left (measured_refusals kind g) kind g (values (n, s)) cs (qs ++ drop n cs)
   unfolding decide
   plan-size n s cs qs b m k f l =
       let t : layout_beyond kind (plan_of g) ≡ false = ap (layout_beyond kind) (sym e) ∙ b in
@@ -126,4 +115,4 @@ module _ (kind : ℕ) (g : Graph) {p : Plan} (e : p ≡ plan_of g) where
       ∙ ap (λ (q : Plan). centres (layout_of kind q).xs (layout_of kind q).ys) e in
       let front : put cs 0 qs ≡ qs ++ drop n cs = put_front cs qs (omega arith) ∙ ap (λ (i : ℕ). qs ++ drop i cs) k in
       rw t
-      (rw (m ∙ length-map g.states (λ a. a.flags), w, h) refl, sym front ∙ ap (put cs 0) c)
+      (ap₂ (λ (i : ℕ) (z : Size). values (i, z)) (m ∙ length-map g.states (λ a. a.flags)) (ap₂ size_by w h), sym front ∙ ap (put cs 0) c)

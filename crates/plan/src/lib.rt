@@ -5,11 +5,12 @@ ghost use Rattle.std.specs.Prelude.{◌≡◌, ◌≤◌, ◌<◌, length};
 ghost use Rattle.refusal.specs.Refused.{outcome};
 ghost use Rattle.sheet.specs.Sheet as G;
 ghost use Rattle.layout.specs.Layout as L;
-ghost use Rattle.layout.specs.Lent.{Whole, plan_in};
+ghost use Rattle.layout.specs.Lent.{plan_in};
 ghost use Rattle.plan.specs.Measured as M;
 ghost use Rattle.plan.specs.Planned as S;
 
 use curves::Frame;
+use fit::Size;
 use label::Block;
 use layout::{Kind, Placement, Plan};
 use refusal::Refusal;
@@ -20,7 +21,6 @@ use sheet::{Ends, Limits};
 
 // Whether the drawing of a placement is refused.
 fn placed_beyond(plan: &Plan, placement: Placement) -> bool
-    requires whole { Whole plan.now }
     requires some { 0 < length plan.now.flags.now }
     ensures { let p = plan_in plan.now in result ≡ M.beyond_at p (L.placed placement p) }
 {
@@ -29,11 +29,9 @@ fn placed_beyond(plan: &Plan, placement: Placement) -> bool
     let centres = &mut space[..n];
     plan.place(placement, centres);
     let mut room = [V::ORIGIN; 64];
-    let nodes = &mut room[..n];
-    curves::zeroed(centres, nodes);
     let frame = Frame {
         flags: plan.flags,
-        centres: nodes,
+        centres: curves::counted(centres, n, &mut room),
         arrows: plan.arrows,
     };
     beyond::beyond(&frame)
@@ -42,7 +40,6 @@ fn placed_beyond(plan: &Plan, placement: Placement) -> bool
 // Auto measures the ring, and the layers too where it has to compare.
 #[tactic(auto, unfolding(crate::specs::Measured::any_beyond, crate::specs::Measured::measured, laws::specs::Any::any_of))]
 fn auto_beyond(plan: &Plan) -> bool
-    requires whole { Whole plan.now }
     requires some { 0 < length plan.now.flags.now }
     ensures { let p = plan_in plan.now in result ≡ M.any_beyond p (M.measured 0 p) }
 {
@@ -55,7 +52,6 @@ fn auto_beyond(plan: &Plan) -> bool
 // By kind.
 #[tactic(auto, unfolding(crate::specs::Measured::any_beyond, crate::specs::Measured::measured, laws::specs::Any::any_of))]
 fn kind_beyond(plan: &Plan, kind: Kind) -> bool
-    requires whole { Whole plan.now }
     requires some { 0 < length plan.now.flags.now }
     ensures { let p = plan_in plan.now in result ≡ M.any_beyond p (M.measured (L.kind_number kind) p) }
 {
@@ -69,7 +65,6 @@ fn kind_beyond(plan: &Plan, kind: Kind) -> bool
 // Whether a drawing that the layout measures is refused; without states nothing is drawn.
 #[tactic(auto, unfolding(crate::specs::Measured::layout_beyond))]
 fn layout_beyond(plan: &Plan, kind: Kind) -> bool
-    requires whole { Whole plan.now }
     ensures { result ≡ M.layout_beyond (L.kind_number kind) (plan_in plan.now) }
 {
     !plan.flags.is_empty() && kind_beyond(plan, kind)
@@ -85,7 +80,7 @@ fn plan_read(
     arrows: &mut [Ends],
     sizes: &mut [Block],
     centres: &mut [V],
-) -> Result<(usize, f64, f64), Refusal>
+) -> Result<(usize, Size), Refusal>
     requires a_state_each { (length flags.old ≡ length (G.states_of s.now)) × (length flags.old ≤ 64) }
     requires an_arrow_each { let many = length (G.arrows_of s.now) in
         (length arrows.old ≡ many)
@@ -109,11 +104,11 @@ fn plan_read(
         return Err(Refusal::Bow);
     }
     let size = plan.layout(kind, &mut centres[..n]);
-    Ok((n, size.width, size.height))
+    Ok((n, size))
 }
 
 // Lays out a sheet of at most 64 states and 256 arrows.
-fn plan_accepted(s: &[u8], kind: Kind, centres: &mut [V]) -> Result<(usize, f64, f64), Refusal>
+fn plan_accepted(s: &[u8], kind: Kind, centres: &mut [V]) -> Result<(usize, Size), Refusal>
     requires { (length (G.states_of s.now) ≤ 64)
         × (length (G.arrows_of s.now) ≤ 256)
         × (64 ≤ length centres.old) }
@@ -138,14 +133,14 @@ fn plan_accepted(s: &[u8], kind: Kind, centres: &mut [V]) -> Result<(usize, f64,
     )
 }
 
-// Checks a sheet under the limits and lays it out by the number of a kind: how many states there are, width and height,
-// and the centres from the front of `centres` on, or a refusal. There is room for 64 states and 256 arrows.
-pub fn plan(s: &[u8], m: Limits, kind: u8, centres: &mut [V]) -> Result<(usize, f64, f64), Refusal>
+// Checks a sheet under the limits and lays it out by kind: how many states there are, the size of the drawing, and the
+// centres from the front of `centres` on, or a refusal. There is room for 64 states and 256 arrows.
+pub fn plan(s: &[u8], m: Limits, kind: Kind, centres: &mut [V]) -> Result<(usize, Size), Refusal>
     requires { (m.states ≤ 64) × (m.arrows ≤ 256) × (64 ≤ length centres.old) }
-    ensures { (outcome result ≡ S.planned m kind s.now)
-        × (centres.new ≡ S.centres_planned m kind s.now centres.old) }
+    ensures { let number = L.kind_number kind in
+        (outcome result ≡ S.planned m number s.now)
+        × (centres.new ≡ S.centres_planned m number s.now centres.old) }
 {
-    let kind = Kind::try_from(kind)?;
     sheet_check::check_within(s, m)?;
     plan_accepted(s, kind, centres)
 }

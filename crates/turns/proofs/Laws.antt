@@ -1,5 +1,5 @@
 -- Steps of the proofs. Assumes nothing.
-use Rattle.std.specs.Prelude.{◌≡◌, refl, true, false, not, ℕ, ◌+◌, ◌≤◌, ◌<◌, ltb, length, get_or, drop, Option, Some}
+use Rattle.std.specs.Prelude.{◌≡◌, refl, true, false, not, ℕ, ◌+◌, ◌≤◌, ◌<◌, ltb, length, get_or, take, drop, Option, Some}
 use Rattle.std.proofs.Common.{sym, ap, ap₂, ◌∙◌, arith, ltb-true, true≢false, add-one, drop-cons, drop_of_length-le, length-append}
 use Rattle.std.proofs.lemmas.Bool.{not-true}
 use mathlib.Core.List.{List, [], ◌∷◌, ◌++◌, map, flat_map}
@@ -9,14 +9,16 @@ use Rattle.laws.specs.Bools.{and_first, and_second}
 use Rattle.laws.specs.Loops.{over}
 use Rattle.laws.specs.Lists.{get_d_any}
 use Rattle.label_spots.specs.declared.Geometry.{Geometry}
-use Rattle.routing.specs.Routing.{Frame, Ends, BlockSize, Numbered, numbered, numbered_at, no_ends, is_kept_in, is_loop, joined, route_of, is_arc, label}
+use Rattle.routing.specs.Routing.{Frame, Ends, BlockSize, Numbered, numbered, numbered_at, no_ends, is_kept_in, is_loop, joined, route_of, is_arc, arc_shape, label}
 use Rattle.routing_laws.specs.Passes.{Pass, in_pass, is_crossing, item_of, Drawn, turned, passed, shown, gathered}
 use Rattle.routing_laws.specs.Turns.{size_for}
 use Rattle.routing_laws.specs.Numbers.{numbered-drop, numbered-past}
 use Rattle.routing_laws.proofs.Turns.{turned_loop, turned_label, turned-other}
 use Rattle.curves.specs.declared.Laid.{Laid}
-use Rattle.curves.specs.Lay.{laid_by, laid_of, crossing_by}
-use Rattle.turns.specs.Steps.{is_sort, pass_of, more, turned_as, turned_by}
+use Rattle.curves.specs.Lay.{laid_by, laid_of, crossing_by, crosses, crossings}
+use Rattle.turns.specs.Steps.{is_sort, pass_of, looped_as, many_of, loops_of, one_at, more, turned_as, turned_by}
+use Rattle.laws.specs.Counting.{how_many, worth}
+use Rattle.curves.specs.Counts.{how_many_next, how_many_first}
 use Rattle.turns.specs.declared.Sort.{Sort}
 use Rattle.std.specs.Prelude.{set}
 use Rattle.laws.specs.Joined.{map_join}
@@ -144,10 +146,56 @@ pass_all f sizes p d = refl
 
 -- ---- how many traces
 
-pub more_next : (s : Sort) (i : ℕ) → more s (i + 1) ≡ more s i + more s 1
-more_next Sort.Loop i = refl
-more_next Sort.Arc i = refl
-more_next Sort.Straight i = refl
+pub more_add : (s : Sort) (a b : ℕ) → more s (a + b) ≡ more s a + more s b
+more_add Sort.Loop a b = refl
+more_add Sort.Arc a b = refl
+more_add Sort.Straight a b = refl
+
+pub more_le : (s : Sort) (a b : ℕ) → a ≤ b → more s a ≤ more s b
+more_le Sort.Loop a b h = h
+more_le Sort.Arc a b h = omega arith
+more_le Sort.Straight a b h = omega arith
+
+-- an arrow of a sort adds no trace, or that of its loop
+pub looped_most : (s : Sort) (x : Laid) → is_sort s x ≡ true → looped_as x ≤ more s 1
+looped_most s Laid.LeftOut t = omega arith
+looped_most Sort.Loop Laid.Loop t = omega arith
+looped_most Sort.Arc Laid.Loop t = absurd (true≢false (sym t))
+looped_most Sort.Straight Laid.Loop t = absurd (true≢false (sym t))
+looped_most s (Laid.Between c) t = omega arith
+
+-- arrow i counts among the first i + 1, and these among all
+module _ (s : Sort) (ls : List Laid) (i : ℕ) (h : i < length ls) where
+  pub many_next : many_of s (take (i + 1) ls) ≡ many_of s (take i ls) + one_at s ls i
+  many_next = how_many_next (is_sort s) ls i Laid.LeftOut h
+
+  pub more_next : more s (many_of s (take (i + 1) ls)) ≡ more s (many_of s (take i ls)) + more s (one_at s ls i)
+  more_next = ap (more s) many_next ∙ more_add s (many_of s (take i ls)) (one_at s ls i)
+
+pub many_first : (s : Sort) (ls : List Laid) (k : ℕ) → many_of s (take k ls) ≤ many_of s ls
+many_first s ls k = how_many_first (is_sort s) ls k
+
+-- no arrow is of two sorts
+one_sort : (x : Laid) → worth (is_sort Sort.Loop) 1 x + worth (is_sort Sort.Arc) 1 x + worth (is_sort Sort.Straight) 1 x ≤ 1
+one_sort Laid.LeftOut = omega arith
+one_sort Laid.Loop = omega arith
+one_sort (Laid.Between c) = by_bool (arc_shape c.routed.shape) (λ t. rw t (omega arith)) (λ t. rw t (omega arith))
+
+pub all_sorts : (ls : List Laid) → many_of Sort.Loop ls + many_of Sort.Arc ls + many_of Sort.Straight ls ≤ length ls
+unfolding how_many
+all_sorts [] = omega arith
+all_sorts (x ∷ ls) = omega (arith, one_sort x, all_sorts ls)
+
+-- an arrow has a trace from the start, or adds its loop's, or neither
+one_trace : (x : Laid) → crosses x + worth (is_sort Sort.Loop) 1 x ≤ 1
+one_trace Laid.LeftOut = omega arith
+one_trace Laid.Loop = omega arith
+one_trace (Laid.Between c) = omega arith
+
+pub all_traces : (ls : List Laid) → crossings ls + loops_of ls ≤ length ls
+unfolding how_many
+all_traces [] = omega arith
+all_traces (x ∷ ls) = omega (arith, one_trace x, all_traces ls)
 
 -- ---- the records
 

@@ -1,6 +1,7 @@
 -- The turns as the code runs them, arrow by arrow.
 use Rattle.std.specs.Prelude.{Bool, true, false, not, ℕ, ◌+◌, ◌≤◌, length, get_or, set, Some}
 use mathlib.Core.List.{List, [], ◌∷◌, ◌++◌, map}
+use Rattle.laws.specs.Counting.{how_many, worth}
 use Rattle.trace.specs.Form.{trace_in}
 use Rattle.label_spots.specs.declared.Geometry.{Geometry}
 use Rattle.scene.specs.Scene.{Scene, scene_of}
@@ -39,6 +40,16 @@ looped_as (Laid.Between c) = 0
 abbrev pub looped_at : List Laid → ℕ → ℕ
 looped_at ls i = looped_as (get_or ls i Laid.LeftOut)
 
+-- how many arrows are of a sort, and whether arrow i is, as a number
+abbrev pub many_of : Sort → List Laid → ℕ
+many_of s ls = how_many (is_sort s) ls
+
+abbrev pub loops_of : List Laid → ℕ
+loops_of ls = many_of Sort.Loop ls
+
+abbrev pub one_at : Sort → List Laid → ℕ → ℕ
+one_at s ls i = worth (is_sort s) 1 (get_or ls i Laid.LeftOut)
+
 -- the most traces that n turns of a pass add
 abbrev pub more : Sort → ℕ → ℕ
 more Sort.Loop n = n
@@ -46,18 +57,18 @@ more Sort.Arc n = 0
 more Sort.Straight n = 0
 
 -- ---- what is drawn so far
-module _ {a b t : ℕ} where
-  abbrev pub scene_in : Frame → Drawing a b t → Scene
+module _ {a t : ℕ} where
+  abbrev pub scene_in : Frame → Drawing a t → Scene
   scene_in f d = scene_of f.centres (map trace_in d.traces) d.boxes
 
-  abbrev pub drawn_in : Frame → Drawing a b t → Drawn
+  abbrev pub drawn_in : Frame → Drawing a t → Drawn
   drawn_in f d = drawn_with (scene_in f d) d.drawn
 
-  abbrev pub added : Drawing a b t → ℕ → Geometry → Drawing a b t
+  abbrev pub added : Drawing a t → ℕ → Geometry → Drawing a t
   added d i g = record { boxes = d.boxes ++ (g.label_box ∷ []); traces = d.traces; drawn = set d.drawn i (Some g) }
 
   -- at most n labels and m traces more
-  pub record Grown (d e : Drawing a b t) (n m : ℕ) : Type 0 where
+  pub record Grown (d e : Drawing a t) (n m : ℕ) : Type 0 where
     pub boxes : length e.boxes ≤ length d.boxes + n
     pub traces : length e.traces ≤ length d.traces + m
 

@@ -8,7 +8,7 @@ ghost use Rattle.scene.specs.Turn.{placed_arrow};
 ghost use Rattle.self_loop.specs.Looped.{looped};
 ghost use Rattle.routing.specs.Routing.{loop_turn, turn_of, numbered_at};
 ghost use Rattle.routing_laws.specs.Passes.{turned, passed, gathered};
-ghost use Rattle.curves.specs.Lay.{Whole, frame_in, laid_of};
+ghost use Rattle.curves.specs.Lay.{frame_in, laid_of};
 ghost use Rattle.turns.specs.Steps as S;
 
 use bend::Shape;
@@ -29,7 +29,7 @@ enum Sort {
     Straight,
 }
 
-// Whether an arrow is of this sort.
+// Whether an arrow is of this sort: by cases, as the definition goes.
 fn is_sort(laid: &Laid, sort: Sort) -> bool
     ensures { result ≡ S.is_sort sort laid.now }
 {
@@ -45,16 +45,15 @@ fn is_sort(laid: &Laid, sort: Sort) -> bool
 
 // What is drawn so far: the labels' boxes, the traces, and the drawing of each arrow that has one.
 #[derive(Drop)]
-pub struct Drawing<const ARROWS: usize, const BOXES: usize, const TRACES: usize> {
-    pub boxes: Stack<Rect, BOXES>,
+pub struct Drawing<const ARROWS: usize, const TRACES: usize> {
+    pub boxes: Stack<Rect, ARROWS>,
     pub traces: Stack<Trace, TRACES>,
     pub drawn: [Option<Geometry>; ARROWS],
 }
 
-impl<const ARROWS: usize, const BOXES: usize, const TRACES: usize> Drawing<ARROWS, BOXES, TRACES> {
+impl<const ARROWS: usize, const TRACES: usize> Drawing<ARROWS, TRACES> {
     // Loop i in the direction that it takes.
     fn loop_of(&self, frame: &Frame, laid: &[Laid], size: Block, i: usize) -> Geometry
-        requires whole { Whole frame.now }
         requires all { laid.now ≡ laid_of (frame_in frame.now) }
         requires arrow { i < length frame.now.arrows.now }
         requires state { (numbered_at (frame_in frame.now) i).ends.source < length frame.now.centres.now }
@@ -99,7 +98,7 @@ impl<const ARROWS: usize, const BOXES: usize, const TRACES: usize> Drawing<ARROW
 
     // Adds the drawing of arrow i: its label's box enters the scene.
     fn add(&mut self, i: usize, g: Geometry)
-        requires room { (length self.old.boxes < BOXES) × (i < ARROWS) }
+        requires room { (length self.old.boxes < ARROWS) × (i < ARROWS) }
         ensures { self.new ≡ S.added self.old i g }
     {
         self.boxes.push(g.label_box);
@@ -108,10 +107,9 @@ impl<const ARROWS: usize, const BOXES: usize, const TRACES: usize> Drawing<ARROW
 
     // The turn of arrow i.
     fn turn(&mut self, frame: &Frame, laid: &[Laid], size: Block, i: usize)
-        requires whole { Whole frame.now }
         requires all { laid.now ≡ laid_of (frame_in frame.now) }
         requires arrow { (i < length frame.now.arrows.now) × (i < ARROWS) }
-        requires room { (length self.old.boxes < BOXES)
+        requires room { (length self.old.boxes < ARROWS)
             × (length self.old.traces + S.looped_at laid.now i ≤ TRACES) }
         ensures turned { let f = frame_in frame.now in
             S.drawn_in f self.new ≡ S.turned_by f size i (S.drawn_in f self.old) }
@@ -133,14 +131,14 @@ impl<const ARROWS: usize, const BOXES: usize, const TRACES: usize> Drawing<ARROW
 
     // The turn of arrow i in the pass of a sort.
     fn turn_at(&mut self, sort: Sort, frame: &Frame, laid: &[Laid], sizes: &[Block], i: usize)
-        requires whole { Whole frame.now }
         requires all { laid.now ≡ laid_of (frame_in frame.now) }
         requires sized { length sizes.now ≡ length frame.now.arrows.now }
         requires arrow { (i < length frame.now.arrows.now) × (i < ARROWS) }
-        requires room { (length self.old.boxes < BOXES) × (length self.old.traces + S.more sort 1 ≤ TRACES) }
+        requires room { let one = S.one_at sort laid.now i in
+            (length self.old.boxes + one ≤ ARROWS) × (length self.old.traces + S.more sort one ≤ TRACES) }
         ensures turned { let f = frame_in frame.now in
             S.drawn_in f self.new ≡ turned f sizes.now (S.pass_of sort) (S.drawn_in f self.old) (numbered_at f i) }
-        ensures many { S.Grown self.old self.new 1 (S.more sort 1) }
+        ensures many { let one = S.one_at sort laid.now i in S.Grown self.old self.new one (S.more sort one) }
     {
         if is_sort(&laid[i], sort) {
             self.turn(frame, laid, sizes[i], i);
@@ -149,14 +147,13 @@ impl<const ARROWS: usize, const BOXES: usize, const TRACES: usize> Drawing<ARROW
 
     // The pass of a sort.
     fn pass(&mut self, sort: Sort, frame: &Frame, laid: &[Laid], sizes: &[Block])
-        requires whole { Whole frame.now }
         requires all { laid.now ≡ laid_of (frame_in frame.now) }
         requires sized { (length sizes.now ≡ length frame.now.arrows.now) × (length frame.now.arrows.now ≤ ARROWS) }
-        requires room { (length self.old.boxes + length frame.now.arrows.now ≤ BOXES)
-            × (length self.old.traces + S.more sort (length frame.now.arrows.now) ≤ TRACES) }
+        requires room { let many = S.many_of sort laid.now in
+            (length self.old.boxes + many ≤ ARROWS) × (length self.old.traces + S.more sort many ≤ TRACES) }
         ensures passed { let f = frame_in frame.now in
             S.drawn_in f self.new ≡ passed f sizes.now (S.pass_of sort) (S.drawn_in f self.old) }
-        ensures many { S.Grown self.old self.new (length frame.now.arrows.now) (S.more sort (length frame.now.arrows.now)) }
+        ensures many { let many = S.many_of sort laid.now in S.Grown self.old self.new many (S.more sort many) }
     {
         // By number: a turn reads `laid` and `sizes` at i, and what it draws is arrow i's.
         for i in 0..frame.arrows.len() {
@@ -166,11 +163,10 @@ impl<const ARROWS: usize, const BOXES: usize, const TRACES: usize> Drawing<ARROW
 
     // The turns of all arrows.
     pub fn run(&mut self, frame: &Frame, laid: &[Laid], sizes: &[Block])
-        requires whole { Whole frame.now }
         requires all { laid.now ≡ laid_of (frame_in frame.now) }
         requires sized { (length sizes.now ≡ length frame.now.arrows.now) × (length frame.now.arrows.now ≤ ARROWS) }
-        requires room { (length self.old.boxes + 3 * length frame.now.arrows.now ≤ BOXES)
-            × (length self.old.traces + length frame.now.arrows.now ≤ TRACES) }
+        requires room { (length self.old.boxes + length frame.now.arrows.now ≤ ARROWS)
+            × (length self.old.traces + S.loops_of laid.now ≤ TRACES) }
         ensures { let f = frame_in frame.now in
             S.drawn_in f self.new ≡ S.all_passed f sizes.now (S.drawn_in f self.old) }
     {

@@ -1,16 +1,24 @@
 -- `geometry::draw` meets its contract.
-use Rattle.std.specs.Prelude.{length}
-use Rattle.std.proofs.Common.{ap, ◌∙◌, arith}
+use Rattle.std.specs.Prelude.{◌≡◌, ◌+◌, ◌≤◌, length}
+use Rattle.std.proofs.Common.{rules, ap, ◌∙◌, arith}
 use Rattle.routing_laws.proofs.Decoded.{records_most}
-use Rattle.curves.specs.Lay.{frame_in}
+use Rattle.curves.specs.Lay.{frame_in, laid_by, laid_of}
+use Rattle.turns.specs.Steps.{loops_of}
+use Rattle.turns.proofs.Laws.{all_traces}
 use Rattle.geometry.proofs.Laws.{none_drawn, all_gathered}
 use lib.ListN.{replicate}
 use Rattle.std.specs.Prelude.{None, Option, map}
-use Rattle.std.proofs.lemmas.List.{length-replicate}
+use Rattle.std.proofs.lemmas.List.{length-replicate, length-map}
 use Rattle.laws.specs.Put.{put}
 use Rattle.trace.specs.Form.{trace_in}
 use Rattle.label_spots.specs.declared.Geometry.{Geometry}
 use Rattle.geometry.proofs.draw.Goals as goal
+
+pub run-requires : goal.run-requires
+run-requires g c = let f = frame_in c.args.frame.now in
+    let many : length (laid_of f) ≡ length f.arrows = length-map f.arrows (laid_by f) in
+    let traces : length c.lay.new.traces + loops_of (laid_of f) ≤ g.row.TRACES = omega (arith, c.lay.ensures.many, all_traces (laid_of f), many, c.requires.traces) in
+    search rules
 
 pub gather-requires : goal.gather-requires
 gather-requires g c = let a = c.args in

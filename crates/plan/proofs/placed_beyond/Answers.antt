@@ -1,5 +1,5 @@
 -- `plan::placed_beyond` meets its contract.
-use Rattle.std.proofs.Common.{ap, ◌∙◌, arith, length-take-le}
+use Rattle.std.proofs.Common.{ap, ◌∙◌}
 use Rattle.beyond.specs.Beyond.{beyond}
 use Rattle.layout.specs.Lent.{plan_in}
 use Rattle.layout.specs.Laws.{frame_placed}
@@ -7,5 +7,4 @@ use Rattle.plan.proofs.placed_beyond.Goals as goal
 
 pub returns : goal.returns
 returns c = c.beyond.ensures
-    ∙ ap beyond (frame_placed (plan_in c.args.plan.now) c.place.new.centres c.zeroed.new.room
-    (c.place.auto.centres ∙ length-take-le _ _ (omega arith)) c.zeroed.ensures c.args.placement c.place.ensures)
+    ∙ ap beyond (frame_placed (plan_in c.args.plan.now) c.place.new.centres _ c.counted.ensures.all c.args.placement c.place.ensures)

@@ -1,14 +1,14 @@
 -- `turns::Drawing::pass` meets its contract.
-use Rattle.std.proofs.Common.{◌≡◌, drop}
+use Rattle.std.proofs.Common.{◌≡◌, take, drop}
 use Rattle.laws.specs.Loops.{over}
 use Rattle.routing.specs.Routing.{numbered}
 use Rattle.routing_laws.specs.Passes.{turned, passed}
 use Rattle.curves.specs.Lay.{frame_in}
-use Rattle.turns.specs.Steps.{Grown, drawn_in, pass_of, more}
+use Rattle.turns.specs.Steps.{Grown, drawn_in, pass_of, many_of, more}
 use Rattle.turns.proofs.Drawing.pass.Given as goal
 
 abbrev pub invariant-loop-i : goal.invariant-loop-i
 invariant-loop-i g l =
-    Grown l.initial.self l.self l.i (more l.sort l.i)
+    Grown l.initial.self l.self (many_of l.sort (take l.i l.laid)) (more l.sort (many_of l.sort (take l.i l.laid)))
     × (over (turned (frame_in l.frame) l.sizes (pass_of l.sort)) (drawn_in (frame_in l.frame) l.self) (drop l.i (numbered (frame_in l.frame)))
     ≡ passed (frame_in l.frame) l.sizes (pass_of l.sort) (drawn_in (frame_in l.frame) l.initial.self))

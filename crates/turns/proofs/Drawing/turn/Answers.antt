@@ -15,7 +15,7 @@ loop_of-g-requires g c = let a = c.args in
     let f = frame_in a.frame.now in
     let k : a.i < length a.laid.now = omega (arith, ap length c.requires.all, length-map f.arrows (laid_by f), c.requires.arrow.0) in
     let s = loop_state f a.i (sym (laid_at f a.i a.laid.now _ c.requires.all c.requires.arrow.0 k) ∙ c.in-Loop.is) in
-    let state : (numbered_at f a.i).ends.source < length a.frame.now.centres.now = omega (arith, s, c.requires.whole.level) in
+    let state : (numbered_at f a.i).ends.source < length a.frame.now.centres.now = omega (arith, s, a.frame.now.level) in
     search rules
 
 pub returns-in-Loop-clause-turned : goal.returns-in-Loop-clause-turned

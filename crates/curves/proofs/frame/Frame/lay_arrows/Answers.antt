@@ -3,7 +3,7 @@ use Rattle.std.proofs.Common.{refl, ap, ◌∙◌, arith, ◌++◌, length, [], 
 use Rattle.curves.specs.Lay.{frame_in, laid_by}
 use Rattle.laws.specs.Lists.{get_d_any}
 use Rattle.curves.proofs.Laws.{map_more, map_end}
-use Rattle.curves.proofs.Frame.lay_arrows.Goals as goal
+use Rattle.curves.proofs.frame.Frame.lay_arrows.Goals as goal
 
 pub loop-e-init : goal.loop-e-init
 loop-e-init g c = (omega arith, refl)

@@ -1,7 +1,7 @@
 -- `curves::Frame::lay_arrows` meets its contract.
 use Rattle.std.proofs.Common.{◌≡◌, ◌++◌, ◌+◌, length, map, drop}
 use Rattle.curves.specs.Lay.{frame_in, laid_by}
-use Rattle.curves.proofs.Frame.lay_arrows.Given as goal
+use Rattle.curves.proofs.frame.Frame.lay_arrows.Given as goal
 
 abbrev pub invariant-loop-e : goal.invariant-loop-e
 invariant-loop-e g l =

@@ -1,7 +1,7 @@
 -- `layout::Plan::layers` meets its contract.
 use Rattle.std.proofs.Common.{arith}
 use Rattle.sheet.specs.Starts.{start-below}
-use Rattle.layout.proofs.Plan.layers.Goals as goal
+use Rattle.layout.proofs.plan.Plan.layers.Goals as goal
 
 pub layered-requires : goal.layered-requires
 layered-requires c = (

@@ -1,7 +1,7 @@
 -- `curves::Frame::meet` meets its contract.
 use Rattle.std.proofs.Common.{◌≡◌, ◌++◌, ◌+◌, ◌≤◌, length, drop}
 use Rattle.curves.specs.Lay.{all_met}
-use Rattle.curves.proofs.Frame.meet.Given as goal
+use Rattle.curves.proofs.frame.Frame.meet.Given as goal
 
 abbrev pub invariant-loop-i : goal.invariant-loop-i
 invariant-loop-i l =

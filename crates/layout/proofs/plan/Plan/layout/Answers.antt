@@ -4,7 +4,7 @@ use Rattle.std.proofs.Math.Path.{refl}
 use Rattle.layout.specs.Layout.{kind_number}
 use Rattle.layout.specs.Lent.{plan_in, placing_of}
 use Rattle.layout.specs.Laws.{placed_points, left_none, left_chosen}
-use Rattle.layout.proofs.Plan.layout.Goals as goal
+use Rattle.layout.proofs.plan.Plan.layout.Goals as goal
 
 pub returns-then-is_empty : goal.returns-then-is_empty
 returns-then-is_empty c =

@@ -2,7 +2,7 @@
 use Rattle.std.proofs.Common.{refl, arith, ◌<◌, length}
 use Rattle.laws.specs.Lists.{get_d_any}
 use Rattle.curves.proofs.Laws.{met_more, met_end}
-use Rattle.curves.proofs.Frame.meet.Goals as goal
+use Rattle.curves.proofs.frame.Frame.meet.Goals as goal
 
 pub loop-i-init : goal.loop-i-init
 loop-i-init c = (omega arith, refl)
