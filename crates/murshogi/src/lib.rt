@@ -21,7 +21,8 @@ fn limits_of(limits: &[usize; 3]) -> sheet::Limits
     }
 }
 
-// What a call returns that fills one place with its values: 0, or the number of the refusal.
+// What a call returns that fills one place with its values: 0, or the number of the refusal. (`murshogi_check` fills no place,
+// and `murshogi_layout` two.)
 fn filled<A, B: Copy, F: FnOnce(A) -> B>(answered: Result<A, Refusal>, place: &mut B, held: F) -> u8
     requires { F.IsAlwaysCallable held }
     ensures { (good : A → B) → ((values : A) (b : B) → F.post held values b → b ≡ good values)
@@ -42,10 +43,8 @@ fn filled<A, B: Copy, F: FnOnce(A) -> B>(answered: Result<A, Refusal>, place: &m
 pub extern "C" fn murshogi_check(sheet: &[u8], limits: &[usize; 3]) -> u8
     ensures { result ≡ S.returned (C.check sheet.now (S.limits_in limits.now)) }
 {
-    let m = limits_of(limits);
-    let c = calls::check(sheet, m);
     // Not by `filled`: there is no place to fill.
-    match c {
+    match calls::check(sheet, limits_of(limits)) {
         Ok(()) => 0,
         Err(refusal) => refusal.into(),
     }
@@ -95,9 +94,8 @@ pub extern "C" fn murshogi_layout(
         × (states.new ≡ S.held_after S.layout_states laid states.old) }
 {
     let m = limits_of(limits);
-    let c = calls::layout(sheet, m, kind, x, y);
     // Not by `filled`: there are two places to fill.
-    match c {
+    match calls::layout(sheet, m, kind, x, y) {
         Ok((n, w, h)) => {
             *size = [w, h];
             *states = n;

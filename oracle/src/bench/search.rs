@@ -58,76 +58,51 @@ fn counted(name: &str) -> HashMap<u64, u64> {
     counts
 }
 
-/// Calls of `bend::next_from`: how many, and how often each part of a step is executed: the look at the first of two
-/// arrows, the look at the second, the way to the next two.
+/// The looks of the searches that a drawing makes, as `bend::leads` goes through the arrows: at an arrow's source, and
+/// at its target where the source is the wanted one.
 #[derive(Default)]
-struct Calls {
-    many: u64,
-    parts: [u64; 3],
+struct Looks {
+    searches: u64,
+    sources: u64,
+    targets: u64,
 }
 
-impl Calls {
-    /// The first arrow from k on that leaves a, or the number of arrows.
-    fn next_from(&mut self, sources: &[u16], a: u16, k: usize) -> usize {
-        self.many += 1;
-        let mut i = k;
-        for _ in 0..(sources.len() - k) / 2 {
-            self.parts[0] += 1;
-            if sources[i] == a {
-                return i;
-            }
-            self.parts[1] += 1;
-            if sources[i + 1] == a {
-                return i + 1;
-            }
-            self.parts[2] += 1;
-            i += 2;
-        }
-        if i < sources.len() && sources[i] != a { sources.len() } else { i }
-    }
-}
-
-/// The searches of a drawing, as `bend::leads` makes them: the first call of each, and the later ones.
-fn searches(sheet: &Sheet) -> [Calls; 2] {
-    let (sources, targets): (Vec<u16>, Vec<u16>) = sheet.arrows.iter().map(|a| (a.from, a.to)).unzip();
+fn looks(sheet: &Sheet) -> Looks {
     let state = |i: u16| usize::from(i) < sheet.states.len();
-    let mut calls: [Calls; 2] = Default::default();
-    for (&a, &b) in sources.iter().zip(&targets).filter(|(a, b)| a != b && state(**a) && state(**b)) {
-        let mut k = calls[0].next_from(&sources, b, 0);
-        while k < sources.len() && targets[k] != a {
-            k = calls[1].next_from(&sources, b, k + 1);
+    let mut looks = Looks::default();
+    for e in sheet.arrows.iter().filter(|e| e.from != e.to && state(e.from) && state(e.to)) {
+        looks.searches += 1;
+        for a in &sheet.arrows {
+            looks.sources += 1;
+            if a.from == e.to {
+                looks.targets += 1;
+                if a.to == e.from {
+                    break;
+                }
+            }
         }
     }
-    calls
+    looks
 }
 
-/// Instructions of each part of a step, as the library is compiled.
-const PARTS: [u64; 3] = [2, 2, 3];
-/// Instructions that a call is taken to have besides its steps, the look at the target behind it included: somewhat
-/// more than the compiled code has on the sheets without a hub.
+/// Instructions that a search is taken to have besides its looks.
 const AROUND: u64 = 15;
 /// The search is made for 9, and again where the curves are laid.
-const TIMES: usize = 2;
+const TIMES: u64 = 2;
 
-impl Calls {
-    fn instructions(&self) -> u64 {
-        PARTS.iter().zip(self.parts).map(|(n, times)| n * times).sum::<u64>() + AROUND * self.many
-    }
-}
-
-/// The table of parts. Where no other loop is as long by chance, callgrind has to have seen just the instructions of the
-/// steps, of first and of later calls, as often as the search takes them.
+/// The table of parts: the instructions that callgrind sees executed once for each look at a source or at a target, of
+/// both searches, and what is around them.
 pub fn print() {
     println!("| lines an arrow, at most | route, thousands | search, thousands | part |");
     println!("|---|---|---|---|");
     for name in SHEETS {
         let counts = counted(name);
-        let calls = searches(&made(name).sheet);
-        let seen = counts.values().filter(|n| calls.iter().any(|c| c.parts.contains(n))).count();
-        let steps = TIMES * calls.len() * PARTS.iter().sum::<u64>() as usize;
-        assert!(seen == steps || name == HUB, "{seen} instructions for {steps}");
+        let looks = looks(&made(name).sheet);
+        let seen = |n: u64| counts.values().filter(|k| **k == n).count() as u64;
+        let (sources, targets) = (seen(looks.sources), seen(looks.targets));
+        eprintln!("{name}: {sources} for a source, {targets} for a target; {} {} {}", looks.searches, looks.sources, looks.targets);
         let whole: u64 = counts.values().sum();
-        let search = TIMES as u64 * calls.iter().map(Calls::instructions).sum::<u64>();
+        let search = sources * looks.sources + targets * looks.targets + TIMES * AROUND * looks.searches;
         let thousands = |n: u64| figure(n as f64 / 1000.0);
         println!("| {name} | {} | {} | {:.2} % |", thousands(whole), thousands(search), 100.0 * search as f64 / whole as f64);
     }
