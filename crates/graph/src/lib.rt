@@ -29,8 +29,7 @@ fn size_at(s: &[u8], k: u16) -> Block
     label::block_at(s, sheet::first_line_at(s, k))
 }
 
-// The states' flag bytes, the arrows' ends and the sizes of their labels, into arrays of the caller's: a struct of arrays
-// would be copied when it is answered.
+// The states' flag bytes, the arrows' ends and the sizes of their labels.
 pub fn read_graph(s: &[u8], flags: &mut [u8], arrows: &mut [Ends], sizes: &mut [Block])
     requires a_state_each { length flags.old ≡ length (S.states_of s.now) }
     requires an_arrow_each { let many = length (S.arrows_of s.now) in
