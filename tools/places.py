@@ -72,17 +72,16 @@ shapes = collections.defaultdict(list)
 word = re.compile(r"[^\W\d]\w*|\d\w*")
 stay = set('if else while loop for in match return fn pub let mut break true false as'.split())
 for path, text in files.items():
-    for m in re.finditer(r'^[ \t]*(?:pub )?fn (\w+)', text, re.M):
-        body = text.find('\n{\n', m.start())
-        other = text.find('{\n', m.start())
+    for m in re.finditer(r'^([ \t]*)(?:pub )?fn (\w+)', text, re.M):
+        body = text.find('\n' + m.group(1) + '{\n', m.start())
         if body < 0:
             continue
-        end = text.find('\n}\n', body)
+        end = text.find('\n' + m.group(1) + '}\n', body)
         lines = [l.strip() for l in text[body:end].splitlines() if l.strip() and not l.strip().startswith('//')]
         if len(lines) < 7:
             continue
         shape = '\n'.join(word.sub(lambda w: w.group(0) if w.group(0) in stay else 'a', l) for l in lines)
-        shapes[shape].append(f'{path}:{text.count(chr(10), 0, m.start()) + 1}: {m.group(1)}')
+        shapes[shape].append(f'{path}:{text.count(chr(10), 0, m.start()) + 1}: {m.group(2)}')
 counts['2 functions whose bodies have one shape, six lines or more'] = [p for group in shapes.values() if len(group) > 1 for p in group]
 
 # 3

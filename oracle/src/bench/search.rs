@@ -85,12 +85,13 @@ fn looks(sheet: &Sheet) -> Looks {
     looks
 }
 
-/// Instructions that a search is taken to have besides its looks.
+/// Instructions that a search is taken to have at the target of an arrow that leaves the wanted state, and around its looks.
+const AT_TARGET: u64 = 2;
 const AROUND: u64 = 15;
 /// The search is made for 9, and again where the curves are laid.
 const TIMES: u64 = 2;
 
-/// The table of parts: the instructions that callgrind sees executed once for each look at a source or at a target, of
+/// The table of parts: what callgrind sees executed once for each look at a source, but for the last of a search, of
 /// both searches, and what is around them.
 pub fn print() {
     println!("| lines an arrow, at most | route, thousands | search, thousands | part |");
@@ -98,11 +99,10 @@ pub fn print() {
     for name in SHEETS {
         let counts = counted(name);
         let looks = looks(&made(name).sheet);
-        let seen = |n: u64| counts.values().filter(|k| **k == n).count() as u64;
-        let (sources, targets) = (seen(looks.sources), seen(looks.targets));
-        eprintln!("{name}: {sources} for a source, {targets} for a target; {} {} {}", looks.searches, looks.sources, looks.targets);
+        let looked = looks.sources - looks.searches..=looks.sources;
+        let steps: u64 = counts.values().filter(|n| looked.contains(*n)).sum();
         let whole: u64 = counts.values().sum();
-        let search = sources * looks.sources + targets * looks.targets + TIMES * AROUND * looks.searches;
+        let search = steps + TIMES * (AT_TARGET * looks.targets + AROUND * looks.searches);
         let thousands = |n: u64| figure(n as f64 / 1000.0);
         println!("| {name} | {} | {} | {:.2} % |", thousands(whole), thousands(search), 100.0 * search as f64 / whole as f64);
     }
