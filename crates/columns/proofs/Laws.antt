@@ -263,7 +263,7 @@ module _ (sizes order : List ℕ) (l : ℕ) (cs : List (List ℕ)) (v : split si
   inside = omega (arith, h, ap length v, length-split sizes order)
 
   -- where it begins and how many states it has, as the code reads them
-  module _ (a k : ℕ) (seen : List ℕ) (s : seen ≡ sizes) (fit : sum_all sizes ≤ 64) (e : a ≡ sum_all (take l seen))
+  module _ (a k : ℕ) (seen : List ℕ) (s : seen ≡ sizes) (fit : sum_all sizes ≤ length order) (e : a ≡ sum_all (take l seen))
       (f : k ≡ get_or seen l 0) where
     start_is : a ≡ sum_all (take l sizes)
     start_is = e ∙ ap (λ (x : List ℕ). sum_all (take l x)) s
@@ -271,7 +271,7 @@ module _ (sizes order : List ℕ) (l : ℕ) (cs : List (List ℕ)) (v : split si
     size_is : k ≡ get_or sizes l 0
     size_is = f ∙ ap (λ (x : List ℕ). get_or x l 0) s
 
-    pub room_for : a + k ≤ 64
+    pub room_for : a + k ≤ length order
     room_for = omega (arith, start_is, size_is, sum_fits sizes l inside, fit)
 
     wide : a + k - a ≡ get_or sizes l 0
@@ -281,16 +281,15 @@ module _ (sizes order : List ℕ) (l : ℕ) (cs : List (List ℕ)) (v : split si
     part_is = ap₂ (λ (j b : ℕ). take j (drop b order)) wide start_is ∙ sym (split_at_column sizes l order inside)
         ∙ ap (λ (x : List (List ℕ)). get_or x l []) v
 
-    module _ (room : length order ≡ 64) where
-      pub column_long : k ≡ length (get_or cs l [])
-      column_long = sym (part_length a (a + k - a) order (omega (arith, room, room_for)) ∙ omega arith) ∙ ap length part_is
+    pub column_long : k ≡ length (get_or cs l [])
+    column_long = sym (part_length a (a + k - a) order (omega (arith, room_for)) ∙ omega arith) ∙ ap length part_is
 
-      -- another column of its size in its place
-      pub part_set : (d : List ℕ) → length d ≡ k → split sizes (take a order ++ (d ++ drop (a + k - a) (drop a order))) ≡ set cs l d
-      part_set d g =
-          ap₂ (λ (j b : ℕ). split sizes (take b order ++ (d ++ drop j (drop b order)))) wide start_is
-          ∙ split-set sizes l order d inside (g ∙ size_is) (omega (arith, fit, room))
-          ∙ ap (λ (x : List (List ℕ)). set x l d) v
+    -- another column of its size in its place
+    pub part_set : (d : List ℕ) → length d ≡ k → split sizes (take a order ++ (d ++ drop (a + k - a) (drop a order))) ≡ set cs l d
+    part_set d g =
+        ap₂ (λ (j b : ℕ). split sizes (take b order ++ (d ++ drop j (drop b order)))) wide start_is
+        ∙ split-set sizes l order d inside (g ∙ size_is) (omega (arith, fit))
+        ∙ ap (λ (x : List (List ℕ)). set x l d) v
 
 -- ---- what the check is given for a function
 pub ruleset following = (follow_yes, follow_no, fair_room, target_in)

@@ -58,29 +58,43 @@ fn counted(name: &str) -> HashMap<u64, u64> {
     counts
 }
 
-/// The looks of the searches that a drawing makes, as `bend::leads` goes through the arrows: at an arrow's source, and
-/// at its target where the source is the wanted one.
+/// The searches that a drawing makes, as `bend::leads` goes through the arrows: how many, how often each part of a step
+/// is executed (the look at the source of the first of two arrows, that at the second's, the way to the next two), and
+/// how often an arrow's target is looked at, since its source is the wanted one.
 #[derive(Default)]
 struct Looks {
     searches: u64,
-    sources: u64,
+    parts: [u64; 3],
     targets: u64,
+}
+
+impl Looks {
+    /// Whether some arrow leads from a to b.
+    fn search(&mut self, sheet: &Sheet, a: u16, b: u16) -> bool {
+        self.searches += 1;
+        let steps = sheet.arrows.chunks_exact(2);
+        let last = steps.remainder();
+        for two in steps {
+            for (k, e) in two.iter().enumerate() {
+                self.parts[k] += 1;
+                if e.from == a {
+                    self.targets += 1;
+                    if e.to == b {
+                        return true;
+                    }
+                }
+            }
+            self.parts[2] += 1;
+        }
+        last.iter().any(|e| e.from == a && e.to == b)
+    }
 }
 
 fn looks(sheet: &Sheet) -> Looks {
     let state = |i: u16| usize::from(i) < sheet.states.len();
     let mut looks = Looks::default();
     for e in sheet.arrows.iter().filter(|e| e.from != e.to && state(e.from) && state(e.to)) {
-        looks.searches += 1;
-        for a in &sheet.arrows {
-            looks.sources += 1;
-            if a.from == e.to {
-                looks.targets += 1;
-                if a.to == e.from {
-                    break;
-                }
-            }
-        }
+        looks.search(sheet, e.to, e.from);
     }
     looks
 }
@@ -91,16 +105,16 @@ const AROUND: u64 = 15;
 /// The search is made for 9, and again where the curves are laid.
 const TIMES: u64 = 2;
 
-/// The table of parts: what callgrind sees executed once for each look at a source, but for the last of a search, of
-/// both searches, and what is around them.
+/// The table of parts: what callgrind sees executed as often as a part of a step, or once more for a search, of both
+/// searches, and what is around them.
 pub fn print() {
     println!("| lines an arrow, at most | route, thousands | search, thousands | part |");
     println!("|---|---|---|---|");
     for name in SHEETS {
         let counts = counted(name);
         let looks = looks(&made(name).sheet);
-        let looked = looks.sources - looks.searches..=looks.sources;
-        let steps: u64 = counts.values().filter(|n| looked.contains(*n)).sum();
+        let stepped = looks.parts[2]..=looks.parts[0] + looks.searches;
+        let steps: u64 = counts.values().filter(|n| stepped.contains(*n)).sum();
         let whole: u64 = counts.values().sum();
         let search = steps + TIMES * (AT_TARGET * looks.targets + AROUND * looks.searches);
         let thousands = |n: u64| figure(n as f64 / 1000.0);
