@@ -1,7 +1,7 @@
 -- A step of each loop, and its end; what the search leaves, and the columns as parts of the order. Assumes nothing.
 use mathlib.Core.Path.{◌≡◌, refl, sym, ap, ap₂, subst, ◌∙◌}
-use mathlib.Core.Bool.{Bool, ◌||◌}
-use Rattle.std.specs.List.{list_any, sum}
+use mathlib.Core.Bool.{Bool, true, false, ◌||◌}
+use Rattle.std.specs.List.{list_any, sum, position_or_len}
 use Rattle.std.proofs.lemmas.List.Sums.{sum_by-cons}
 use Rattle.std.specs.Prelude.{eqb}
 use mathlib.Core.List.{List, [], ◌∷◌, ◌++◌, append-nil, append_assoc}
@@ -14,7 +14,7 @@ use lib.Seq.{drop-cons, take_all, get_or-take, take_at, drop_at}
 use Rattle.laws.specs.Flat.{table}
 use Rattle.laws.specs.Lists.{part_length}
 use Rattle.laws.specs.Loops.{over}
-use Rattle.laws.specs.Split.{split, split_snoc, split-take, flat_split, split_at_column, split-set, length-split, sum_all, sum_snoc}
+use Rattle.laws.specs.Split.{split, split_step, split_snoc, split-take, flat_split, split_at_column, split-set, length-split, sum_all, sum_snoc}
 use Rattle.laws.specs.Split.{sum_take, sum_fits}
 use Rattle.laws.specs.Put.{put, put_front}
 use Rattle.sheet.specs.declared.Ends.{Ends}
@@ -290,6 +290,18 @@ module _ (sizes order : List ℕ) (l : ℕ) (cs : List (List ℕ)) (v : split si
         ap₂ (λ (j b : ℕ). split sizes (take b order ++ (d ++ drop j (drop b order)))) wide start_is
         ∙ split-set sizes l order d inside (g ∙ size_is) (omega (arith, fit))
         ∙ ap (λ (x : List (List ℕ)). set x l d) v
+
+-- ---- column after column, for the one that holds v
+module _ (v : ℕ) (ks : List ℕ) (i a e : ℕ) (l : List ℕ) (h : i < length ks) (q : e ≡ a + get_or ks i 0) where
+  pub holding_hit : elem v (take (e - a) (drop a l)) ≡ true → position_or_len (elem v) (split (drop i ks) (drop a l)) ≡ 0
+  holding_hit t = ap (λ (c : List (List ℕ)). position_or_len (elem v) c) (split_step ks i a e l h q) ∙ rw t
+
+  pub holding_miss : elem v (take (e - a) (drop a l)) ≡ false → position_or_len (elem v) (split (drop i ks) (drop a l)) ≡ 1 + position_or_len (elem v) (split (drop (i + 1) ks) (drop e l))
+  holding_miss t = ap (λ (c : List (List ℕ)). position_or_len (elem v) c) (split_step ks i a e l h q) ∙ rw t
+
+pub holding_none : (v : ℕ) (ks : List ℕ) (i : ℕ) (l : List ℕ) → length ks ≤ i → position_or_len (elem v) (split (drop i ks) l) ≡ 0
+unfolding split
+holding_none v ks i l h = rw (drop_of_length-le ks h)
 
 -- ---- what the check is given for a function
 pub ruleset following = (follow_yes, follow_no, fair_room, target_in)

@@ -4,6 +4,7 @@
 ghost use Rattle.std.specs.Prelude.{◌≡◌, ℕ, false, List, [], ◌++◌, ◌^◌, ◌≤◌, ◌<◌, length, get_or, set, take, drop};
 ghost use Rattle.laws.specs.Loops.{over};
 ghost use Rattle.laws.specs.Split.{split, sum_all};
+ghost use Rattle.std.specs.List.{position_or_len};
 ghost use Rattle.columns.specs.Columns as D;
 ghost use Rattle.columns.specs.Found.{Fair, Reached, follow};
 
@@ -45,7 +46,7 @@ impl<'a> Net<'a> {
     fn leaves(&self, v: usize, arrow: Ends) -> bool
         ensures { result ≡ D.leaves self.now.states v arrow }
     {
-        directions::is_between(self.states, arrow.source, arrow.target) && arrow.source == v
+        arrow.source == v && directions::is_between(self.states, arrow.source, arrow.target)
     }
 
     // Follows one arrow from v.
@@ -158,6 +159,35 @@ fn start_of(sizes: &[usize], l: usize) -> usize
     sizes[..l].iter().sum()
 }
 
+// The number of the column that holds v, or how many columns there are. By number: where a column begins is carried on, and
+// not added up anew for each.
+fn column_holding(sizes: &[usize], order: &[usize], v: usize) -> usize
+    requires fits { sum_all sizes.now ≤ length order.now }
+    ensures { (result ≡ position_or_len (D.elem v) (split sizes.now order.now)) × (result ≤ length sizes.now) }
+{
+    let mut start: usize = 0;
+    for l in 0..sizes.len() {
+        let end = start + sizes[l];
+        if contains(&order[start..end], v) {
+            return l;
+        }
+        start = end;
+    }
+    sizes.len()
+}
+
+// Values one after another, as a stack.
+fn stacked<const N: usize>(values: &[usize]) -> Stack<usize, N>
+    requires { length values.now ≤ N }
+    ensures { result ≡ values.now }
+{
+    let mut stack = Stack::new(0);
+    for value in values {
+        stack.push(*value);
+    }
+    stack
+}
+
 // The columns one after another in `order`; `sizes` says how long each is. (`order` is an array, since columns are put in
 // another order within it, and a stack lends its values only to be read.)
 #[derive(Drop)]
@@ -188,6 +218,29 @@ impl<const N: usize> Columns<N> {
         let mut order = [0usize; N];
         slices::copy(found.as_slice(), &mut order);
         Columns { order, sizes }
+    }
+
+    // Columns of these sizes, one after another in `order`.
+    #[tactic(auto, using(crate::proofs::Laws::split_copied))]
+    pub fn of(order: &[usize], sizes: &[usize]) -> Self
+        requires all { sum_all sizes.now ≡ length order.now }
+        requires room { (length order.now ≤ N) × (length sizes.now ≤ N) }
+        ensures { result ≡ split sizes.now order.now }
+    {
+        let mut room = [0usize; N];
+        slices::copy(order, &mut room);
+        Columns {
+            order: room,
+            sizes: stacked(sizes),
+        }
+    }
+
+    // The number of the column that holds v, or how many columns there are.
+    pub fn place_of(&self, v: usize) -> usize
+        ensures place { result ≡ position_or_len (D.elem v) self.now }
+        ensures within { result ≤ N }
+    {
+        column_holding(self.sizes.as_slice(), &self.order, v)
     }
 
     // How many columns there are.

@@ -47,10 +47,7 @@ fn row_for(height: f64) -> f64
 fn column_of(columns: &Columns<64>, v: usize) -> usize
     ensures { (result ≡ D.column_of columns.now v) × (result ≤ 64) }
 {
-    let count = columns.count();
-    (0..count)
-        .find(|l| columns::contains(columns.column(*l), v))
-        .unwrap_or(count)
+    columns.place_of(v)
 }
 
 // The x of each state, with y 0.
