@@ -1,5 +1,5 @@
 -- `columns::column_holding` meets its contract.
-use Rattle.std.proofs.Common.{refl, sym, ap, ◌∙◌, ◌≡◌, ◌+◌, ℕ, get_or, drop, arith}
+use Rattle.std.proofs.Common.{refl, sym, ap, ◌∙◌, ◌+◌, ℕ, get_or, drop, arith}
 use Rattle.laws.specs.Split.{sum_all, sum_next, sum_fits}
 use Rattle.columns.proofs.Laws.{holding_hit, holding_miss, holding_none}
 use Rattle.columns.proofs.column_holding.Goals as goal
