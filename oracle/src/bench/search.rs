@@ -99,24 +99,34 @@ fn looks(sheet: &Sheet) -> Looks {
     looks
 }
 
-/// Instructions that a search is taken to have at the target of an arrow that leaves the wanted state, and around its looks.
+/// Instructions of each part of a step, as the library is compiled.
+const PARTS: [u64; 3] = [3, 2, 4];
+/// Instructions that a search is taken to have at the target of an arrow that leaves the wanted state, and around its steps.
 const AT_TARGET: u64 = 2;
 const AROUND: u64 = 15;
 /// The search is made for 9, and again where the curves are laid.
 const TIMES: u64 = 2;
 
-/// The table of parts: what callgrind sees executed as often as a part of a step, or once more for a search, of both
-/// searches, and what is around them.
+impl Looks {
+    fn instructions(&self) -> u64 {
+        let steps: u64 = PARTS.iter().zip(self.parts).map(|(n, times)| n * times).sum();
+        steps + AT_TARGET * self.targets + AROUND * self.searches
+    }
+}
+
+/// The table of parts. Where no other loop is as long by chance, callgrind has to have seen just the instructions of the
+/// steps, as often as the searches take them.
 pub fn print() {
     println!("| lines an arrow, at most | route, thousands | search, thousands | part |");
     println!("|---|---|---|---|");
     for name in SHEETS {
         let counts = counted(name);
         let looks = looks(&made(name).sheet);
-        let stepped = looks.parts[2]..=looks.parts[0] + looks.searches;
-        let steps: u64 = counts.values().filter(|n| stepped.contains(*n)).sum();
+        let seen = counts.values().filter(|n| looks.parts.contains(n)).count() as u64;
+        let steps = TIMES * PARTS.iter().sum::<u64>();
+        assert!(seen == steps || name == HUB, "{seen} instructions for {steps}");
         let whole: u64 = counts.values().sum();
-        let search = steps + TIMES * (AT_TARGET * looks.targets + AROUND * looks.searches);
+        let search = TIMES * looks.instructions();
         let thousands = |n: u64| figure(n as f64 / 1000.0);
         println!("| {name} | {} | {} | {:.2} % |", thousands(whole), thousands(search), 100.0 * search as f64 / whole as f64);
     }
