@@ -1,6 +1,7 @@
 -- Each way through the code, as the definitions have it: what the calls give are variables. Assumes nothing.
 use Rattle.std.specs.Prelude.{◌≡◌, Bool, true, false, ◌||◌, List, ◌++◌, map, ℕ, ◌+◌, ◌*◌, ◌≤◌, ◌<◌, length, get_or, set, take, drop, Float}
 use Rattle.std.proofs.Common.{sym, ap, ◌∙◌, arith, lt-ltb, le-ltb, length-take-le}
+use mathlib.Core.List.{flat_map}
 use Rattle.std.proofs.lemmas.List.{take_more, length-map}
 use Rattle.std.proofs.Math.ListN.{get_or-map}
 use Rattle.laws.specs.Put.{put, put_front, put_mid}
@@ -10,7 +11,7 @@ use Rattle.laws.specs.Refusals.{decide}
 use Rattle.laws.specs.Bools.{or-second, or_none}
 use Rattle.shape.specs.declared.«V».{«V»}
 use Rattle.label_spots.specs.declared.Geometry.{Geometry}
-use Rattle.records.specs.Records.{fields}
+use Rattle.records.specs.Records.{fields, decode_records}
 use Rattle.records.specs.Back.{length-records, put_record}
 use Rattle.drawing_text.specs.Lines.{paths_text, paths_writable}
 use Rattle.refusal.specs.Refused.{Outcome, values, number}
@@ -32,6 +33,17 @@ record_step gs k j d l out r part h o e i p =
     ∙ ap (λ (m : ℕ). put (put l 0 (numbers_of (take k gs))) (20 * m) (fields g)) (sym n)
     ∙ put_record l (take k gs) g
     ∙ ap (λ (hs : List Geometry). put l 0 (numbers_of hs)) (sym (take_more gs k d h))
+
+-- numbers that begin with n records as they are written: "Each record is written into its own twenty numbers"
+abbrev pub AsWritten : ℕ → List Float → Type 0
+AsWritten n drawing = take (20 * n) drawing ≡ flat_map fields (decode_records n drawing)
+
+-- records as they are written stand as they do in these numbers
+pub records-onto : (drawing l : List Float) (n : ℕ) → 20 * n ≤ length drawing → AsWritten n drawing → 20 * n ≤ length l
+    → put l 0 (flat_map fields (decode_records n drawing)) ≡ onto (take (20 * n) drawing) l
+records-onto drawing l n h w i =
+    ap (put l 0) (sym w)
+    ∙ put_front l (take (20 * n) drawing) (omega (arith, length-take-le (20 * n) drawing h))
 
 -- ---- fill
 

@@ -4,3 +4,4 @@ pub mod Turns
 pub mod Demand
 pub mod Decoded
 pub mod Agree
+pub mod Rim

@@ -4,5 +4,6 @@ pub mod Order
 pub mod Slots
 pub mod Demand
 pub mod Turns
+pub mod RimAngles
 pub mod Rim
 pub mod Agree
