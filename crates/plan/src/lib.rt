@@ -133,14 +133,15 @@ fn plan_accepted(s: &[u8], kind: Kind, centres: &mut [V]) -> Result<(usize, Size
     )
 }
 
-// Checks a sheet under the limits and lays it out by kind: how many states there are, the size of the drawing, and the
-// centres from the front of `centres` on, or a refusal. There is room for 64 states and 256 arrows.
-pub fn plan(s: &[u8], m: Limits, kind: Kind, centres: &mut [V]) -> Result<(usize, Size), Refusal>
+// Checks a sheet under the limits and lays it out by kind, 0 Auto, 1 Layered, 2 Circular: how many states there are, the
+// size of the drawing, and the centres from the front of `centres` on, or a refusal. There is room for 64 states and 256
+// arrows.
+pub fn plan(s: &[u8], m: Limits, kind: u8, centres: &mut [V]) -> Result<(usize, Size), Refusal>
     requires { (m.states ≤ 64) × (m.arrows ≤ 256) × (64 ≤ length centres.old) }
-    ensures { let number = L.kind_number kind in
-        (outcome result ≡ S.planned m number s.now)
-        × (centres.new ≡ S.centres_planned m number s.now centres.old) }
+    ensures { (outcome result ≡ S.planned m kind s.now)
+        × (centres.new ≡ S.centres_planned m kind s.now centres.old) }
 {
+    let kind = Kind::try_from(kind)?;
     sheet_check::check_within(s, m)?;
     plan_accepted(s, kind, centres)
 }
