@@ -32,14 +32,17 @@ fn draw<const ARROWS: usize, const TRACES: usize>(
         (result ≡ length drawn) × (out.new ≡ put out.old 0 drawn) }
 {
     let mut laid: Stack<Laid, ARROWS> = Stack::new(Laid::LeftOut);
-    let mut drawing: Drawing<ARROWS, TRACES> = Drawing {
-        boxes: Stack::new(Rect::NONE),
-        traces: Stack::new(Trace::NONE),
-        drawn: [None; ARROWS],
+    let mut boxes: Stack<Rect, ARROWS> = Stack::new(Rect::NONE);
+    let mut traces: Stack<Trace, TRACES> = Stack::new(Trace::NONE);
+    let mut drawn: [Option<Geometry>; ARROWS] = [None; ARROWS];
+    frame.lay(&mut laid, &mut traces);
+    let mut drawing = Drawing {
+        boxes: &mut boxes,
+        traces: &mut traces,
+        drawn: &mut drawn,
     };
-    frame.lay(&mut laid, &mut drawing.traces);
     drawing.run(frame, laid.as_slice(), sizes);
-    turns::gather(&drawing.drawn, out)
+    turns::gather(drawing.drawn, out)
 }
 
 // The drawing of a graph at given centres: a record for each arrow that has one, in arrow order; how many. Setting

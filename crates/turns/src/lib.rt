@@ -11,13 +11,15 @@ ghost use Rattle.routing_laws.specs.Passes.{turned, passed, gathered};
 ghost use Rattle.curves.specs.Lay.{frame_in, laid_of};
 ghost use Rattle.turns.specs.Steps as S;
 
+mod drawing;
+
 use bend::Shape;
 use curves::{Crossing, Frame, Laid};
+pub use drawing::Drawing;
 use label::Block;
 use label_spots::{Geometry, Turn};
 use scene::Scene;
 use self_loop::Loop;
-use shape::Rect;
 use stack::Stack;
 use trace::Trace;
 
@@ -43,15 +45,7 @@ fn is_sort(laid: &Laid, sort: Sort) -> bool
     }
 }
 
-// What is drawn so far: the labels' boxes, the traces, and the drawing of each arrow that has one.
-#[derive(Drop)]
-pub struct Drawing<const ARROWS: usize, const TRACES: usize> {
-    pub boxes: Stack<Rect, ARROWS>,
-    pub traces: Stack<Trace, TRACES>,
-    pub drawn: [Option<Geometry>; ARROWS],
-}
-
-impl<const ARROWS: usize, const TRACES: usize> Drawing<ARROWS, TRACES> {
+impl<'a, const ARROWS: usize, const TRACES: usize> Drawing<'a, ARROWS, TRACES> {
     // Loop i in the direction that it takes.
     fn loop_of(&self, frame: &Frame, laid: &[Laid], size: Block, i: usize) -> Geometry
         requires all { laid.now ≡ laid_of (frame_in frame.now) }
@@ -98,8 +92,8 @@ impl<const ARROWS: usize, const TRACES: usize> Drawing<ARROWS, TRACES> {
 
     // Adds the drawing of arrow i: its label's box enters the scene.
     fn add(&mut self, i: usize, g: Geometry)
-        requires room { (length self.old.boxes < ARROWS) × (i < ARROWS) }
-        ensures { self.new ≡ S.added self.old i g }
+        requires room { (length self.old.boxes.now < ARROWS) × (i < ARROWS) }
+        ensures { S.Added self.old self.new i g }
     {
         self.boxes.push(g.label_box);
         self.drawn[i] = Some(g);
@@ -109,8 +103,8 @@ impl<const ARROWS: usize, const TRACES: usize> Drawing<ARROWS, TRACES> {
     fn turn(&mut self, frame: &Frame, laid: &[Laid], size: Block, i: usize)
         requires all { laid.now ≡ laid_of (frame_in frame.now) }
         requires arrow { (i < length frame.now.arrows.now) × (i < ARROWS) }
-        requires room { (length self.old.boxes < ARROWS)
-            × (length self.old.traces + S.looped_at laid.now i ≤ TRACES) }
+        requires room { (length self.old.boxes.now < ARROWS)
+            × (length self.old.traces.now + S.looped_at laid.now i ≤ TRACES) }
         ensures turned { let f = frame_in frame.now in
             S.drawn_in f self.new ≡ S.turned_by f size i (S.drawn_in f self.old) }
         ensures many { S.Grown self.old self.new 1 (S.looped_at laid.now i) }
@@ -135,7 +129,7 @@ impl<const ARROWS: usize, const TRACES: usize> Drawing<ARROWS, TRACES> {
         requires sized { length sizes.now ≡ length frame.now.arrows.now }
         requires arrow { (i < length frame.now.arrows.now) × (i < ARROWS) }
         requires room { let one = S.one_at sort laid.now i in
-            (length self.old.boxes + one ≤ ARROWS) × (length self.old.traces + S.more sort one ≤ TRACES) }
+            (length self.old.boxes.now + one ≤ ARROWS) × (length self.old.traces.now + S.more sort one ≤ TRACES) }
         ensures turned { let f = frame_in frame.now in
             S.drawn_in f self.new ≡ turned f sizes.now (S.pass_of sort) (S.drawn_in f self.old) (numbered_at f i) }
         ensures many { let one = S.one_at sort laid.now i in S.Grown self.old self.new one (S.more sort one) }
@@ -150,7 +144,7 @@ impl<const ARROWS: usize, const TRACES: usize> Drawing<ARROWS, TRACES> {
         requires all { laid.now ≡ laid_of (frame_in frame.now) }
         requires sized { (length sizes.now ≡ length frame.now.arrows.now) × (length frame.now.arrows.now ≤ ARROWS) }
         requires room { let many = S.many_of sort laid.now in
-            (length self.old.boxes + many ≤ ARROWS) × (length self.old.traces + S.more sort many ≤ TRACES) }
+            (length self.old.boxes.now + many ≤ ARROWS) × (length self.old.traces.now + S.more sort many ≤ TRACES) }
         ensures passed { let f = frame_in frame.now in
             S.drawn_in f self.new ≡ passed f sizes.now (S.pass_of sort) (S.drawn_in f self.old) }
         ensures many { let many = S.many_of sort laid.now in S.Grown self.old self.new many (S.more sort many) }
@@ -165,8 +159,8 @@ impl<const ARROWS: usize, const TRACES: usize> Drawing<ARROWS, TRACES> {
     pub fn run(&mut self, frame: &Frame, laid: &[Laid], sizes: &[Block])
         requires all { laid.now ≡ laid_of (frame_in frame.now) }
         requires sized { (length sizes.now ≡ length frame.now.arrows.now) × (length frame.now.arrows.now ≤ ARROWS) }
-        requires room { (length self.old.boxes + length frame.now.arrows.now ≤ ARROWS)
-            × (length self.old.traces + S.loops_of laid.now ≤ TRACES) }
+        requires room { (length self.old.boxes.now + length frame.now.arrows.now ≤ ARROWS)
+            × (length self.old.traces.now + S.loops_of laid.now ≤ TRACES) }
         ensures { let f = frame_in frame.now in
             S.drawn_in f self.new ≡ S.all_passed f sizes.now (S.drawn_in f self.old) }
     {

@@ -4,7 +4,7 @@ use Rattle.std.proofs.lemmas.List.{length-map}
 use Rattle.curves.specs.Lay.{frame_in, laid_by}
 use Rattle.turns.specs.Steps.{drawn_in, pass_of, one_at, more}
 use Rattle.turns.proofs.Laws.{pass_more, pass_end, pass_all, many_next, many_first, more_next, more_le}
-use Rattle.turns.proofs.Drawing.pass.Goals as goal
+use Rattle.turns.proofs.drawing.Drawing.pass.Goals as goal
 
 pub loop-i-init : goal.loop-i-init
 loop-i-init g c = let a = c.args in
@@ -16,8 +16,8 @@ turn_at-requires g c = let a = c.args in
     let l = c.loop-i in
     let h : l.i < length a.laid.now = omega (arith, ap length c.requires.all, length-map a.frame.now.arrows.now (laid_by (frame_in a.frame.now)), c.loop-i-test.true) in
     let many = many_first a.sort a.laid.now (l.i + 1) in
-    let boxes : length l.self.boxes + one_at a.sort a.laid.now l.i ≤ g.row.ARROWS = omega (arith, l.invariant.0.boxes, c.requires.room.0, many_next a.sort a.laid.now l.i h, many) in
-    let traces : length l.self.traces + more a.sort (one_at a.sort a.laid.now l.i) ≤ g.row.TRACES = omega (arith, l.invariant.0.traces, c.requires.room.1, more_next a.sort a.laid.now l.i h, more_le a.sort _ _ many) in
+    let boxes : length l.self.boxes.now + one_at a.sort a.laid.now l.i ≤ g.row.ARROWS = omega (arith, l.invariant.0.boxes, c.requires.room.0, many_next a.sort a.laid.now l.i h, many) in
+    let traces : length l.self.traces.now + more a.sort (one_at a.sort a.laid.now l.i) ≤ g.row.TRACES = omega (arith, l.invariant.0.traces, c.requires.room.1, more_next a.sort a.laid.now l.i h, more_le a.sort _ _ many) in
     search rules
 
 pub loop-i-preserved : goal.loop-i-preserved

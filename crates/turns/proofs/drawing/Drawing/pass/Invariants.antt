@@ -5,7 +5,7 @@ use Rattle.routing.specs.Routing.{numbered}
 use Rattle.routing_laws.specs.Passes.{turned, passed}
 use Rattle.curves.specs.Lay.{frame_in}
 use Rattle.turns.specs.Steps.{Grown, drawn_in, pass_of, many_of, more}
-use Rattle.turns.proofs.Drawing.pass.Given as goal
+use Rattle.turns.proofs.drawing.Drawing.pass.Given as goal
 
 abbrev pub invariant-loop-i : goal.invariant-loop-i
 invariant-loop-i g l =

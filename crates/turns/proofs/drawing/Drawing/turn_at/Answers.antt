@@ -6,7 +6,7 @@ use Rattle.turns.specs.Steps.{drawn_in}
 use Rattle.turns.proofs.Laws.{laid_at, turn_sort, turn_other}
 use Rattle.std.proofs.lemmas.List.{length-map}
 use Rattle.curves.specs.Lay.{laid_by}
-use Rattle.turns.proofs.Drawing.turn_at.Goals as goal
+use Rattle.turns.proofs.drawing.Drawing.turn_at.Goals as goal
 
 pub returns-then-is_sort-clause-turned : goal.returns-then-is_sort-clause-turned
 returns-then-is_sort-clause-turned g c = let a = c.args in
