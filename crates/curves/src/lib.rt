@@ -11,9 +11,11 @@ ghost use Rattle.curves.specs.Lay as S;
 ghost use Rattle.curves.specs.Counted as C;
 
 mod frame;
+mod laying;
 
 use bend::Routed;
 pub use frame::Frame;
+pub use laying::Laying;
 use shape::{Curve, NODE_RADIUS, START_ARROW_LENGTH, V};
 use sheet::Ends;
 use stack::Stack;

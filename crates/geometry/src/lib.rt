@@ -7,7 +7,7 @@ ghost use Rattle.routing.specs.Routing.{records};
 ghost use Rattle.curves.specs.Lay.{frame_in};
 ghost use Rattle.curves.specs.Counted.{frame_from};
 
-use curves::{Frame, Laid};
+use curves::{Frame, Laid, Laying};
 use label::Block;
 use label_spots::Geometry;
 use shape::{Rect, V};
@@ -43,7 +43,11 @@ fn draw<const ARROWS: usize, const TRACES: usize>(
         traces: &mut traces,
         drawn: &mut drawn,
     };
-    drawing.run(frame, laid.as_slice(), sizes);
+    let laying = Laying {
+        frame: *frame,
+        laid: laid.as_slice(),
+    };
+    drawing.run(&laying, sizes);
     turns::gather(drawing.drawn, out)
 }
 

@@ -9,6 +9,6 @@ use Rattle.turns.proofs.drawing.Drawing.pass.Given as goal
 
 abbrev pub invariant-loop-i : goal.invariant-loop-i
 invariant-loop-i g l =
-    Grown l.initial.self l.self (many_of l.sort (take l.i l.laid)) (more l.sort (many_of l.sort (take l.i l.laid)))
-    × (over (turned (frame_in l.frame) l.sizes (pass_of l.sort)) (drawn_in (frame_in l.frame) l.self) (drop l.i (numbered (frame_in l.frame)))
-    ≡ passed (frame_in l.frame) l.sizes (pass_of l.sort) (drawn_in (frame_in l.frame) l.initial.self))
+    Grown l.initial.self l.self (many_of l.sort (take l.i l.laying.laid.now)) (more l.sort (many_of l.sort (take l.i l.laying.laid.now)))
+    × (over (turned (frame_in l.laying.frame) l.sizes (pass_of l.sort)) (drawn_in (frame_in l.laying.frame) l.self) (drop l.i (numbered (frame_in l.laying.frame)))
+    ≡ passed (frame_in l.laying.frame) l.sizes (pass_of l.sort) (drawn_in (frame_in l.laying.frame) l.initial.self))
