@@ -60,13 +60,7 @@ fn draw_near(
     if beyond::beyond(&flags[..n], centres, &arrows[..m]) {
         return Err(Refusal::Bow);
     }
-    Ok(geometry::geometry(
-        &flags[..n],
-        centres,
-        &arrows[..m],
-        &sizes[..m],
-        out,
-    ))
+    Ok(geometry::geometry(&flags[..n], centres, &arrows[..m], &sizes[..m], out))
 }
 
 // Draws a sheet of at most 64 states and 256 arrows.
