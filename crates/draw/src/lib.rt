@@ -8,7 +8,6 @@ ghost use Rattle.sheet.specs.Sheet as G;
 ghost use Rattle.draw.specs.Drawn as S;
 ghost use Rattle.draw.specs.Given.{given, number_given};
 
-use curves::Frame;
 use label::Block;
 use label_spots::Geometry;
 use refusal::Refusal;
@@ -58,16 +57,10 @@ fn draw_near(
     let mut arrows = [Ends::NONE; 256];
     let mut sizes = [Block::NONE; 256];
     graph::read_graph(s, &mut flags[..n], &mut arrows[..m], &mut sizes[..m]);
-    let mut room = [V::ORIGIN; 64];
-    let frame = Frame {
-        flags: &flags[..n],
-        centres: curves::counted(centres, n, &mut room),
-        arrows: &arrows[..m],
-    };
-    if beyond::beyond(&frame) {
+    if beyond::beyond(&flags[..n], centres, &arrows[..m]) {
         return Err(Refusal::Bow);
     }
-    Ok(geometry::geometry(&frame, &sizes[..m], out))
+    Ok(geometry::geometry(&flags[..n], centres, &arrows[..m], &sizes[..m], out))
 }
 
 // Draws a sheet of at most 64 states and 256 arrows.

@@ -9,7 +9,6 @@ ghost use Rattle.layout.specs.Lent.{plan_in};
 ghost use Rattle.plan.specs.Measured as M;
 ghost use Rattle.plan.specs.Planned as S;
 
-use curves::Frame;
 use fit::Size;
 use label::Block;
 use layout::{Kind, Placement, Plan};
@@ -24,17 +23,10 @@ fn placed_beyond(plan: &Plan, placement: Placement) -> bool
     requires some { 0 < length plan.now.flags.now }
     ensures { let p = plan_in plan.now in result ≡ M.beyond_at p (L.placed placement p) }
 {
-    let n = plan.flags.len();
     let mut space = [V::ORIGIN; 64];
-    let centres = &mut space[..n];
+    let centres = &mut space[..plan.flags.len()];
     plan.place(placement, centres);
-    let mut room = [V::ORIGIN; 64];
-    let frame = Frame {
-        flags: plan.flags,
-        centres: curves::counted(centres, n, &mut room),
-        arrows: plan.arrows,
-    };
-    beyond::beyond(&frame)
+    beyond::beyond(plan.flags, centres, plan.arrows)
 }
 
 // Auto measures the ring, and the layers too where it has to compare.
