@@ -255,10 +255,20 @@ fn leads_from(e: &Ends, a: usize, b: usize) -> bool
     e.source == a && e.target == b
 }
 
-// Whether some arrow leads from a to b.
+// Whether some arrow leads from a to b. A step looks at two arrows, which takes fewer instructions an arrow than a chain.
 #[tactic(auto, unfolding(crate::specs::Leads::leads))]
 pub fn leads(arrows: &[Ends], a: usize, b: usize) -> bool
     ensures { result ≡ D.leads arrows.now a b }
 {
-    arrows.iter().any(|e| leads_from(e, a, b))
+    let mut rest = arrows;
+    while let [first, second, more @ ..] = rest {
+        if leads_from(first, a, b) || leads_from(second, a, b) {
+            return true;
+        }
+        rest = more;
+    }
+    match rest.first() {
+        Some(last) => leads_from(last, a, b),
+        None => false,
+    }
 }

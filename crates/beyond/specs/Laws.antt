@@ -1,10 +1,13 @@
--- The refusal arrow by arrow, as the code looks for it. Assumes nothing.
-use Rattle.std.specs.Prelude.{◌≡◌, refl, Bool, true, false, not, ◌&&◌, ◌||◌, ℕ, suc}
+-- The refusal arrow by arrow, as the code looks for it, and at the centres that it looks at. Assumes nothing.
+use Rattle.std.specs.Prelude.{◌≡◌, refl, Bool, true, false, not, ◌&&◌, ◌||◌, ℕ, suc, length}
 use Rattle.std.specs.List.{list_any}
-use Rattle.std.proofs.Common.{sym, ap₂, ◌∙◌}
+use Rattle.std.proofs.Common.{sym, ap, ap₂, ◌∙◌}
 use mathlib.Core.List.{List, [], ◌∷◌}
 use Rattle.laws.specs.Any.{any_of, any_filter}
+use Rattle.shape.specs.declared.«V».{«V»}
 use Rattle.routing.specs.Routing.{Frame, Ends, numbered, numbered_from, numbered_by, is_kept_in, is_loop, kept}
+use Rattle.routing.specs.Sheets.{frame_with}
+use Rattle.curves.specs.Counted.{counted, frame_from}
 use Rattle.beyond.specs.Beyond.{is_beyond, beyond, ends_refused, is_refused}
 
 -- among all arrows
@@ -27,3 +30,9 @@ refused_from f n (e ∷ es) = ap₂ (λ (x y : Bool). x || y) (refused_one f n e
 
 pub some_is : (f : Frame) → list_any (ends_refused f) f.arrows ≡ beyond f
 some_is f = refused_from f 0 f.arrows ∙ beyond-each f
+
+-- ---- "Centres missing or not finite count as 0."
+
+pub beyond-centred : (flags : List ℕ) (cs ns : List «V») (arrows : List Ends) (n : ℕ) → n ≡ length flags → ns ≡ counted cs n
+    → beyond (frame_with flags ns arrows) ≡ beyond (frame_from flags cs arrows)
+beyond-centred flags cs ns arrows n e g = ap (λ (l : List «V»). beyond (frame_with flags l arrows)) (g ∙ ap (counted cs) e)

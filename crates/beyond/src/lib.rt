@@ -4,6 +4,7 @@
 ghost use Rattle.std.specs.Prelude.{◌≡◌, ◌≤◌, ◌<◌, length};
 ghost use Rattle.std.specs.List.{list_any};
 ghost use Rattle.curves.specs.Lay.{frame_in};
+ghost use Rattle.curves.specs.Counted.{frame_from};
 ghost use Rattle.beyond.specs.Beyond as S;
 
 use curves::Frame;
@@ -32,15 +33,24 @@ fn arrow_beyond(frame: &Frame, e: Ends) -> bool
         && pair_beyond(frame.centres, Chord::of(frame.centres, e.source, e.target))
 }
 
+// Some arrow's.
 fn some_beyond(frame: &Frame, arrows: &[Ends]) -> bool
     ensures { result ≡ list_any (S.ends_refused (frame_in frame.now)) arrows.now }
 {
     arrows.iter().any(|e| arrow_beyond(frame, *e))
 }
 
-// Whether the drawing of a graph at these centres is refused by 9.
-pub fn beyond(frame: &Frame) -> bool
-    ensures { result ≡ S.beyond (frame_in frame.now) }
+// Whether the drawing of a graph at these centres is refused by 9; those that are missing or not finite count as 0.
+pub fn beyond(flags: &[u8], centres: &[V], arrows: &[Ends]) -> bool
+    requires few { length flags.now ≤ 64 }
+    requires many { length arrows.now ≤ 256 }
+    ensures { result ≡ S.beyond (frame_from flags.now centres.now arrows.now) }
 {
-    some_beyond(frame, frame.arrows)
+    let mut room = [V::ORIGIN; 64];
+    let frame = Frame {
+        flags,
+        centres: curves::counted(centres, flags.len(), &mut room),
+        arrows,
+    };
+    some_beyond(&frame, frame.arrows)
 }

@@ -1,13 +1,13 @@
 -- The cases of the eight calls: whether the answer, and everything that the call leaves in what it is lent, are the definitions'. A lent output is
 -- the middle of a longer one: sixteen places stand before it and more behind it. Before the call every byte is 170 and every number `unset`.
-use Rattle.std.specs.Prelude.{◌≡◌, refl, Bool, true, false, not, ◌&&◌, List, [], ◌∷◌, ◌++◌, ℕ, ◌+◌, ◌*◌, ◌^◌, eqb, leb, length, get_or, take, drop, replicate, Float, Option, Some, None, find}
+use Rattle.std.specs.Prelude.{◌≡◌, refl, Bool, true, false, cond, not, ◌&&◌, List, [], ◌∷◌, ◌++◌, ℕ, ◌+◌, ◌*◌, ◌^◌, eqb, leb, length, get_or, take, drop, replicate, Float, Option, find}
 use Rattle.std.specs.Float.{binary64}
 use Rattle.std.specs.Float.Ieee.{of_bits, round}
 use Rattle.laws.specs.Loops.{any_up}
 use Rattle.sheet.specs.declared.Limits.{Limits}
 use Rattle.calls.specs.Calls.{Outcome, values, number, main_screen, check, label_size, write_num, write_num_after, route, records_after, text_after, clutter, layout, xs_after, ys_after, list, list_after, write_sheet, write_sheet_after}
 use Rattle.cases.specs.Payload.{payload_byte, word_at, long_at, bits_at, float_at, floats_at, sizes_at, alike, same_float}
-use Rattle.cases.specs.Kinds.{call_number}
+use Rattle.cases.specs.Kinds.{call_number, right_of}
 use Rattle.cases.specs.declared.kind.Call.{Call}
 use Rattle.cases.specs.declared.kind.Call.TheVariants as call
 
@@ -215,21 +215,16 @@ called_under m c p = leb (6 + long_at p 2) (length p) && called c (case_at m p)
 unfoldable pub limits_at : List ℕ → Limits
 limits_at p = record { states = bits_at p 0; arrows = bits_at p 8; lines = bits_at p 16 }
 
--- a case of a call is under the main screen's limits (`write_num` takes none)
-abbrev pub call_agrees : Call → List ℕ → Bool
-call_agrees c p = called_under main_screen c p
-
 -- the call of a number
 unfoldable pub call_of : ℕ → Option Call
 call_of n =
     find (λ c. eqb (call_number c) n)
     (call.Route ∷ call.Layout ∷ call.Clutter ∷ call.List ∷ call.Check ∷ call.LabelSize ∷ call.WriteNum ∷ call.WriteSheet ∷ [])
 
--- a case of no call is never right
-abbrev pub right_of : (Call → Bool) → Option Call → Bool
-right_of right (Some c) = right c
-right_of right None = false
-
 -- a case with limits of its own has them in front, then the call's number, a byte, and what that call's case has
 unfoldable pub under_limits_agrees : List ℕ → Bool
 under_limits_agrees p = leb 25 (length p) && right_of (λ c. called_under (limits_at p) c (drop 25 p)) (call_of (payload_byte p 24))
+
+-- a case by its kind's number: 60 to 67 under the main screen's limits (`write_num` takes none), 68 under limits of its own; one of any other number is never right
+unfoldable pub call_agrees : ℕ → List ℕ → Bool
+call_agrees n p = cond (eqb n 68) (under_limits_agrees p) (right_of (λ c. called_under main_screen c p) (call_of n))

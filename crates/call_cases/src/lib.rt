@@ -12,7 +12,7 @@ ghost use Rattle.cases.specs.Payload.{word_at, long_at};
 ghost use Rattle.call_cases.specs.Cases as S;
 ghost use Rattle.call_cases.specs.Lent as L;
 
-use cases::{Call, byte, fill, float, index, long, same, same_float, size};
+use cases::{Call, Kind, UnknownKind, byte, fill, float, index, long, same, same_float, size};
 use refusal::Refusal;
 use sheet::Limits;
 
@@ -518,8 +518,8 @@ fn limits_at(p: &[u8]) -> Limits
 }
 
 // A case of a call under the main screen's limits.
-pub fn agrees(call: Call, p: &[u8]) -> bool
-    ensures { result ≡ S.call_agrees call p.now }
+fn agrees_on_main_screen(call: Call, p: &[u8]) -> bool
+    ensures { result ≡ S.called_under C.main_screen call p.now }
 {
     called_under(sheet::main_screen(), call, p)
 }
@@ -534,5 +534,19 @@ pub fn agrees_under_limits(p: &[u8]) -> bool
     match Call::try_from(byte(p, 24)) {
         Ok(call) => called_under(limits_at(p), call, &p[25..]),
         Err(_) => false,
+    }
+}
+
+// A case by its kind's number: a call under the main screen's limits, or under the case's own; one of any other number is
+// never right.
+#[tactic(auto, using(crate::specs::Laws::agrees_call, crate::specs::Laws::agrees_under, crate::specs::Laws::agrees_stand_in, crate::specs::Laws::agrees_none))]
+pub fn agrees(number: u8, p: &[u8]) -> bool
+    ensures { result ≡ S.call_agrees number p.now }
+{
+    match Kind::try_from(number) {
+        Ok(Kind::Call(call)) => agrees_on_main_screen(call, p),
+        Ok(Kind::UnderLimits) => agrees_under_limits(p),
+        Ok(Kind::StandIn(_)) => false,
+        Err(UnknownKind) => false,
     }
 }

@@ -9,12 +9,10 @@ use Rattle.sheet.specs.Refusals.{refusals}
 use Rattle.sheet.specs.Order.{accepted_exactly}
 use Rattle.sheet.specs.Accepted.{Within, within-limits}
 use Rattle.sheet.specs.declared.Limits.{Limits}
-use Rattle.shape.specs.declared.«V».{«V»}
 use Rattle.label_spots.specs.declared.Geometry.{Geometry}
 use Rattle.routing.specs.Sheets.{ends_of, frame_of, sizes_of}
 use Rattle.routing_laws.proofs.Decoded.{records_most}
-use Rattle.draw.specs.Drawn.{xs_of, ys_of, draw_refusals, draw_of, draw_after}
-use Rattle.draw.specs.Given.{given, decided_given}
+use Rattle.draw.specs.Drawn.{draw_refusals, draw_of, draw_after}
 use Rattle.calls.specs.Calls.{values, number, drawn_of}
 use Rattle.calls.specs.Decided.{refused-first, answered-clear}
 use Rattle.calls.specs.Drawing.{drawing_at}
@@ -25,11 +23,6 @@ pub record DrawingHeld (s : List ℕ) (k : Limits) (xs ys : List Float) (drawn :
   pub states : length (meaning s).states ≤ 64
   pub few : length drawn ≤ 256
   pub whole : drawn ≡ drawn_of s xs ys
-
--- drawn at the centres that are given, as at their numbers
-pub drawing_given : (s : List ℕ) (k : Limits) (xs ys : List Float) → k.states ≤ 64 → (cs : List «V») → cs ≡ given xs ys
-    → drawing_at k s (xs_of cs) (ys_of cs) ≡ drawing_at k s xs ys
-drawing_given s k xs ys h cs e = rw e (decided_given number (λ gs. values gs) k s xs ys h)
 
 module _ (s : List ℕ) (k : Limits) (xs ys : List Float) where
   pub draw_stopped : (n : ℕ) → number n ≡ drawing_at k s xs ys → First (draw_refusals k s xs ys) n

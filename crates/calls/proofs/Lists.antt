@@ -1,6 +1,6 @@
 -- Laying out and listing, from what planning and drawing a sheet give. Assumes nothing.
-use Rattle.std.specs.Prelude.{◌≡◌, Bool, not, ◌&&◌, ◌||◌, List, [], ◌∷◌, ℕ, ◌≤◌, ◌<◌, ltb, length, take, Float}
-use Rattle.std.proofs.Common.{refl, sym, ap, ap₂, ◌∙◌, arith, ltb-false}
+use Rattle.std.specs.Prelude.{◌≡◌, Bool, not, ◌&&◌, ◌||◌, List, [], ◌∷◌, ℕ, ◌≤◌, ltb, length, take, Float}
+use Rattle.std.proofs.Common.{refl, sym, ap, ◌∙◌, arith, ltb-false}
 use Rattle.std.proofs.lemmas.List.{length-map}
 use Rattle.laws.specs.Cases.{by_bool}
 use Rattle.laws.specs.Filled.{front_is}
@@ -26,7 +26,6 @@ use Rattle.layout.specs.Layout.{plan_of, last_kind}
 use Rattle.plan.specs.Measured.{layout_beyond}
 use Rattle.layout.specs.Alike.{layout-whole}
 use Rattle.plan.specs.Planned.{plan_refusals, size_of, planned, centres_planned}
-use Rattle.plan.specs.Laws.{plan_kind}
 use Rattle.fit.specs.declared.Size.{Size}
 use Rattle.calls.specs.Calls.{Outcome, number, values, capped_limits, drawn_of, onto, layout_for, layout, xs_after, ys_after, listing, listing_writable, list_refusals, list, list_after}
 use Rattle.calls.specs.Laws.{accepted_shown}
@@ -54,30 +53,26 @@ module _ (s : List ℕ) (m : Limits) (kind : ℕ) where
   abbrev planning : List Refusal
   planning = plan_refusals (capped_limits m) kind s
 
-  -- a number that no kind has
-  pub kind_refused : last_kind < kind → First planning 11
-  kind_refused h = refused-first planning _ 11 (plan_kind (capped_limits m) kind s [] h).0
-
   shown_by : Clear planning → OnMainScreen (meaning s)
   shown_by c = accepted_shown m s (clear_from (refusals (capped_limits m) s) [] planning clear_none c refl)
 
-  -- by what planning under the limits that count, by the kind of that number, has answered and left
-  module _ {k : Limits} (c : k ≡ capped_limits m) {j : ℕ} (i : j ≡ kind) where
-    pub planning-refused : (n : ℕ) → number n ≡ planned k j s → First planning n
-    planning-refused n e = refused-first planning _ n (e ∙ ap₂ (λ (l : Limits) (q : ℕ). planned l q s) c i)
+  -- by what planning under the limits that count has answered and left
+  module _ {k : Limits} (c : k ≡ capped_limits m) where
+    pub planning-refused : (n : ℕ) → number n ≡ planned k kind s → First planning n
+    planning-refused n e = refused-first planning _ n (e ∙ ap (λ (l : Limits). planned l kind s) c)
 
-    plan-clear : (n : ℕ) (z : Size) → values (n, z) ≡ planned k j s → Clear planning × ◌≡◌ {A = ℕ × Size} (n, z) (length (meaning s).states, size_of kind (meaning s))
-    plan-clear n z e = answered-clear planning _ (n, z) (e ∙ ap₂ (λ (l : Limits) (q : ℕ). planned l q s) c i)
+    plan-clear : (n : ℕ) (z : Size) → values (n, z) ≡ planned k kind s → Clear planning × ◌≡◌ {A = ℕ × Size} (n, z) (length (meaning s).states, size_of kind (meaning s))
+    plan-clear n z e = answered-clear planning _ (n, z) (e ∙ ap (λ (l : Limits). planned l kind s) c)
 
     -- an accepted sheet has at most 64 states
-    pub few_states : (n : ℕ) (z : Size) → values (n, z) ≡ planned k j s → n ≤ 64
+    pub few_states : (n : ℕ) (z : Size) → values (n, z) ≡ planned k kind s → n ≤ 64
     few_states n z e =
         let p = plan-clear n z e in
         let r : n ≡ length (meaning s).states = ap (λ (t : ℕ × Size). t.0) p.1 in
         omega (arith, (shown_by p.0).states)
 
-    pub laid : (n : ℕ) (z : Size) (before after : List «V») → 64 ≤ length before → values (n, z) ≡ planned k j s
-        → after ≡ centres_planned k j s before → Laid s m kind n z (take n after)
+    pub laid : (n : ℕ) (z : Size) (before after : List «V») → 64 ≤ length before → values (n, z) ≡ planned k kind s
+        → after ≡ centres_planned k kind s before → Laid s m kind n z (take n after)
     laid n z before after room e f =
         let p = plan-clear n z e in
         let d : Clear planning = p.0 in
@@ -87,7 +82,7 @@ module _ (s : List ℕ) (m : Limits) (kind : ℕ) where
         let w = layout-whole kind (meaning s) (ltb-false last_kind kind (d.none 11)) in
         let same : length l.ys ≡ length l.xs = w.1 ∙ sym w.0 in
         let t : length (centres l.xs l.ys) ≡ length (meaning s).states = zip_length vec l.xs l.ys same ∙ w.0 in
-        let y : after ≡ put before 0 (centres l.xs l.ys) = f ∙ ap₂ (λ (l : Limits) (q : ℕ). centres_planned l q s before) c i
+        let y : after ≡ put before 0 (centres l.xs l.ys) = f ∙ ap (λ (l : Limits). centres_planned l kind s before) c
         ∙ clear_decides (λ j. before) _ planning d in
         let x : take n after ≡ centres l.xs l.ys = front_is before (centres l.xs l.ys) n after (r ∙ sym t) (omega (arith, q.states)) y in
         record {

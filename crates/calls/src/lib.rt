@@ -14,7 +14,6 @@ ghost use Rattle.calls.specs.Saved as W;
 use drawing_text::Listing;
 use fit::Size;
 use label_spots::Geometry;
-use layout::Kind;
 use refusal::Refusal;
 use shape::V;
 use sheet::Limits;
@@ -72,7 +71,7 @@ fn draw_in<'a>(
         let y = ys_of centres.now in
         D.drawing_as result ≡ D.drawing_at m sheet.now x y }
 {
-    let count = draw::draw(sheet, m, centres, room)?;
+    let count = draw::draw_at(sheet, m, centres, room)?;
     Ok(&room[..count])
 }
 
@@ -88,8 +87,8 @@ fn draw_given<'a>(
     requires room { 256 ≤ length room.old }
     ensures { D.drawing_as result ≡ D.drawing_at m sheet.now xs.now ys.now }
 {
-    let centres = draw::given(xs, ys);
-    draw_in(sheet, m, &centres, room)
+    let count = draw::draw(sheet, m, xs, ys, room)?;
+    Ok(&room[..count])
 }
 
 // Routes a sheet at the given centres: its records and their paths.
@@ -148,7 +147,6 @@ pub fn layout(
         × (xs.new ≡ S.xs_after sheet.now limits kind xs.old yRoom)
         × (ys.new ≡ S.ys_after sheet.now limits kind xRoom ys.old) }
 {
-    let kind = Kind::try_from(kind)?;
     let m = capped_limits(limits);
     let mut centres = [V::ORIGIN; 64];
     let (states, size) = plan::plan(sheet, m, kind, &mut centres)?;
@@ -194,7 +192,6 @@ pub fn list(sheet: &[u8], limits: Limits, kind: u8, out: &mut [u8]) -> Result<us
     ensures { (outcome result ≡ S.list sheet.now limits kind (length out.old))
         × (out.new ≡ S.list_after sheet.now limits kind out.old) }
 {
-    let kind = Kind::try_from(kind)?;
     let m = capped_limits(limits);
     let mut centres = [V::ORIGIN; 64];
     let (n, size) = plan::plan(sheet, m, kind, &mut centres)?;

@@ -1,5 +1,5 @@
 -- The byte of each kind of case in the oracle's stream.
-use Rattle.std.specs.Prelude.{◌≡◌, ◌≢◌, ℕ, Result, MatchResult}
+use Rattle.std.specs.Prelude.{◌≡◌, ◌≢◌, Bool, false, ℕ, Option, Some, None, Result, MatchResult}
 use Rattle.cases.specs.declared.kind.StandIn.{StandIn}
 use Rattle.cases.specs.declared.kind.StandIn.TheVariants.{Root, Hypot, Midpoint, RemEuclid, Sin, Cos, Atan2, Min, Max, Round, Abs, Clamp, Signum, Copysign, TotalCmp, RemTau}
 use Rattle.cases.specs.declared.kind.Call.{Call}
@@ -43,3 +43,8 @@ kind_number kind.UnderLimits = 68
 -- what has this number; an error where nothing has it
 abbrev pub Decodes : {K E : Type 0} → (K → ℕ) → ℕ → Result K E → Type 0
 Decodes {K} number n r = MatchResult r (λ k. number k ≡ n) (λ e. (k : K) → number k ≢ n)
+
+-- a case of no kind is never right
+abbrev pub right_of : {K : Type 0} → (K → Bool) → Option K → Bool
+right_of right (Some k) = right k
+right_of right None = false

@@ -1,4 +1,4 @@
--- Of NaN's patterns, of equal bits, and of the first of some floats. Assumes nothing.
+-- Of NaN's patterns, of equal bits, of the first of some floats, and of the kinds' numbers. Assumes nothing.
 use Rattle.std.specs.Prelude.{◌≡◌, ℕ, zero, suc, ◌+◌, ◌-◌, ◌*◌, ◌%◌, ◌^◌, ◌<◌, ◌≤◌, true, false, not, T, List, [], ◌∷◌, ◌++◌, length, take, drop, ◌==◌, from_bits, slice_set, to_bits, Float}
 use Rattle.std.proofs.Math.Path.{refl, ap}
 use Rattle.std.proofs.Common.{sym, ap₂, ◌∙◌, true≢false, not-suc-le-zero, le_of_suc-le-suc, add-one, le-ltb, lt-ltb, eq-eqb, ne_eqb, length-drop, take_all, take-suc-set}
@@ -11,6 +11,11 @@ use Rattle.laws.specs.Cases.{by_bool}
 use Rattle.float.specs.Ops.{ne}
 use Rattle.laws.specs.Nan.{is_nan_lem, nan_test}
 use Rattle.cases.specs.Payload.{after, each}
+use Rattle.cases.specs.Kinds.{stand_in_number, call_number}
+use Rattle.cases.specs.declared.kind.StandIn.{StandIn}
+use Rattle.cases.specs.declared.kind.StandIn.TheVariants as stand_in
+use Rattle.cases.specs.declared.kind.Call.{Call}
+use Rattle.cases.specs.declared.kind.Call.TheVariants as call
 
 -- ---- patterns
 
@@ -79,3 +84,33 @@ module _ {A : Type 0} (w : ℕ) (read : ℕ → A) where
 
 pub part-tail : {A : Type 0} (k : ℕ) (l : List A) → take (length l - k) (drop k l) ≡ drop k l
 part-tail k l = take_all (length l - k) (drop k l) (simp length-drop (omega arith))
+
+-- ---- numbers: the stand-ins' lie below the calls', and these below 68
+
+pub stand_in_low : (f : StandIn) → stand_in_number f ≤ 16
+stand_in_low stand_in.Root = omega arith
+stand_in_low stand_in.Hypot = omega arith
+stand_in_low stand_in.Midpoint = omega arith
+stand_in_low stand_in.RemEuclid = omega arith
+stand_in_low stand_in.Sin = omega arith
+stand_in_low stand_in.Cos = omega arith
+stand_in_low stand_in.Atan2 = omega arith
+stand_in_low stand_in.Min = omega arith
+stand_in_low stand_in.Max = omega arith
+stand_in_low stand_in.Round = omega arith
+stand_in_low stand_in.Abs = omega arith
+stand_in_low stand_in.Clamp = omega arith
+stand_in_low stand_in.Signum = omega arith
+stand_in_low stand_in.Copysign = omega arith
+stand_in_low stand_in.TotalCmp = omega arith
+stand_in_low stand_in.RemTau = omega arith
+
+pub call_between : (c : Call) → (60 ≤ call_number c) × (call_number c < 68)
+call_between call.Route = (omega arith, omega arith)
+call_between call.Layout = (omega arith, omega arith)
+call_between call.Clutter = (omega arith, omega arith)
+call_between call.List = (omega arith, omega arith)
+call_between call.Check = (omega arith, omega arith)
+call_between call.LabelSize = (omega arith, omega arith)
+call_between call.WriteNum = (omega arith, omega arith)
+call_between call.WriteSheet = (omega arith, omega arith)

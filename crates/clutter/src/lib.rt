@@ -12,12 +12,15 @@ use shape::{NODE_RADIUS, Rect, V};
 use stack::Stack;
 use trace::Trace;
 
+// A small drawing has at most so many arrows.
+const FEW: usize = 32;
+
 // The square of the distance below which a state is too near to a label that is drawn.
 const NEAR24_SQUARED: f64 = (NODE_RADIUS + 2.0) * (NODE_RADIUS + 2.0);
 
 // The traces of the arrows.
-fn push_traces(drawn: &[Geometry], traces: &mut Stack<Trace, 256>)
-    requires few { length drawn.now ≤ 256 }
+fn push_traces<const N: usize>(drawn: &[Geometry], traces: &mut Stack<Trace, N>)
+    requires few { length drawn.now ≤ N }
     requires none { traces.old ≡ [] }
     ensures { map trace_in traces.new ≡ map S.record_trace drawn.now }
 {
@@ -108,14 +111,26 @@ fn collisions(nodes: &[V], traces: &[Trace], drawn: &[Geometry]) -> usize
 
 // ---- clutter
 
-// The clutter of a drawing.
-pub fn clutter(nodes: &[V], drawn: &[Geometry]) -> usize
-    requires { length drawn.now ≤ 256 }
+// The clutter of a drawing, in space for so many traces.
+fn count_in<const N: usize>(nodes: &[V], drawn: &[Geometry]) -> usize
+    requires few { length drawn.now ≤ N }
+    requires small { N ≤ 256 }
     ensures { result ≡ S.clutter_of nodes.now drawn.now }
 {
-    let mut traces: Stack<Trace, 256> = Stack::new(Trace::NONE);
+    let mut traces: Stack<Trace, N> = Stack::new(Trace::NONE);
     push_traces(drawn, &mut traces);
     let pairs = crossings(traces.as_slice());
     let labels = collisions(nodes, traces.as_slice(), drawn);
     pairs + labels
+}
+
+// The clutter of a drawing. Setting the space to 0 is a large part of it for a small one, which has less.
+pub fn clutter(nodes: &[V], drawn: &[Geometry]) -> usize
+    requires { length drawn.now ≤ 256 }
+    ensures { result ≡ S.clutter_of nodes.now drawn.now }
+{
+    if drawn.len() <= FEW {
+        return count_in::<32>(nodes, drawn);
+    }
+    count_in::<256>(nodes, drawn)
 }

@@ -1,7 +1,7 @@
 -- A step of each loop, and its end; what the search leaves, and the columns as parts of the order. Assumes nothing.
 use mathlib.Core.Path.{◌≡◌, refl, sym, ap, ap₂, subst, ◌∙◌}
-use mathlib.Core.Bool.{Bool, ◌||◌}
-use Rattle.std.specs.List.{list_any, sum}
+use mathlib.Core.Bool.{Bool, true, false, ◌||◌}
+use Rattle.std.specs.List.{list_any, sum, position_or_len}
 use Rattle.std.proofs.lemmas.List.Sums.{sum_by-cons}
 use Rattle.std.specs.Prelude.{eqb}
 use mathlib.Core.List.{List, [], ◌∷◌, ◌++◌, append-nil, append_assoc}
@@ -14,7 +14,7 @@ use lib.Seq.{drop-cons, take_all, get_or-take, take_at, drop_at}
 use Rattle.laws.specs.Flat.{table}
 use Rattle.laws.specs.Lists.{part_length}
 use Rattle.laws.specs.Loops.{over}
-use Rattle.laws.specs.Split.{split, split_snoc, split-take, flat_split, split_at_column, split-set, length-split, sum_all, sum_snoc}
+use Rattle.laws.specs.Split.{split, split_step, split_snoc, split-take, flat_split, split_at_column, split-set, length-split, sum_all, sum_snoc}
 use Rattle.laws.specs.Split.{sum_take, sum_fits}
 use Rattle.laws.specs.Put.{put, put_front}
 use Rattle.sheet.specs.declared.Ends.{Ends}
@@ -263,7 +263,7 @@ module _ (sizes order : List ℕ) (l : ℕ) (cs : List (List ℕ)) (v : split si
   inside = omega (arith, h, ap length v, length-split sizes order)
 
   -- where it begins and how many states it has, as the code reads them
-  module _ (a k : ℕ) (seen : List ℕ) (s : seen ≡ sizes) (fit : sum_all sizes ≤ 64) (e : a ≡ sum_all (take l seen))
+  module _ (a k : ℕ) (seen : List ℕ) (s : seen ≡ sizes) (fit : sum_all sizes ≤ length order) (e : a ≡ sum_all (take l seen))
       (f : k ≡ get_or seen l 0) where
     start_is : a ≡ sum_all (take l sizes)
     start_is = e ∙ ap (λ (x : List ℕ). sum_all (take l x)) s
@@ -271,7 +271,7 @@ module _ (sizes order : List ℕ) (l : ℕ) (cs : List (List ℕ)) (v : split si
     size_is : k ≡ get_or sizes l 0
     size_is = f ∙ ap (λ (x : List ℕ). get_or x l 0) s
 
-    pub room_for : a + k ≤ 64
+    pub room_for : a + k ≤ length order
     room_for = omega (arith, start_is, size_is, sum_fits sizes l inside, fit)
 
     wide : a + k - a ≡ get_or sizes l 0
@@ -281,16 +281,27 @@ module _ (sizes order : List ℕ) (l : ℕ) (cs : List (List ℕ)) (v : split si
     part_is = ap₂ (λ (j b : ℕ). take j (drop b order)) wide start_is ∙ sym (split_at_column sizes l order inside)
         ∙ ap (λ (x : List (List ℕ)). get_or x l []) v
 
-    module _ (room : length order ≡ 64) where
-      pub column_long : k ≡ length (get_or cs l [])
-      column_long = sym (part_length a (a + k - a) order (omega (arith, room, room_for)) ∙ omega arith) ∙ ap length part_is
+    pub column_long : k ≡ length (get_or cs l [])
+    column_long = sym (part_length a (a + k - a) order (omega (arith, room_for)) ∙ omega arith) ∙ ap length part_is
 
-      -- another column of its size in its place
-      pub part_set : (d : List ℕ) → length d ≡ k → split sizes (take a order ++ (d ++ drop (a + k - a) (drop a order))) ≡ set cs l d
-      part_set d g =
-          ap₂ (λ (j b : ℕ). split sizes (take b order ++ (d ++ drop j (drop b order)))) wide start_is
-          ∙ split-set sizes l order d inside (g ∙ size_is) (omega (arith, fit, room))
-          ∙ ap (λ (x : List (List ℕ)). set x l d) v
+    -- another column of its size in its place
+    pub part_set : (d : List ℕ) → length d ≡ k → split sizes (take a order ++ (d ++ drop (a + k - a) (drop a order))) ≡ set cs l d
+    part_set d g =
+        ap₂ (λ (j b : ℕ). split sizes (take b order ++ (d ++ drop j (drop b order)))) wide start_is
+        ∙ split-set sizes l order d inside (g ∙ size_is) (omega (arith, fit))
+        ∙ ap (λ (x : List (List ℕ)). set x l d) v
+
+-- ---- column after column, for the one that holds v
+module _ (v : ℕ) (ks : List ℕ) (i a e : ℕ) (l : List ℕ) (h : i < length ks) (q : e ≡ a + get_or ks i 0) where
+  pub holding_hit : elem v (take (e - a) (drop a l)) ≡ true → position_or_len (elem v) (split (drop i ks) (drop a l)) ≡ 0
+  holding_hit t = ap (λ (c : List (List ℕ)). position_or_len (elem v) c) (split_step ks i a e l h q) ∙ rw t
+
+  pub holding_miss : elem v (take (e - a) (drop a l)) ≡ false → position_or_len (elem v) (split (drop i ks) (drop a l)) ≡ 1 + position_or_len (elem v) (split (drop (i + 1) ks) (drop e l))
+  holding_miss t = ap (λ (c : List (List ℕ)). position_or_len (elem v) c) (split_step ks i a e l h q) ∙ rw t
+
+pub holding_none : (v : ℕ) (ks : List ℕ) (i : ℕ) (l : List ℕ) → length ks ≤ i → position_or_len (elem v) (split (drop i ks) l) ≡ 0
+unfolding split
+holding_none v ks i l h = rw (drop_of_length-le ks h)
 
 -- ---- what the check is given for a function
 pub ruleset following = (follow_yes, follow_no, fair_room, target_in)

@@ -1,9 +1,10 @@
 // The columns of the layered layout: breadth-first from one state, the states that are not reached in one last column.
 #![tactic(auto)]
 
-ghost use Rattle.std.specs.Prelude.{◌≡◌, ℕ, false, List, [], ◌++◌, ◌≤◌, ◌<◌, length, get_or, set, take, drop};
+ghost use Rattle.std.specs.Prelude.{◌≡◌, ℕ, false, List, [], ◌++◌, ◌^◌, ◌≤◌, ◌<◌, length, get_or, set, take, drop};
 ghost use Rattle.laws.specs.Loops.{over};
 ghost use Rattle.laws.specs.Split.{split, sum_all};
+ghost use Rattle.std.specs.List.{position_or_len};
 ghost use Rattle.columns.specs.Columns as D;
 ghost use Rattle.columns.specs.Found.{Fair, Reached, follow};
 
@@ -30,20 +31,13 @@ pub fn contains(list: &[usize], w: usize) -> bool
 
 // Puts w behind those found, where it is none of them.
 #[tactic(auto, using(crate::specs::Found::discover_new, crate::specs::Found::discover_old))]
-fn discover(found: &mut Stack<usize, 64>, w: usize)
-    requires room { D.elem w found.old ≡ false → length found.old < 64 }
+fn discover<const N: usize>(found: &mut Stack<usize, N>, w: usize)
+    requires room { D.elem w found.old ≡ false → length found.old < N }
     ensures { found.new ≡ D.discover found.old w }
 {
     if !contains(found.as_slice(), w) {
         found.push(w);
     }
-}
-
-// The states found, in order of discovery, and the sizes of the columns that they make.
-#[derive(Drop)]
-struct Found {
-    order: Stack<usize, 64>,
-    sizes: Stack<usize, 64>,
 }
 
 // `room` and `fair` are facts of a net and of a list together, and so no invariant of either.
@@ -52,13 +46,13 @@ impl<'a> Net<'a> {
     fn leaves(&self, v: usize, arrow: Ends) -> bool
         ensures { result ≡ D.leaves self.now.states v arrow }
     {
-        directions::is_between(self.states, arrow.source, arrow.target) && arrow.source == v
+        arrow.source == v && directions::is_between(self.states, arrow.source, arrow.target)
     }
 
     // Follows one arrow from v.
     #[tactic(auto, using(crate::proofs::Laws::following))]
-    fn follow(&self, found: &mut Stack<usize, 64>, v: usize, arrow: Ends)
-        requires room { self.now.states ≤ 64 }
+    fn follow<const N: usize>(&self, found: &mut Stack<usize, N>, v: usize, arrow: Ends)
+        requires room { self.now.states ≤ N }
         requires fair { Fair self.now.states found.old }
         ensures { found.new ≡ follow self.now.states v found.old arrow }
     {
@@ -69,8 +63,8 @@ impl<'a> Net<'a> {
 
     // Follows the arrows that leave v.
     #[tactic(auto, using(crate::proofs::Laws::visiting))]
-    fn visit(&self, found: &mut Stack<usize, 64>, v: usize)
-        requires room { self.now.states ≤ 64 }
+    fn visit<const N: usize>(&self, found: &mut Stack<usize, N>, v: usize)
+        requires room { self.now.states ≤ N }
         requires fair { Fair self.now.states found.old }
         ensures { let successors = D.successors self.now.states self.now.arrows.now v in
             found.new ≡ over D.discover found.old successors }
@@ -82,8 +76,8 @@ impl<'a> Net<'a> {
 
     // Follows the arrows that leave the states found, from place `low` on.
     #[tactic(auto, using(crate::proofs::Laws::exploring))]
-    fn explore(&self, found: &mut Stack<usize, 64>, low: usize)
-        requires room { self.now.states ≤ 64 }
+    fn explore<const N: usize>(&self, found: &mut Stack<usize, N>, low: usize)
+        requires room { self.now.states ≤ N }
         requires fair { Fair self.now.states found.old }
         requires some { low ≤ length found.old }
         ensures { found.new ≡ D.explore self.now.states self.now.arrows.now found.old (drop low found.old) }
@@ -95,36 +89,36 @@ impl<'a> Net<'a> {
         }
     }
 
-    // The columns that are reached from `start`.
+    // Finds the states that are reached from `start`, in order of discovery; the sizes of the columns that they make.
     #[tactic(auto, using(crate::proofs::Laws::search_grown))]
-    fn reach(&self, start: usize) -> Found
-        requires room { self.now.states ≤ 64 }
+    fn reach<const N: usize>(&self, start: usize, found: &mut Stack<usize, N>) -> Stack<usize, N>
+        requires none { found.old ≡ [] }
+        requires room { self.now.states ≤ N }
         requires state { start < self.now.states }
-        ensures { Reached self.now.states self.now.arrows.now start result.order result.sizes }
+        ensures { Reached self.now.states self.now.arrows.now start found.new result }
     {
-        let mut order = Stack::new(0);
         let mut sizes = Stack::new(0);
-        order.push(start);
+        found.push(start);
         sizes.push(1);
         let mut low: usize = 0;
         // At most one turn for each state: every turn but the last finds one.
         for _ in 0..self.states {
-            let high = order.len();
-            self.explore(&mut order, low);
-            let new = order.len() - high;
+            let high = found.len();
+            self.explore(found, low);
+            let new = found.len() - high;
             if new == 0 {
                 break;
             }
             sizes.push(new);
             low = high;
         }
-        Found { order, sizes }
+        sizes
     }
 
     // Puts the states that are not found behind those that are.
     #[tactic(auto, using(crate::proofs::Laws::adding))]
-    fn put_unreached(&self, found: &mut Stack<usize, 64>)
-        requires room { self.now.states ≤ 64 }
+    fn put_unreached<const N: usize>(&self, found: &mut Stack<usize, N>)
+        requires room { self.now.states ≤ N }
         requires fair { Fair self.now.states found.old }
         ensures { found.new ≡ found.old ++ D.unreached self.now.states found.old }
     {
@@ -134,22 +128,23 @@ impl<'a> Net<'a> {
         }
     }
 
-    // All states in the order of the columns, and the columns' sizes.
+    // Finds all states, in the order of the columns; the columns' sizes.
     #[tactic(auto, using(crate::proofs::Laws::filling))]
-    fn fill(&self, start: usize) -> Found
-        requires room { self.now.states ≤ 64 }
+    fn fill<const N: usize>(&self, start: usize, found: &mut Stack<usize, N>) -> Stack<usize, N>
+        requires none { found.old ≡ [] }
+        requires room { self.now.states ≤ N }
         requires state { start < self.now.states }
-        ensures all { sum_all result.sizes ≡ length result.order }
-        ensures within { length result.order ≤ 64 }
-        ensures columns { split result.sizes result.order ≡ D.columns self.now.states self.now.arrows.now start }
+        ensures all { sum_all result ≡ length found.new }
+        ensures within { length found.new ≤ N }
+        ensures columns { split result found.new ≡ D.columns self.now.states self.now.arrows.now start }
     {
-        let mut found = self.reach(start);
-        let reached = found.order.len();
-        self.put_unreached(&mut found.order);
+        let mut sizes = self.reach(start, found);
+        let reached = found.len();
+        self.put_unreached(found);
         if reached < self.states {
-            found.sizes.push(self.states - reached);
+            sizes.push(self.states - reached);
         }
-        found
+        sizes
     }
 }
 
@@ -158,51 +153,101 @@ impl<'a> Net<'a> {
 // Where column l begins.
 fn start_of(sizes: &[usize], l: usize) -> usize
     requires column { l ≤ length sizes.now }
-    requires fits { sum_all sizes.now ≤ 64 }
+    requires fits { sum_all sizes.now < 2 ^ 64 }
     ensures { result ≡ sum_all (take l sizes.now) }
 {
     sizes[..l].iter().sum()
 }
 
+// The number of the column that holds v, or how many columns there are. By number: where a column begins is carried on, and
+// not added up anew for each.
+fn column_holding(sizes: &[usize], order: &[usize], v: usize) -> usize
+    requires fits { sum_all sizes.now ≤ length order.now }
+    ensures { (result ≡ position_or_len (D.elem v) (split sizes.now order.now)) × (result ≤ length sizes.now) }
+{
+    let mut start: usize = 0;
+    for l in 0..sizes.len() {
+        let end = start + sizes[l];
+        if contains(&order[start..end], v) {
+            return l;
+        }
+        start = end;
+    }
+    sizes.len()
+}
+
+// Values one after another, as a stack.
+fn stacked<const N: usize>(values: &[usize]) -> Stack<usize, N>
+    requires { length values.now ≤ N }
+    ensures { result ≡ values.now }
+{
+    let mut stack = Stack::new(0);
+    for value in values {
+        stack.push(*value);
+    }
+    stack
+}
+
 // The columns one after another in `order`; `sizes` says how long each is. (`order` is an array, since columns are put in
 // another order within it, and a stack lends its values only to be read.)
 #[derive(Drop)]
-pub struct Columns {
-    order: [usize; 64],
-    sizes: Stack<usize, 64>,
+pub struct Columns<const N: usize> {
+    order: [usize; N],
+    sizes: Stack<usize, N>,
 }
 
 // Clauses see each column as the list of its states.
-impl Model for Columns {
+impl<const N: usize> Model for Columns<N> {
     ghost Value = { List (List ℕ) };
 
     ghost view = { λ c. split c.sizes c.order };
 
-    ghost invariant = { λ c. sum_all c.sizes ≤ 64 };
+    ghost invariant = { λ c. sum_all c.sizes ≤ N };
 }
 
-impl Columns {
+impl<const N: usize> Columns<N> {
     // The columns of the layered layout.
     #[tactic(auto, using(crate::proofs::Laws::split_copied))]
     pub fn breadth_first(net: &Net, start: usize) -> Self
-        requires room { net.now.states ≤ 64 }
+        requires room { net.now.states ≤ N }
         requires state { start < net.now.states }
         ensures { result ≡ D.columns net.now.states net.now.arrows.now start }
     {
-        let found = net.fill(start);
-        let mut order = [0usize; 64];
-        slices::copy(found.order.as_slice(), &mut order);
+        let mut found: Stack<usize, N> = Stack::new(0);
+        let sizes = net.fill(start, &mut found);
+        let mut order = [0usize; N];
+        slices::copy(found.as_slice(), &mut order);
+        Columns { order, sizes }
+    }
+
+    // Columns of these sizes, one after another in `order`.
+    #[tactic(auto, using(crate::proofs::Laws::split_copied))]
+    pub fn of(order: &[usize], sizes: &[usize]) -> Self
+        requires all { sum_all sizes.now ≡ length order.now }
+        requires room { (length order.now ≤ N) × (length sizes.now ≤ N) }
+        ensures { result ≡ split sizes.now order.now }
+    {
+        let mut room = [0usize; N];
+        slices::copy(order, &mut room);
         Columns {
-            order,
-            sizes: found.sizes,
+            order: room,
+            sizes: stacked(sizes),
         }
+    }
+
+    // The number of the column that holds v, or how many columns there are.
+    pub fn place_of(&self, v: usize) -> usize
+        ensures place { result ≡ position_or_len (D.elem v) self.now }
+        ensures within { result ≤ N }
+    {
+        column_holding(self.sizes.as_slice(), &self.order, v)
     }
 
     // How many columns there are.
     #[tactic(auto, using(crate::proofs::Laws::counting))]
     pub fn count(&self) -> usize
         ensures count { result ≡ length self.now }
-        ensures within { result ≤ 64 }
+        ensures within { result ≤ N }
     {
         self.sizes.len()
     }
@@ -211,7 +256,7 @@ impl Columns {
     pub fn size(&self, l: usize) -> usize
         requires { l < length self.now }
         ensures size { result ≡ length (get_or self.now l []) }
-        ensures within { result ≤ 64 }
+        ensures within { result ≤ N }
     {
         self.column(l).len()
     }
@@ -221,11 +266,12 @@ impl Columns {
     pub fn column(&self, l: usize) -> &[usize]
         requires { l < length self.now }
         ensures states { result.now ≡ get_or self.now l [] }
-        ensures within { length result.now ≤ 64 }
+        ensures within { length result.now ≤ N }
     {
         let sizes = self.sizes.as_slice();
         let start = start_of(sizes, l);
-        &self.order[start..start + sizes[l]]
+        let order = &self.order[..];
+        &order[start..start + sizes[l]]
     }
 
     // Puts the states of column l in another order.
@@ -236,6 +282,7 @@ impl Columns {
         ensures { self.new ≡ set self.old l states.now }
     {
         let start = start_of(self.sizes.as_slice(), l);
-        self.order[start..start + states.len()].copy_from_slice(states);
+        let order = &mut self.order[..];
+        order[start..start + states.len()].copy_from_slice(states);
     }
 }

@@ -11,9 +11,11 @@ ghost use Rattle.curves.specs.Lay as S;
 ghost use Rattle.curves.specs.Counted as C;
 
 mod frame;
+mod laying;
 
 use bend::Routed;
 pub use frame::Frame;
+pub use laying::Laying;
 use shape::{Curve, NODE_RADIUS, START_ARROW_LENGTH, V};
 use sheet::Ends;
 use stack::Stack;
@@ -40,8 +42,8 @@ fn centre_at(centres: &[V], k: usize) -> V
     V::new(or_zero(c.x), or_zero(c.y))
 }
 
-// The centres as they count, one in each place.
-fn count_into(centres: &[V], nodes: &mut [V])
+// The centres as they count, one in each place: "Centres missing or not finite count as 0."
+pub fn centred(centres: &[V], nodes: &mut [V])
     ensures { nodes.new ≡ C.counted centres.now (length nodes.old) }
 {
     for (k, node) in nodes.iter_mut().enumerate() {
@@ -55,7 +57,7 @@ pub fn counted<'a>(centres: &[V], n: usize, room: &'a mut [V; 64]) -> &'a [V]
     ensures all { result.now ≡ C.counted centres.now n }
     ensures many { length result.now ≡ n }
 {
-    count_into(centres, &mut room[..n]);
+    centred(centres, &mut room[..n]);
     &room[..n]
 }
 

@@ -15,7 +15,7 @@ use Rattle.laws.specs.Refusals.{decide, decide-first}
 use Rattle.shape.specs.declared.«V».{«V»}
 use Rattle.shape.specs.Plane.{vec}
 use Rattle.sheet.specs.Sheet.{State, Graph, flags_of}
-use Rattle.curves.specs.Counted.{counted}
+use Rattle.curves.specs.Counted.{counted, frame_from}
 use Rattle.label_spots.specs.declared.Geometry.{Geometry}
 use Rattle.routing.specs.Routing.{Ends, Frame, BlockSize, records}
 use Rattle.routing.specs.Sheets.{centre_at, centres_at, ends_of, size_of, frame_with, frame_of, sizes_of}
@@ -51,14 +51,15 @@ module _ (g : Graph) where
       → sizes ≡ sizes_of g → m ≡ length g.arrows → take m (sizes ++ rest) ≡ sizes_of g
   sizes_read rest e h = front rest e (h ∙ sym (length-map g.arrows size_of))
 
-  pub frame_read : (cs : List «V») {flags : List ℕ} {arrows : List Ends} {nodes : List «V»} {n m : ℕ} (after : List ℕ) (behind : List Ends)
-      → flags ≡ flags_of g → arrows ≡ map ends_of g.arrows → nodes ≡ counted cs n → n ≡ length g.states → m ≡ length g.arrows
-      → frame_with (take n (flags ++ after)) nodes (take m (arrows ++ behind)) ≡ frame_of g (xs_of cs) (ys_of cs)
+  pub frame_read : (cs : List «V») {flags : List ℕ} {arrows : List Ends} {n m : ℕ} (after : List ℕ) (behind : List Ends)
+      → flags ≡ flags_of g → arrows ≡ map ends_of g.arrows → n ≡ length g.states → m ≡ length g.arrows
+      → frame_from (take n (flags ++ after)) cs (take m (arrows ++ behind)) ≡ frame_of g (xs_of cs) (ys_of cs)
   unfolding frame_of
-  frame_read cs after behind e h r i j =
-      let flags_front = front after e (i ∙ sym (length-map g.states (λ (t : State). t.flags))) in
+  frame_read cs after behind e h i j =
+      let many = length-map g.states (λ (t : State). t.flags) in
+      let flags_front = front after e (i ∙ sym many) in
       let arrows_front = front behind h (j ∙ sym (length-map g.arrows ends_of)) in
-      rw (flags_front, arrows_front) (ap (λ (l : List «V»). frame_with (flags_of g) l (map ends_of g.arrows)) (r ∙ ap (counted cs) i))
+      rw (flags_front, arrows_front) (ap (λ (k : ℕ). frame_with (flags_of g) (counted cs k) (map ends_of g.arrows)) many)
 
 module _ (g : Graph) (xs ys : List Float) {f : Frame} (e : f ≡ frame_of g xs ys) where
   -- refused by 9

@@ -8,7 +8,6 @@ ghost use Rattle.sheet.specs.Sheet as G;
 ghost use Rattle.draw.specs.Drawn as S;
 ghost use Rattle.draw.specs.Given.{given, number_given};
 
-use curves::Frame;
 use label::Block;
 use label_spots::Geometry;
 use refusal::Refusal;
@@ -58,16 +57,10 @@ fn draw_near(
     let mut arrows = [Ends::NONE; 256];
     let mut sizes = [Block::NONE; 256];
     graph::read_graph(s, &mut flags[..n], &mut arrows[..m], &mut sizes[..m]);
-    let mut room = [V::ORIGIN; 64];
-    let frame = Frame {
-        flags: &flags[..n],
-        centres: curves::counted(centres, n, &mut room),
-        arrows: &arrows[..m],
-    };
-    if beyond::beyond(&frame) {
+    if beyond::beyond(&flags[..n], centres, &arrows[..m]) {
         return Err(Refusal::Bow);
     }
-    Ok(geometry::geometry(&frame, &sizes[..m], out))
+    Ok(geometry::geometry(&flags[..n], centres, &arrows[..m], &sizes[..m], out))
 }
 
 // Draws a sheet of at most 64 states and 256 arrows.
@@ -90,7 +83,7 @@ fn draw_accepted(s: &[u8], centres: &[V], out: &mut [Geometry]) -> Result<usize,
 
 // Checks a sheet under the limits and draws it at the given centres: the records, from the front of `out` on, or a
 // refusal; how many records. There is room for 64 states and 256 arrows.
-pub fn draw(s: &[u8], m: Limits, centres: &[V], out: &mut [Geometry]) -> Result<usize, Refusal>
+pub fn draw_at(s: &[u8], m: Limits, centres: &[V], out: &mut [Geometry]) -> Result<usize, Refusal>
     requires small { (m.states ≤ 64) × (m.arrows ≤ 256) }
     requires room { 256 ≤ length out.old }
     ensures { let xs = S.xs_of centres.now in
@@ -116,4 +109,21 @@ pub fn given(xs: &[f64], ys: &[f64]) -> [V; 64]
     ensures { result ≡ given xs.now ys.now }
 {
     std::array::from_fn(|k| V::new(number_given(xs, k), number_given(ys, k)))
+}
+
+// Checks a sheet under the limits and draws it at the centres whose x and y are given, in slices of any lengths.
+pub fn draw(
+    s: &[u8],
+    m: Limits,
+    xs: &[f64],
+    ys: &[f64],
+    out: &mut [Geometry],
+) -> Result<usize, Refusal>
+    requires small { (m.states ≤ 64) × (m.arrows ≤ 256) }
+    requires room { 256 ≤ length out.old }
+    ensures { (outcome result ≡ S.draw_of m s.now xs.now ys.now)
+        × (out.new ≡ S.draw_after m s.now xs.now ys.now out.old) }
+{
+    let centres = given(xs, ys);
+    draw_at(s, m, &centres, out)
 }

@@ -8,6 +8,7 @@ ghost use Rattle.laws.specs.Writers.{as_usize};
 ghost use Rattle.text.specs.Writing.{Adds};
 ghost use Rattle.svg.specs.Paths.{curve_path, path_writable, point_writable};
 ghost use Rattle.sheet.specs.Meaning.{is_start};
+ghost use Rattle.totals.specs.declared.Totals as T;
 ghost use Rattle.drawing_text.specs.Lines as S;
 ghost use Rattle.drawing_text.specs.Listing as L;
 
@@ -356,11 +357,13 @@ impl<'a> Listing<'a> {
         w.at
     }
 
-    // Whether every number of it may be written; the totals are whole numbers.
+    // Whether every number of it may be written, whatever the totals are: those are whole numbers.
     #[tactic(auto, using(crate::proofs::Laws::list_tests, crate::proofs::Laws::records_list, crate::proofs::Laws::states_tests))]
     pub fn writable(&self) -> bool
         requires level { length self.now.flags.now ≡ length self.now.nodes.now }
-        ensures { result ≡ L.writable_of self.now }
+        ensures own { result ≡ L.writable_of self.now }
+        ensures whatever_totals { let l = self.now in
+            (totals : T.Totals) → result ≡ S.list_writable l.width l.height l.nodes.now l.flags.now l.drawn.now totals }
     {
         size_ok(self.width, self.height)
             && states_ok(self.nodes)

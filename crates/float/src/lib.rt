@@ -10,7 +10,7 @@ ghost use Rattle.float.specs.Standins as S;
 
 use root::{FRACTION, INFINITY_BITS, LEADING, SIGN};
 use std::cmp::Ordering;
-use std::f64::consts::PI;
+pub use std::f64::consts::PI;
 
 // The circle's whole turn.
 pub const TAU: f64 = remainder::TAU;

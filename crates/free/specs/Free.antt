@@ -2,10 +2,15 @@
 use Rattle.std.specs.Prelude.{Bool, true, false, cond, ◌&&◌, List, ℕ, zero, suc, length, Float}
 use Rattle.std.specs.List.{list_any, fold}
 use Rattle.float.specs.Ops.{lt}
+use Rattle.float.specs.Constants.{f0}
 use Rattle.free.specs.declared.Span.{Span}
 use Rattle.free.specs.declared.Pass.{Pass}
 use Rattle.free.specs.declared.Search.{Search}
 use Rattle.free.specs.declared.Search.TheVariants.{Up, Down}
+
+-- the way of a direction: upwards where it is above 0
+abbrev pub way_of : Float → Search
+way_of dir = cond (lt f0 dir) Up Down
 
 abbrev pub span_from : Float → Float → Span
 span_from lo hi = record { lo = lo; hi = hi }

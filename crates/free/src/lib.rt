@@ -1,7 +1,7 @@
 // The bows that states beside an arrow block, and the first free one.
 #![tactic(auto)]
 
-ghost use Rattle.std.specs.Prelude.{◌≡◌, [], ◌<◌, ◌≤◌, length};
+ghost use Rattle.std.specs.Prelude.{◌≡◌, ◌++◌, ◌+◌, ◌<◌, ◌≤◌, length};
 ghost use Rattle.free.specs.Chords as C;
 ghost use Rattle.free.specs.Blocked as B;
 ghost use Rattle.free.specs.Free as F;
@@ -81,11 +81,10 @@ impl Chord {
         }
     }
 
-    // The intervals that the states block, one behind another.
-    pub fn blocked(self, nodes: &[V], spans: &mut Stack<Span, 64>)
-        requires few { length nodes.now ≤ 64 }
-        requires none { spans.old ≡ [] }
-        ensures { spans.new ≡ B.blocked self nodes.now }
+    // The intervals that the states block, one behind another, behind those that are there.
+    pub fn blocked<const N: usize>(self, nodes: &[V], spans: &mut Stack<Span, N>)
+        requires room { length spans.old + length nodes.now ≤ N }
+        ensures { spans.new ≡ spans.old ++ B.blocked self nodes.now }
     {
         for (k, p) in nodes.iter().enumerate() {
             if !self.is_end(k) && !self.is_off(*p) {
@@ -100,6 +99,15 @@ impl Chord {
 pub enum Search {
     Up,
     Down,
+}
+
+// From a direction: up where it is above 0.
+impl From<f64> for Search {
+    ghost from_gives = { λ dir way. way ≡ F.way_of dir };
+
+    fn from(dir: f64) -> Search {
+        if dir > 0.0 { Search::Up } else { Search::Down }
+    }
 }
 
 impl Span {

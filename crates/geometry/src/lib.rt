@@ -5,11 +5,13 @@ ghost use Rattle.std.specs.Prelude.{◌≡◌, ◌+◌, ◌*◌, ◌≤◌, ◌<
 ghost use Rattle.laws.specs.Put.{put};
 ghost use Rattle.routing.specs.Routing.{records};
 ghost use Rattle.curves.specs.Lay.{frame_in};
+ghost use Rattle.curves.specs.Counted.{frame_from};
 
-use curves::{Frame, Laid};
+use curves::{Frame, Laid, Laying};
 use label::Block;
 use label_spots::Geometry;
-use shape::Rect;
+use shape::{Rect, V};
+use sheet::Ends;
 use stack::Stack;
 use trace::Trace;
 use turns::Drawing;
@@ -32,19 +34,25 @@ fn draw<const ARROWS: usize, const TRACES: usize>(
         (result ≡ length drawn) × (out.new ≡ put out.old 0 drawn) }
 {
     let mut laid: Stack<Laid, ARROWS> = Stack::new(Laid::LeftOut);
-    let mut drawing: Drawing<ARROWS, TRACES> = Drawing {
-        boxes: Stack::new(Rect::NONE),
-        traces: Stack::new(Trace::NONE),
-        drawn: [None; ARROWS],
+    let mut boxes: Stack<Rect, ARROWS> = Stack::new(Rect::NONE);
+    let mut traces: Stack<Trace, TRACES> = Stack::new(Trace::NONE);
+    let mut drawn: [Option<Geometry>; ARROWS] = [None; ARROWS];
+    frame.lay(&mut laid, &mut traces);
+    let mut drawing = Drawing {
+        boxes: &mut boxes,
+        traces: &mut traces,
+        drawn: &mut drawn,
     };
-    frame.lay(&mut laid, &mut drawing.traces);
-    drawing.run(frame, laid.as_slice(), sizes);
-    turns::gather(&drawing.drawn, out)
+    let laying = Laying {
+        frame: *frame,
+        laid: laid.as_slice(),
+    };
+    drawing.run(&laying, sizes);
+    turns::gather(drawing.drawn, out)
 }
 
-// The drawing of a graph at given centres: a record for each arrow that has one, in arrow order; how many. Setting
-// the space to 0 is a large part of drawing a small sheet, which has less.
-pub fn geometry(frame: &Frame, sizes: &[Block], out: &mut [Geometry]) -> usize
+// The drawing in space for the sheet. Setting the space to 0 is a large part of drawing a small one, which has less.
+fn draw_sized(frame: &Frame, sizes: &[Block], out: &mut [Geometry]) -> usize
     requires sized { length sizes.now ≡ length frame.now.arrows.now }
     requires room { length frame.now.arrows.now ≤ length out.old }
     ensures { let drawn = records (frame_in frame.now) sizes.now in
@@ -54,4 +62,29 @@ pub fn geometry(frame: &Frame, sizes: &[Block], out: &mut [Geometry]) -> usize
         return draw::<32, 64>(frame, sizes, out);
     }
     draw::<256, 320>(frame, sizes, out)
+}
+
+// The drawing of a graph at given centres, 0 for those that are missing or not finite: a record for each arrow that
+// has one, in arrow order; how many.
+pub fn geometry(
+    flags: &[u8],
+    centres: &[V],
+    arrows: &[Ends],
+    sizes: &[Block],
+    out: &mut [Geometry],
+) -> usize
+    requires few { length flags.now ≤ 64 }
+    requires many { length arrows.now ≤ 256 }
+    requires sized { length sizes.now ≡ length arrows.now }
+    requires room { length arrows.now ≤ length out.old }
+    ensures { let drawn = records (frame_from flags.now centres.now arrows.now) sizes.now in
+        (result ≡ length drawn) × (out.new ≡ put out.old 0 drawn) }
+{
+    let mut room = [V::ORIGIN; 64];
+    let frame = Frame {
+        flags,
+        centres: curves::counted(centres, flags.len(), &mut room),
+        arrows,
+    };
+    draw_sized(&frame, sizes, out)
 }

@@ -1,7 +1,7 @@
 -- Columns that stand one after another in one list, by their sizes: the list cut, one column read, one stored, one more behind the others. Assumes nothing.
 use Rattle.std.specs.Prelude.{◌≡◌, set}
 use Rattle.std.proofs.Math.Path.{refl, sym, ap, ap₂}
-use Rattle.std.proofs.Common.{◌∙◌, not-suc-le-zero, le_of_suc-le-suc, arith, take-take, drop-drop, take-suc, take_at, drop_at, take-add}
+use Rattle.std.proofs.Common.{drop-cons, ◌∙◌, not-suc-le-zero, le_of_suc-le-suc, arith, take-take, drop-drop, take-suc, take_at, drop_at, take-add}
 use mathlib.Core.List.{List, [], ◌∷◌, ◌++◌, append_assoc, flat_map}
 use Prim.Native.Nat.{ℕ, zero, suc, ◌+◌, ◌-◌, ◌≤◌, ◌<◌}
 use Rattle.std.proofs.Math.Numerals.{add-one}
@@ -52,6 +52,13 @@ module _ {A : Type 0} where
   split-take (k ∷ ks) m l h =
       ap₂ (λ (c : List A) (r : List (List A)). c ∷ r) (take-take k m l (omega arith))
       (ap (split ks) (drop-take k m l) ∙ split-take ks (m - k) (drop k l) (omega arith))
+
+  -- from column i on: it, and the others
+  pub split_step : (ks : List ℕ) (i a e : ℕ) (l : List A) → i < length ks → e ≡ a + get_or ks i 0 → split (drop i ks) (drop a l) ≡ take (e - a) (drop a l) ∷ split (drop (i + 1) ks) (drop e l)
+  unfolding split
+  split_step ks i a e l h q =
+      let w : e - a ≡ get_or ks i 0 = omega (arith, q) in
+      rw (drop-cons ks i 0 h, add-one, w, q) (ap (λ (r : List A). take (get_or ks i 0) (drop a l) ∷ split (drop (suc i) ks) r) (drop-drop (get_or ks i 0) a l))
 
   -- column i, and what is stored when another of its length takes its place
   pub split_at_column : (ks : List ℕ) (i : ℕ) (l : List A) → i < length ks → get_or (split ks l) i [] ≡ take (get_or ks i 0) (drop (sum_all (take i ks)) l)

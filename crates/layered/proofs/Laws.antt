@@ -1,18 +1,12 @@
 -- The column that holds a state, a step of each loop over slices, and its end. Assumes nothing.
 use mathlib.Core.Path.{◌≡◌, refl, sym, ap, ap₂, ◌∙◌}
-use mathlib.Core.Bool.{Bool, true, false}
 use mathlib.Core.List.{List, [], ◌∷◌, map}
-use Prim.Native.Nat.{ℕ, zero, suc, ◌+◌, ◌≤◌, ◌<◌}
+use Prim.Native.Nat.{ℕ, ◌+◌}
 use native.Mathlib.Omega.{arith}
-use lib.ListN.{length, get_or, drop, set, replicate, drop_of_length-le}
-use lib.Seq.{drop-cons, drop-drop, get_or-drop, drop-set-lt}
-use native.Mathlib.Numerals.{add-one}
+use lib.ListN.{get_or, drop, set, replicate}
+use lib.Seq.{drop-drop, get_or-drop, drop-set-lt}
 use lib.Ieee.{Float}
-use Rattle.std.specs.Prelude.{Option}
-use Rattle.std.proofs.Common.{zero-add}
-use Rattle.std.proofs.lemmas.Iterator.Adapters.{option_map_id}
-use Rattle.std.specs.List.{find, range_with_len}
-use Rattle.std.specs.Option.{unwrap_or, option_map}
+use Rattle.std.specs.List.{position_or_len}
 use Rattle.laws.specs.Cases.{by_bool}
 use Rattle.laws.specs.Loops.{over}
 use Rattle.laws.specs.Zip.{zip_by}
@@ -26,44 +20,11 @@ use Rattle.columns.specs.Columns.{elem, state_numbers, columns}
 use Rattle.sweep.specs.Sweeps.{Arranged, arranged, centre_column, four_sweeps, swept}
 use Rattle.layered.specs.Layered.{column_of, column_gap, row, layered_xs, layered_ys}
 
--- ---- column after column
-module _ (v : ℕ) (cs : List (List ℕ)) (i : ℕ) where
-  pub column_hit : i < length cs → elem v (get_or cs i []) ≡ true → column_of (drop i cs) v ≡ 0
-  unfolding column_of
-  column_hit h t = rw (drop-cons cs i [] h, t)
-
-  pub column_miss : i < length cs → elem v (get_or cs i []) ≡ false → column_of (drop i cs) v ≡ suc (column_of (drop (i + 1) cs) v)
-  unfolding column_of
-  column_miss h t = rw (drop-cons cs i [] h, t, add-one)
-
-  pub column_none : length cs ≤ i → column_of (drop i cs) v ≡ 0
-  unfolding column_of
-  column_none h = rw (drop_of_length-le cs h)
-
-module _ (v : ℕ) (cs : List (List ℕ)) where
-  abbrev holds : ℕ → Bool
-  holds l = elem v (get_or cs l [])
-
-  found_from : (i n m : ℕ) → i + n ≡ length cs → m ≡ i + n → unwrap_or (find holds (range_with_len i n)) m ≡ i + column_of (drop i cs) v
-  found_from i zero m e f = omega (arith, column_none v cs i (omega (arith, e)), f)
-  found_from i (suc n) m e f =
-      let l : i < length cs = omega (arith, e) in
-      by_bool (holds i)
-      (λ t. rw t (omega (arith, column_hit v cs i l t)))
-      (λ t. rw t (let later = found_from (i + 1) n m (omega (arith, e)) (omega (arith, f)) in omega (arith, later, column_miss v cs i l t)))
-
-  pub column_found : (r : Option ℕ) → option_map (λ x. x) r ≡ find holds (range_with_len 0 (length cs)) → unwrap_or r (length cs) ≡ column_of cs v
-  column_found r e =
-      ap (λ (r : Option ℕ). unwrap_or r (length cs)) (sym (option_map_id r) ∙ e)
-      ∙ found_from 0 (length cs) (length cs) (omega arith) (omega arith) ∙ zero-add (column_of cs v)
-
-pub column_of-le : (v : ℕ) (cs : List (List ℕ)) → column_of cs v ≤ length cs
+-- ---- the column that holds a state
+pub column_place : (v : ℕ) (cs : List (List ℕ)) → position_or_len (elem v) cs ≡ column_of cs v
 unfolding column_of
-column_of-le v [] = omega arith
-column_of-le v (c ∷ cs) =
-    by_bool (elem v c)
-    (λ t. rw t (omega arith))
-    (λ t. rw t (let later = column_of-le v cs in omega (arith, later)))
+column_place v [] = refl
+column_place v (c ∷ cs) = by_bool (elem v c) (λ t. rw t) (λ t. rw t (omega (arith, column_place v cs)))
 
 -- ---- what is still to be read is as it was
 module _ {A : Type 0} (l l₀ : List A) (i : ℕ) where

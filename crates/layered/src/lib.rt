@@ -44,17 +44,14 @@ fn row_for(height: f64) -> f64
 }
 
 // The number of the column that holds v.
-fn column_of(columns: &Columns, v: usize) -> usize
+fn column_of(columns: &Columns<64>, v: usize) -> usize
     ensures { (result ≡ D.column_of columns.now v) × (result ≤ 64) }
 {
-    let count = columns.count();
-    (0..count)
-        .find(|l| columns::contains(columns.column(*l), v))
-        .unwrap_or(count)
+    columns.place_of(v)
 }
 
 // The x of each state, with y 0.
-fn put_xs(columns: &Columns, gap: f64, centres: &mut [V])
+fn put_xs(columns: &Columns<64>, gap: f64, centres: &mut [V])
     ensures { let column_of = D.column_of columns.now in
         centres.new ≡ map (λ v. vec (of_nat (column_of v) ⊗ gap) f0) (state_numbers (length centres.old)) }
 {

@@ -14,9 +14,8 @@ use Rattle.shape.specs.Plane.{vec}
 use Rattle.shape.specs.Centres.{centres}
 use Rattle.label_spots.specs.declared.Geometry.{Geometry}
 use Rattle.routing.specs.Routing.{BlockSize, records}
-use Rattle.routing.specs.Sheets.{frame_with}
 use Rattle.routing_laws.proofs.Decoded.{records_most}
-use Rattle.curves.specs.Counted.{counted}
+use Rattle.curves.specs.Counted.{counted, frame_from}
 use Rattle.clutter.specs.Clutter.{clutter_of}
 use Rattle.clutter.specs.Bounds.{clutter-le}
 use Rattle.fit.specs.Fit.{fit_xs, fit_ys, fit_size}
@@ -57,21 +56,21 @@ placed-whole Ring p = ring-whole p
 pub placed_points : (q : Placement) (p : Plan) (cs : List «V») → cs ≡ centres_of (placed q p) → placing_of cs ≡ placed q p
 placed_points q p cs e = ap placing_of e ∙ placing_back p (placed q p) (placed-whole q p)
 
--- ---- the drawing at given centres, which are ns as they count
+-- ---- the drawing at given centres
 
-module _ (p : Plan) (cs ns : List «V») (e : ns ≡ counted cs (many p)) where
+module _ (p : Plan) (cs : List «V») where
   -- the frame of a placement
-  pub frame_placed : (q : Placement) → cs ≡ centres_of (placed q p) → frame_with p.flags ns p.arrows ≡ plan_frame p (placed q p)
-  frame_placed q k =
-      ap (λ (l : List «V»). frame_with p.flags l p.arrows) e ∙ ap (plan_frame p) (placed_points q p cs k)
+  pub frame_placed : (q : Placement) → cs ≡ centres_of (placed q p) → frame_from p.flags cs p.arrows ≡ plan_frame p (placed q p)
+  frame_placed q k = ap (plan_frame p) (placed_points q p cs k)
 
-  module _ (gs : List Geometry) (g : gs ≡ records (frame_with p.flags ns p.arrows) p.sizes) where
+  module _ (gs : List Geometry) (g : gs ≡ records (frame_from p.flags cs p.arrows) p.sizes) where
     drawn_are : gs ≡ records_at p (placing_of cs)
-    drawn_are = g ∙ ap (λ (l : List «V»). records (frame_with p.flags l p.arrows) p.sizes) e
+    drawn_are = g
 
-    pub clutter_counted : (m : ℕ) → m ≡ clutter_of ns gs → m ≡ clutter_at p (placing_of cs)
+    -- ns are the centres as they count
+    pub clutter_counted : (ns : List «V») → ns ≡ counted cs (many p) → (m : ℕ) → m ≡ clutter_of ns gs → m ≡ clutter_at p (placing_of cs)
     unfolding clutter_at
-    clutter_counted m k = k ∙ ap₂ clutter_of e drawn_are
+    clutter_counted ns e m k = k ∙ ap₂ clutter_of e drawn_are
 
     pub fitted_left : (s : Size) (qs : List «V») → s ≡ fit_size p.flags cs gs
         → qs ≡ centres (fit_xs p.flags cs gs (map (λ c. c.x) cs)) (fit_ys p.flags cs gs (map (λ c. c.y) cs))

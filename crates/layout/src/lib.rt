@@ -3,14 +3,13 @@
 
 ghost use Rattle.std.specs.Prelude.{◌≡◌, map, ◌<◌, ◌≤◌, length};
 ghost use Rattle.routing.specs.Routing.{records};
-ghost use Rattle.routing.specs.Sheets.{frame_with};
+ghost use Rattle.curves.specs.Counted.{frame_from};
 ghost use Rattle.circular.specs.Ring.{largest};
 ghost use Rattle.layout.specs.Layout as S;
 ghost use Rattle.layout.specs.Lent as C;
 
 mod plan;
 
-use curves::Frame;
 use fit::{MARGIN, Size};
 use label::Block;
 use label_spots::Geometry;
@@ -109,20 +108,14 @@ impl<'a> Plan<'a> {
 // ---- what is measured
 
 impl<'a> Plan<'a> {
-    // The drawing at these centres, in the room lent for it.
+    // The drawing at these centres as they count, in the room lent for it.
     #[tactic(auto, using(laws::specs::Filled::front_is, routing_laws::proofs::Decoded::records_most))]
-    fn draw<'b>(&self, nodes: &[V], room: &'b mut [Geometry]) -> &'b [Geometry]
-        requires level { length nodes.now ≡ length self.now.flags.now }
+    fn draw<'b>(&self, centres: &[V], room: &'b mut [Geometry]) -> &'b [Geometry]
         requires room { 256 ≤ length room.old }
         ensures { let plan = C.plan_in self.now in
-            result.now ≡ records (frame_with plan.flags nodes.now plan.arrows) plan.sizes }
+            result.now ≡ records (frame_from plan.flags centres.now plan.arrows) plan.sizes }
     {
-        let frame = Frame {
-            flags: self.flags,
-            centres: nodes,
-            arrows: self.arrows,
-        };
-        let count = geometry::geometry(&frame, self.sizes, room);
+        let count = geometry::geometry(self.flags, centres, self.arrows, self.sizes, room);
         &room[..count]
     }
 
@@ -131,10 +124,10 @@ impl<'a> Plan<'a> {
     fn clutter(&self, centres: &[V]) -> usize
         ensures { result ≡ S.clutter_at (C.plan_in self.now) (C.placing_of centres.now) }
     {
+        let mut room = [Geometry::NONE; 256];
+        let drawn = self.draw(centres, &mut room);
         let mut space = [V::ORIGIN; 64];
         let nodes = curves::counted(centres, self.flags.len(), &mut space);
-        let mut room = [Geometry::NONE; 256];
-        let drawn = self.draw(nodes, &mut room);
         clutter::clutter(nodes, drawn)
     }
 
@@ -206,10 +199,8 @@ impl<'a> Plan<'a> {
         requires level { length centres.old ≡ length self.now.flags.now }
         ensures { C.Left (S.fitted (C.plan_in self.now) (C.placing_of centres.old)) result centres.new }
     {
-        let mut space = [V::ORIGIN; 64];
-        let nodes = curves::counted(centres, self.flags.len(), &mut space);
         let mut room = [Geometry::NONE; 256];
-        let drawn = self.draw(nodes, &mut room);
+        let drawn = self.draw(centres, &mut room);
         fit::fit(self.flags, drawn, centres)
     }
 

@@ -27,14 +27,16 @@ fn put_refused(out: &mut [u8], n: u8) -> usize
     w.at
 }
 
-// What the program writes of a sheet, at the front of `text`: how many bytes.
-fn output(sheet: &[u8], text: &mut [u8; LENT]) -> usize
-    ensures { (length text.new ≡ S.lent)
+// What the program writes for the first n bytes of what it read, at the front of `text`: how many bytes.
+fn output(input: &[u8; ASKED], n: usize, text: &mut [u8; LENT]) -> usize
+    requires { n ≤ length input.now }
+    ensures { (length input.now ≡ S.asked)
+        × (length text.new ≡ S.lent)
         × (result ≤ S.lent)
-        × (take result text.new ≡ S.output sheet.now) }
+        × (take result text.new ≡ S.output (take n input.now)) }
 {
-    match calls::list(sheet, sheet::main_screen(), 0, text) {
-        Ok(n) => n,
+    match calls::list(&input[..n], sheet::main_screen(), 0, text) {
+        Ok(m) => m,
         Err(refusal) => put_refused(text, refusal.into()),
     }
 }
@@ -65,7 +67,7 @@ fn run<R: Read, W: Write>(from: &mut R, to: &mut W) -> io::Result<()>
     let mut input = [0u8; ASKED];
     let n = read_full(from, &mut input)?;
     let mut text = [0u8; LENT];
-    let written = output(&input[..n], &mut text);
+    let written = output(&input, n, &mut text);
     to.write_all(&text[..written])
 }
 

@@ -145,3 +145,32 @@ pub fn flags_into(s: &[u8], out: &mut [u8])
 {
     each_into(Chain::new(s, word_at(s, 4)), out, |k| one_at(s, k));
 }
+
+// The state that each arrow leaves, into `out` as far as it reaches.
+pub fn sources_into(s: &[u8], out: &mut [usize])
+    ensures { out.new ≡ put out.old 0 (M.sources (S.meaning s.now)) }
+{
+    each_into(
+        Chain::new(s, word_at(s, 6)),
+        out,
+        |k| usize::from(word_at(s, place_of(k) + 4)),
+    );
+}
+
+// The state that each arrow leads to, into `out` as far as it reaches.
+pub fn targets_into(s: &[u8], out: &mut [usize])
+    ensures { out.new ≡ put out.old 0 (M.targets (S.meaning s.now)) }
+{
+    each_into(
+        Chain::new(s, word_at(s, 6)),
+        out,
+        |k| usize::from(word_at(s, place_of(k) + 6)),
+    );
+}
+
+// The first line record of each arrow, into `out` as far as it reaches.
+pub fn heads_into(s: &[u8], out: &mut [u16])
+    ensures { out.new ≡ put out.old 0 (M.first_lines s.now) }
+{
+    each_into(Chain::new(s, word_at(s, 6)), out, |k| first_line_at(s, k));
+}

@@ -81,10 +81,13 @@ module _ (m : Limits) (kind : ℕ) (s : List ℕ) (cs : List «V») where
       ∙ decide-rest 11 (ltb last_kind kind) (sheet_refusals m kind s) refuse accept (le-ltb last_kind kind h))
 
 -- the number of a kind is at most the last
-pub kind_most : (k : Kind) → kind_number k ≤ last_kind
+kind_most : (k : Kind) → kind_number k ≤ last_kind
 kind_most Auto = omega arith
 kind_most Layered = omega arith
 kind_most Circular = omega arith
+
+pub kind_within : {n : ℕ} (k : Kind) → kind_number k ≡ n → n ≤ last_kind
+kind_within k e = omega (arith, kind_most k, e)
 
 -- ---- 9
 

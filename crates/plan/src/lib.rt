@@ -9,7 +9,6 @@ ghost use Rattle.layout.specs.Lent.{plan_in};
 ghost use Rattle.plan.specs.Measured as M;
 ghost use Rattle.plan.specs.Planned as S;
 
-use curves::Frame;
 use fit::Size;
 use label::Block;
 use layout::{Kind, Placement, Plan};
@@ -24,17 +23,10 @@ fn placed_beyond(plan: &Plan, placement: Placement) -> bool
     requires some { 0 < length plan.now.flags.now }
     ensures { let p = plan_in plan.now in result ≡ M.beyond_at p (L.placed placement p) }
 {
-    let n = plan.flags.len();
     let mut space = [V::ORIGIN; 64];
-    let centres = &mut space[..n];
+    let centres = &mut space[..plan.flags.len()];
     plan.place(placement, centres);
-    let mut room = [V::ORIGIN; 64];
-    let frame = Frame {
-        flags: plan.flags,
-        centres: curves::counted(centres, n, &mut room),
-        arrows: plan.arrows,
-    };
-    beyond::beyond(&frame)
+    beyond::beyond(plan.flags, centres, plan.arrows)
 }
 
 // Auto measures the ring, and the layers too where it has to compare.
@@ -133,14 +125,15 @@ fn plan_accepted(s: &[u8], kind: Kind, centres: &mut [V]) -> Result<(usize, Size
     )
 }
 
-// Checks a sheet under the limits and lays it out by kind: how many states there are, the size of the drawing, and the
-// centres from the front of `centres` on, or a refusal. There is room for 64 states and 256 arrows.
-pub fn plan(s: &[u8], m: Limits, kind: Kind, centres: &mut [V]) -> Result<(usize, Size), Refusal>
+// Checks a sheet under the limits and lays it out by kind, 0 Auto, 1 Layered, 2 Circular: how many states there are, the
+// size of the drawing, and the centres from the front of `centres` on, or a refusal. There is room for 64 states and 256
+// arrows.
+pub fn plan(s: &[u8], m: Limits, kind: u8, centres: &mut [V]) -> Result<(usize, Size), Refusal>
     requires { (m.states ≤ 64) × (m.arrows ≤ 256) × (64 ≤ length centres.old) }
-    ensures { let number = L.kind_number kind in
-        (outcome result ≡ S.planned m number s.now)
-        × (centres.new ≡ S.centres_planned m number s.now centres.old) }
+    ensures { (outcome result ≡ S.planned m kind s.now)
+        × (centres.new ≡ S.centres_planned m kind s.now centres.old) }
 {
+    let kind = Kind::try_from(kind)?;
     sheet_check::check_within(s, m)?;
     plan_accepted(s, kind, centres)
 }

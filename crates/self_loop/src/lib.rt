@@ -13,6 +13,7 @@ use bend::{Routed, Shape};
 use label_spots::{Geometry, Spot, Turn};
 use scene::Scene;
 use shape::{Curve, V};
+use stack::Stack;
 use trace::Trace;
 
 // A direction with less room than this on one side is cramped.
@@ -143,7 +144,8 @@ pub fn self_loop(scene: &Scene, turn: &Loop) -> Geometry
     requires few { length turn.now.taken.now ≤ 512 }
     ensures { let s = S.scene_in scene.now in result ≡ L.looped s (L.loop_in s turn.now) }
 {
-    let listed = directions::directions(turn.taken);
+    let mut listed = Stack::new(0.0);
+    directions::directions(turn.taken, &mut listed);
     let phi = turn.take_direction(scene, listed.as_slice());
     turn.drawn(scene.states[turn.node], phi)
 }

@@ -26,9 +26,9 @@ fn ordered(p: &[u8], o: Ordering) -> bool
 }
 
 // Whether the answer that a case has behind the arguments is the stand-in's.
-#[tactic(auto, unfolding(crate::specs::Cases::standin_agrees))]
-pub fn agrees(stand_in: StandIn, p: &[u8]) -> bool
-    ensures { result ≡ S.standin_agrees stand_in p.now }
+#[tactic(auto, unfolding(crate::specs::Cases::right))]
+fn right(stand_in: StandIn, p: &[u8]) -> bool
+    ensures { result ≡ S.right stand_in p.now }
 {
     match stand_in {
         StandIn::Root => answered(p, 8, float::root(at(p, 0))),
@@ -47,5 +47,16 @@ pub fn agrees(stand_in: StandIn, p: &[u8]) -> bool
         StandIn::Copysign => answered(p, 16, float::copysign(at(p, 0), at(p, 8))),
         StandIn::TotalCmp => ordered(p, float::total_cmp(at(p, 0), at(p, 8))),
         StandIn::RemTau => answered(p, 8, remainder::rem_tau(at(p, 0))),
+    }
+}
+
+// A case by the number of its stand-in; one of any other number is never right.
+#[tactic(auto, using(crate::specs::Laws::agrees_stand_in, crate::specs::Laws::no_kind))]
+pub fn agrees(number: u8, p: &[u8]) -> bool
+    ensures { result ≡ S.standin_agrees number p.now }
+{
+    match StandIn::try_from(number) {
+        Ok(stand_in) => right(stand_in, p),
+        Err(_) => false,
     }
 }

@@ -1,9 +1,21 @@
 -- An automaton for well-formed UTF-8, fed a byte at a time: of what may come next, as much as a later byte can tell.
-use Rattle.std.specs.Prelude.{Bool, true, false, cond, List, [], ◌∷◌, ℕ, ◌+◌, ◌*◌, ◌%◌, leb}
+use Rattle.std.specs.Prelude.{Bool, true, false, cond, List, [], ◌∷◌, ℕ, ◌+◌, ◌*◌, ◌%◌, eqb, leb}
 use Rattle.laws.specs.Loops.{over}
 use Rattle.text.specs.declared.Awaiting.{Awaiting}
 use Rattle.text.specs.declared.Awaiting.TheVariants.{First, One, Two, Three, AfterE0, AfterEd, AfterF0, AfterF4, Nothing}
 use Rattle.text.specs.Utf8.{payload}
+
+-- What is awaited, by its number: 0 between characters; 1, 2, 3 that many bytes to come; 4 after E0, 5 after ED, 6 after F0, 7 after F4; from 8 on ill-formed.
+abbrev pub awaiting_of : ℕ → Awaiting
+awaiting_of n =
+    cond (eqb n 0) First
+    (cond (eqb n 1) One
+    (cond (eqb n 2) Two
+    (cond (eqb n 3) Three
+    (cond (eqb n 4) AfterE0
+    (cond (eqb n 5) AfterEd
+    (cond (eqb n 6) AfterF0
+    (cond (eqb n 7) AfterF4 Nothing)))))))
 
 -- no byte is lacking
 unfoldable pub is_whole : Awaiting → Bool

@@ -9,8 +9,8 @@ use Rattle.laws.specs.Loops.{over}
 use Rattle.text.specs.Utf8.{Awaited, by_table, is_done, payload, gathered_code, codes_from, code_points}
 use Rattle.text.specs.declared.Awaiting.{Awaiting}
 use Rattle.text.specs.declared.Awaiting.TheVariants.{First, One, Two, Three, AfterE0, AfterEd, AfterF0, AfterF4, Nothing}
-use Rattle.text.specs.Automaton.{is_whole, next_within, lead, feed_of, gather_of, read_by}
-use Rattle.text.specs.Table.{awaits, each_below, below_at, feed_high, feed-table, done_is}
+use Rattle.text.specs.Automaton.{awaiting_of, is_whole, next_within, lead, feed_of, gather_of, read_by}
+use Rattle.text.specs.Table.{awaits, each_below, below_at, feed_high, nothing-over, feed-table, done_is}
 
 -- what the value is below: the bits gathered, and all 21 where nothing is known
 abbrev limit : Awaiting → ℕ
@@ -101,10 +101,14 @@ by_nothing AfterF4 p q = q tt
 by_nothing Nothing p q = p refl
 
 module _ {A : Type 0} (f : A → ℕ → A) where
-  read_none : (v : ℕ) (a : A) (s : List ℕ) → read_by f Nothing v a s ≡ a
+  read_nothing : (v : ℕ) (a : A) (s : List ℕ) → read_by f Nothing v a s ≡ a
   unfolding read_by feed_of is_whole
-  read_none v a [] = refl
-  read_none v a (b ∷ s) = read_none (gather_of Nothing v b) a s
+  read_nothing v a [] = refl
+  read_nothing v a (b ∷ s) = read_nothing (gather_of Nothing v b) a s
+
+  -- from a number that stands for an ill-formed text
+  pub read_none : (n v : ℕ) (a : A) (s : List ℕ) → 8 ≤ n → read_by f (awaiting_of n) v a s ≡ a
+  read_none n v a s h = rw (nothing-over n h) (read_nothing v a s)
 
   -- one byte, by the table
   codes_over : (w : Awaited) (v : ℕ) (a : A) (b : ℕ) (s : List ℕ) → over f a (codes_from w v (b ∷ s)) ≡ over f (cond (is_done (by_table w b)) (f a (gathered_code w v b)) a) (codes_from (by_table w b) (gathered_code w v b) s)
@@ -115,7 +119,7 @@ module _ {A : Type 0} (f : A → ℕ → A) where
   read_from [] w v a h = unfold read_by over codes_from in refl
   read_from (b ∷ s) w v a h =
       by_nothing w
-      (λ k. rw k (read_none v a (b ∷ s) ∙ sym (ap (over f a) (codes_none v (b ∷ s)) ∙ over-nil a)))
+      (λ k. rw k (read_nothing v a (b ∷ s) ∙ sym (ap (over f a) (codes_none v (b ∷ s)) ∙ over-nil a)))
       (λ k.
       let e = gather-table w v b k h in
       read_step w v a b s

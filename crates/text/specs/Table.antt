@@ -1,6 +1,6 @@
 -- The automaton agrees with the table: one test over every state and byte, and what follows for texts. Assumes nothing.
 use Rattle.std.specs.Prelude.{◌≡◌, refl, Bool, true, false, ◌&&◌, List, [], ◌∷◌, ◌++◌, ℕ, zero, suc, ◌<◌, ◌≤◌, T, eqb, leb}
-use Rattle.std.proofs.Common.{sym, ap, ap₂, ◌∙◌, subst, not-suc-le-zero, arith, eqb→eq, eqb-true}
+use Rattle.std.proofs.Common.{sym, ap, ap₂, ◌∙◌, subst, not-suc-le-zero, arith, eqb→eq, eqb-true, ne_eqb}
 use Rattle.std.proofs.Math.Option.{none, some}
 use Rattle.std.proofs.lemmas.Bool.{eqb-false, lt-leb}
 use Rattle.laws.specs.Cases.{by_bool, by_lt}
@@ -8,7 +8,7 @@ use Rattle.laws.specs.Loops.{over, over_join}
 use Rattle.text.specs.Utf8.{Range, to, Awaited, in_range, lookup, by_table, rows, well_formed, is_done}
 use Rattle.text.specs.declared.Awaiting.{Awaiting}
 use Rattle.text.specs.declared.Awaiting.TheVariants.{First, One, Two, Three, AfterE0, AfterEd, AfterF0, AfterF4, Nothing}
-use Rattle.text.specs.Automaton.{is_whole, next_within, feed_of, lead, feed_all}
+use Rattle.text.specs.Automaton.{awaiting_of, is_whole, next_within, feed_of, lead, feed_all}
 
 -- what the automaton awaits, by the table
 abbrev pub awaits : Awaiting → Awaited
@@ -158,6 +158,29 @@ feed_high AfterEd b h = out b 0x80 0x9f One (omega arith)
 feed_high AfterF0 b h = out b 0x90 0xbf Two (omega arith)
 feed_high AfterF4 b h = out b 0x80 0x8f Two (omega arith)
 feed_high Nothing b h = refl
+
+-- From 8 on a number stands for an ill-formed text,
+pub nothing-over : (n : ℕ) → 8 ≤ n → awaiting_of n ≡ Nothing
+nothing-over n h =
+    rw (
+      ne_eqb n 0 (λ e. omega arith),
+      ne_eqb n 1 (λ e. omega arith),
+      ne_eqb n 2 (λ e. omega arith),
+      ne_eqb n 3 (λ e. omega arith),
+      ne_eqb n 4 (λ e. omega arith),
+      ne_eqb n 5 (λ e. omega arith),
+      ne_eqb n 6 (λ e. omega arith),
+      ne_eqb n 7 (λ e. omega arith),
+    )
+
+-- which stays ill-formed whatever comes,
+pub feed-over : (n b : ℕ) → 8 ≤ n → feed_of (awaiting_of n) b ≡ Nothing
+unfolding feed_of
+feed-over n b h = rw (nothing-over n h)
+
+-- and awaits nothing.
+pub awaits-over : (n : ℕ) → 8 ≤ n → awaits (awaiting_of n) ≡ none
+awaits-over n h = rw (nothing-over n h)
 
 -- The automaton's step is the table's.
 pub feed-table : (w : Awaiting) (b : ℕ) → awaits (feed_of w b) ≡ by_table (awaits w) b

@@ -4,7 +4,7 @@
 ghost use Rattle.std.specs.Prelude.{◌≡◌, [], ◌∷◌, ◌+◌, ◌<◌, take, drop, set};
 ghost use Rattle.text.specs.Writing.{Adds};
 ghost use Rattle.text.specs.Utf8 as U;
-ghost use Rattle.text.specs.Automaton.{is_whole, next_within, lead, feed_of, feed_all, gather_of};
+ghost use Rattle.text.specs.Automaton.{awaiting_of, is_whole, next_within, lead, feed_of, feed_all, gather_of};
 ghost use Rattle.text.specs.Digits.{digits};
 
 // What a text that has been read so far awaits.
@@ -32,6 +32,25 @@ impl Awaiting {
         ensures { result ≡ is_whole self }
     {
         self == Awaiting::First
+    }
+}
+
+// From its number: from 0 in the order of the enum, and from 8 on nothing.
+impl From<u8> for Awaiting {
+    ghost from_gives = { λ number awaiting. awaiting ≡ awaiting_of number };
+
+    fn from(number: u8) -> Awaiting {
+        match number {
+            0 => Awaiting::First,
+            1 => Awaiting::One,
+            2 => Awaiting::Two,
+            3 => Awaiting::Three,
+            4 => Awaiting::AfterE0,
+            5 => Awaiting::AfterEd,
+            6 => Awaiting::AfterF0,
+            7 => Awaiting::AfterF4,
+            _ => Awaiting::Nothing,
+        }
     }
 }
 

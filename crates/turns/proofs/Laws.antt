@@ -16,7 +16,8 @@ use Rattle.routing_laws.specs.Numbers.{numbered-drop, numbered-past}
 use Rattle.routing_laws.proofs.Turns.{turned_loop, turned_label, turned-other}
 use Rattle.curves.specs.declared.Laid.{Laid}
 use Rattle.curves.specs.Lay.{laid_by, laid_of, crossing_by, crosses, crossings}
-use Rattle.turns.specs.Steps.{is_sort, pass_of, looped_as, many_of, loops_of, one_at, more, turned_as, turned_by}
+use Rattle.turns.specs.declared.drawing.Drawing.{Drawing}
+use Rattle.turns.specs.Steps.{is_sort, pass_of, looped_as, many_of, loops_of, one_at, more, drawn_in, Added, turned_as, turned_by}
 use Rattle.laws.specs.Counting.{how_many, worth}
 use Rattle.curves.specs.Counts.{how_many_next, how_many_first}
 use Rattle.turns.specs.declared.Sort.{Sort}
@@ -103,6 +104,10 @@ module _ (f : Frame) (i : ℕ) where
     turn_other t = sym (turned-other f sizes (pass_of sort) d this (sorted_as ∙ t))
 
 -- ---- one drawing more
+
+pub added_drawn : {a t : ℕ} (f : Frame) {d e : Drawing a t} {i : ℕ} {g : Geometry} → Added d e i g
+    → drawn_in f e ≡ drawn_with (scene_of f.centres (map trace_in d.traces.now) (d.boxes.now ++ (g.label_box ∷ []))) (set d.drawn.now i (Some g))
+added_drawn f k = rw (k.boxes, k.traces, k.drawn)
 
 pub looped-edge : (s : Scene) (l : Loop) → (looped s l).edge ≡ l.edge
 unfolding loop_at labelled

@@ -1,5 +1,5 @@
 -- The turns as the code runs them, arrow by arrow.
-use Rattle.std.specs.Prelude.{Bool, true, false, not, ℕ, ◌+◌, ◌≤◌, length, get_or, set, Some}
+use Rattle.std.specs.Prelude.{◌≡◌, Bool, true, false, not, ℕ, ◌+◌, ◌≤◌, length, get_or, set, Some}
 use mathlib.Core.List.{List, [], ◌∷◌, ◌++◌, map}
 use Rattle.laws.specs.Counting.{how_many, worth}
 use Rattle.trace.specs.Form.{trace_in}
@@ -14,7 +14,7 @@ use Rattle.routing_laws.specs.Turns.{with_loop, with_label}
 use Rattle.curves.specs.declared.Laid.{Laid}
 use Rattle.curves.specs.Lay.{laid_by}
 use Rattle.turns.specs.declared.Sort.{Sort}
-use Rattle.turns.specs.declared.Drawing.{Drawing}
+use Rattle.turns.specs.declared.drawing.Drawing.{Drawing}
 
 -- whether an arrow is of a sort
 abbrev pub is_sort : Sort → Laid → Bool
@@ -59,18 +59,21 @@ more Sort.Straight n = 0
 -- ---- what is drawn so far
 module _ {a t : ℕ} where
   abbrev pub scene_in : Frame → Drawing a t → Scene
-  scene_in f d = scene_of f.centres (map trace_in d.traces) d.boxes
+  scene_in f d = scene_of f.centres (map trace_in d.traces.now) d.boxes.now
 
   abbrev pub drawn_in : Frame → Drawing a t → Drawn
-  drawn_in f d = drawn_with (scene_in f d) d.drawn
+  drawn_in f d = drawn_with (scene_in f d) d.drawn.now
 
-  abbrev pub added : Drawing a t → ℕ → Geometry → Drawing a t
-  added d i g = record { boxes = d.boxes ++ (g.label_box ∷ []); traces = d.traces; drawn = set d.drawn i (Some g) }
+  -- the drawing of arrow i more, and its label's box
+  pub record Added (d e : Drawing a t) (i : ℕ) (g : Geometry) : Type 0 where
+    pub boxes : e.boxes.now ≡ d.boxes.now ++ (g.label_box ∷ [])
+    pub traces : e.traces.now ≡ d.traces.now
+    pub drawn : e.drawn.now ≡ set d.drawn.now i (Some g)
 
   -- at most n labels and m traces more
   pub record Grown (d e : Drawing a t) (n m : ℕ) : Type 0 where
-    pub boxes : length e.boxes ≤ length d.boxes + n
-    pub traces : length e.traces ≤ length d.traces + m
+    pub boxes : length e.boxes.now ≤ length d.boxes.now + n
+    pub traces : length e.traces.now ≤ length d.traces.now + m
 
 -- ---- the turn of arrow i
 abbrev pub turned_as : Frame → BlockSize → ℕ → Drawn → Laid → Drawn

@@ -8,16 +8,18 @@ ghost use Rattle.scene.specs.Turn.{placed_arrow};
 ghost use Rattle.self_loop.specs.Looped.{looped};
 ghost use Rattle.routing.specs.Routing.{loop_turn, turn_of, numbered_at};
 ghost use Rattle.routing_laws.specs.Passes.{turned, passed, gathered};
-ghost use Rattle.curves.specs.Lay.{frame_in, laid_of};
+ghost use Rattle.curves.specs.Lay.{frame_in};
 ghost use Rattle.turns.specs.Steps as S;
 
+mod drawing;
+
 use bend::Shape;
-use curves::{Crossing, Frame, Laid};
+use curves::{Crossing, Frame, Laid, Laying};
+pub use drawing::Drawing;
 use label::Block;
 use label_spots::{Geometry, Turn};
 use scene::Scene;
 use self_loop::Loop;
-use shape::Rect;
 use stack::Stack;
 use trace::Trace;
 
@@ -43,28 +45,19 @@ fn is_sort(laid: &Laid, sort: Sort) -> bool
     }
 }
 
-// What is drawn so far: the labels' boxes, the traces, and the drawing of each arrow that has one.
-#[derive(Drop)]
-pub struct Drawing<const ARROWS: usize, const TRACES: usize> {
-    pub boxes: Stack<Rect, ARROWS>,
-    pub traces: Stack<Trace, TRACES>,
-    pub drawn: [Option<Geometry>; ARROWS],
-}
-
-impl<const ARROWS: usize, const TRACES: usize> Drawing<ARROWS, TRACES> {
+impl<'a, const ARROWS: usize, const TRACES: usize> Drawing<'a, ARROWS, TRACES> {
     // Loop i in the direction that it takes.
-    fn loop_of(&self, frame: &Frame, laid: &[Laid], size: Block, i: usize) -> Geometry
-        requires all { laid.now ≡ laid_of (frame_in frame.now) }
-        requires arrow { i < length frame.now.arrows.now }
-        requires state { (numbered_at (frame_in frame.now) i).ends.source < length frame.now.centres.now }
-        ensures { let f = frame_in frame.now in
+    fn loop_of(&self, laying: &Laying, size: Block, i: usize) -> Geometry
+        requires arrow { i < length laying.now.frame.arrows.now }
+        requires state { (numbered_at (frame_in laying.now.frame) i).ends.source < length laying.now.frame.centres.now }
+        ensures { let f = frame_in laying.now.frame in
             result ≡ looped (S.scene_in f self.now) (loop_turn f (numbered_at f i) size) }
     {
-        let node = frame.arrows[i].source;
+        let node = laying.frame.arrows[i].source;
         let mut taken = Stack::new(0.0);
-        frame.rim(laid, node, &mut taken);
+        laying.frame.rim(laying.laid, node, &mut taken);
         let scene = Scene {
-            states: frame.centres,
+            states: laying.frame.centres,
             boxes: self.boxes.as_slice(),
             traces: self.traces.as_slice(),
         };
@@ -98,81 +91,77 @@ impl<const ARROWS: usize, const TRACES: usize> Drawing<ARROWS, TRACES> {
 
     // Adds the drawing of arrow i: its label's box enters the scene.
     fn add(&mut self, i: usize, g: Geometry)
-        requires room { (length self.old.boxes < ARROWS) × (i < ARROWS) }
-        ensures { self.new ≡ S.added self.old i g }
+        requires room { (length self.old.boxes.now < ARROWS) × (i < ARROWS) }
+        ensures { S.Added self.old self.new i g }
     {
         self.boxes.push(g.label_box);
         self.drawn[i] = Some(g);
     }
 
     // The turn of arrow i.
-    fn turn(&mut self, frame: &Frame, laid: &[Laid], size: Block, i: usize)
-        requires all { laid.now ≡ laid_of (frame_in frame.now) }
-        requires arrow { (i < length frame.now.arrows.now) × (i < ARROWS) }
-        requires room { (length self.old.boxes < ARROWS)
-            × (length self.old.traces + S.looped_at laid.now i ≤ TRACES) }
-        ensures turned { let f = frame_in frame.now in
+    fn turn(&mut self, laying: &Laying, size: Block, i: usize)
+        requires arrow { (i < length laying.now.frame.arrows.now) × (i < ARROWS) }
+        requires room { (length self.old.boxes.now < ARROWS)
+            × (length self.old.traces.now + S.looped_at laying.now.laid.now i ≤ TRACES) }
+        ensures turned { let f = frame_in laying.now.frame in
             S.drawn_in f self.new ≡ S.turned_by f size i (S.drawn_in f self.old) }
-        ensures many { S.Grown self.old self.new 1 (S.looped_at laid.now i) }
+        ensures many { S.Grown self.old self.new 1 (S.looped_at laying.now.laid.now i) }
     {
-        match laid[i] {
+        match laying.laid[i] {
             Laid::LeftOut => {}
             Laid::Loop => {
-                let g = self.loop_of(frame, laid, size, i);
+                let g = self.loop_of(laying, size, i);
                 self.traces.push(Trace::of(Some(i), g.curve));
                 self.add(i, g);
             }
             Laid::Between(c) => {
-                let g = self.label_of(frame, &c, size, i);
+                let g = self.label_of(&laying.frame, &c, size, i);
                 self.add(i, g);
             }
         }
     }
 
     // The turn of arrow i in the pass of a sort.
-    fn turn_at(&mut self, sort: Sort, frame: &Frame, laid: &[Laid], sizes: &[Block], i: usize)
-        requires all { laid.now ≡ laid_of (frame_in frame.now) }
-        requires sized { length sizes.now ≡ length frame.now.arrows.now }
-        requires arrow { (i < length frame.now.arrows.now) × (i < ARROWS) }
-        requires room { let one = S.one_at sort laid.now i in
-            (length self.old.boxes + one ≤ ARROWS) × (length self.old.traces + S.more sort one ≤ TRACES) }
-        ensures turned { let f = frame_in frame.now in
+    fn turn_at(&mut self, sort: Sort, laying: &Laying, sizes: &[Block], i: usize)
+        requires sized { length sizes.now ≡ length laying.now.frame.arrows.now }
+        requires arrow { (i < length laying.now.frame.arrows.now) × (i < ARROWS) }
+        requires room { let one = S.one_at sort laying.now.laid.now i in
+            (length self.old.boxes.now + one ≤ ARROWS) × (length self.old.traces.now + S.more sort one ≤ TRACES) }
+        ensures turned { let f = frame_in laying.now.frame in
             S.drawn_in f self.new ≡ turned f sizes.now (S.pass_of sort) (S.drawn_in f self.old) (numbered_at f i) }
-        ensures many { let one = S.one_at sort laid.now i in S.Grown self.old self.new one (S.more sort one) }
+        ensures many { let one = S.one_at sort laying.now.laid.now i in S.Grown self.old self.new one (S.more sort one) }
     {
-        if is_sort(&laid[i], sort) {
-            self.turn(frame, laid, sizes[i], i);
+        if is_sort(&laying.laid[i], sort) {
+            self.turn(laying, sizes[i], i);
         }
     }
 
     // The pass of a sort.
-    fn pass(&mut self, sort: Sort, frame: &Frame, laid: &[Laid], sizes: &[Block])
-        requires all { laid.now ≡ laid_of (frame_in frame.now) }
-        requires sized { (length sizes.now ≡ length frame.now.arrows.now) × (length frame.now.arrows.now ≤ ARROWS) }
-        requires room { let many = S.many_of sort laid.now in
-            (length self.old.boxes + many ≤ ARROWS) × (length self.old.traces + S.more sort many ≤ TRACES) }
-        ensures passed { let f = frame_in frame.now in
+    fn pass(&mut self, sort: Sort, laying: &Laying, sizes: &[Block])
+        requires sized { (length sizes.now ≡ length laying.now.frame.arrows.now) × (length laying.now.frame.arrows.now ≤ ARROWS) }
+        requires room { let many = S.many_of sort laying.now.laid.now in
+            (length self.old.boxes.now + many ≤ ARROWS) × (length self.old.traces.now + S.more sort many ≤ TRACES) }
+        ensures passed { let f = frame_in laying.now.frame in
             S.drawn_in f self.new ≡ passed f sizes.now (S.pass_of sort) (S.drawn_in f self.old) }
-        ensures many { let many = S.many_of sort laid.now in S.Grown self.old self.new many (S.more sort many) }
+        ensures many { let many = S.many_of sort laying.now.laid.now in S.Grown self.old self.new many (S.more sort many) }
     {
-        // By number: a turn reads `laid` and `sizes` at i, and what it draws is arrow i's.
-        for i in 0..frame.arrows.len() {
-            self.turn_at(sort, frame, laid, sizes, i);
+        // By number: a turn reads what is laid and `sizes` at i, and what it draws is arrow i's.
+        for i in 0..laying.frame.arrows.len() {
+            self.turn_at(sort, laying, sizes, i);
         }
     }
 
     // The turns of all arrows.
-    pub fn run(&mut self, frame: &Frame, laid: &[Laid], sizes: &[Block])
-        requires all { laid.now ≡ laid_of (frame_in frame.now) }
-        requires sized { (length sizes.now ≡ length frame.now.arrows.now) × (length frame.now.arrows.now ≤ ARROWS) }
-        requires room { (length self.old.boxes + length frame.now.arrows.now ≤ ARROWS)
-            × (length self.old.traces + S.loops_of laid.now ≤ TRACES) }
-        ensures { let f = frame_in frame.now in
+    pub fn run(&mut self, laying: &Laying, sizes: &[Block])
+        requires sized { (length sizes.now ≡ length laying.now.frame.arrows.now) × (length laying.now.frame.arrows.now ≤ ARROWS) }
+        requires room { (length self.old.boxes.now + length laying.now.frame.arrows.now ≤ ARROWS)
+            × (length self.old.traces.now + S.loops_of laying.now.laid.now ≤ TRACES) }
+        ensures { let f = frame_in laying.now.frame in
             S.drawn_in f self.new ≡ S.all_passed f sizes.now (S.drawn_in f self.old) }
     {
-        self.pass(Sort::Loop, frame, laid, sizes);
-        self.pass(Sort::Arc, frame, laid, sizes);
-        self.pass(Sort::Straight, frame, laid, sizes);
+        self.pass(Sort::Loop, laying, sizes);
+        self.pass(Sort::Arc, laying, sizes);
+        self.pass(Sort::Straight, laying, sizes);
     }
 }
 

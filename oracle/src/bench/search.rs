@@ -58,51 +58,75 @@ fn counted(name: &str) -> HashMap<u64, u64> {
     counts
 }
 
-/// The looks of the searches that a drawing makes, as `bend::leads` goes through the arrows: at an arrow's source, and
-/// at its target where the source is the wanted one.
+/// The searches that a drawing makes, as `bend::leads` goes through the arrows: how many, how often each part of a step
+/// is executed (the look at the source of the first of two arrows, that at the second's, the way to the next two), and
+/// how often an arrow's target is looked at, since its source is the wanted one.
 #[derive(Default)]
 struct Looks {
     searches: u64,
-    sources: u64,
+    parts: [u64; 3],
     targets: u64,
+}
+
+impl Looks {
+    /// Whether some arrow leads from a to b.
+    fn search(&mut self, sheet: &Sheet, a: u16, b: u16) -> bool {
+        self.searches += 1;
+        let steps = sheet.arrows.chunks_exact(2);
+        let last = steps.remainder();
+        for two in steps {
+            for (k, e) in two.iter().enumerate() {
+                self.parts[k] += 1;
+                if e.from == a {
+                    self.targets += 1;
+                    if e.to == b {
+                        return true;
+                    }
+                }
+            }
+            self.parts[2] += 1;
+        }
+        last.iter().any(|e| e.from == a && e.to == b)
+    }
 }
 
 fn looks(sheet: &Sheet) -> Looks {
     let state = |i: u16| usize::from(i) < sheet.states.len();
     let mut looks = Looks::default();
     for e in sheet.arrows.iter().filter(|e| e.from != e.to && state(e.from) && state(e.to)) {
-        looks.searches += 1;
-        for a in &sheet.arrows {
-            looks.sources += 1;
-            if a.from == e.to {
-                looks.targets += 1;
-                if a.to == e.from {
-                    break;
-                }
-            }
-        }
+        looks.search(sheet, e.to, e.from);
     }
     looks
 }
 
-/// Instructions that a search is taken to have at the target of an arrow that leaves the wanted state, and around its looks.
+/// Instructions of each part of a step, as the library is compiled.
+const PARTS: [u64; 3] = [3, 2, 4];
+/// Instructions that a search is taken to have at the target of an arrow that leaves the wanted state, and around its steps.
 const AT_TARGET: u64 = 2;
 const AROUND: u64 = 15;
 /// The search is made for 9, and again where the curves are laid.
 const TIMES: u64 = 2;
 
-/// The table of parts: what callgrind sees executed once for each look at a source, but for the last of a search, of
-/// both searches, and what is around them.
+impl Looks {
+    fn instructions(&self) -> u64 {
+        let steps: u64 = PARTS.iter().zip(self.parts).map(|(n, times)| n * times).sum();
+        steps + AT_TARGET * self.targets + AROUND * self.searches
+    }
+}
+
+/// The table of parts. Where no other loop is as long by chance, callgrind has to have seen just the instructions of the
+/// steps, as often as the searches take them.
 pub fn print() {
     println!("| lines an arrow, at most | route, thousands | search, thousands | part |");
     println!("|---|---|---|---|");
     for name in SHEETS {
         let counts = counted(name);
         let looks = looks(&made(name).sheet);
-        let looked = looks.sources - looks.searches..=looks.sources;
-        let steps: u64 = counts.values().filter(|n| looked.contains(*n)).sum();
+        let seen = counts.values().filter(|n| looks.parts.contains(n)).count() as u64;
+        let steps = TIMES * PARTS.iter().sum::<u64>();
+        assert!(seen == steps || name == HUB, "{seen} instructions for {steps}");
         let whole: u64 = counts.values().sum();
-        let search = steps + TIMES * (AT_TARGET * looks.targets + AROUND * looks.searches);
+        let search = TIMES * looks.instructions();
         let thousands = |n: u64| figure(n as f64 / 1000.0);
         println!("| {name} | {} | {} | {:.2} % |", thousands(whole), thousands(search), 100.0 * search as f64 / whole as f64);
     }

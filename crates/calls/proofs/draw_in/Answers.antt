@@ -15,7 +15,7 @@ slice_bounds-result-end c = let a = c.args in
     let q = c.requires in
     let d = c.in_ok-count.ensures in
     let h = drawing_left a.sheet.now a.m (xs_of a.centres.now) (ys_of a.centres.now) q.limits.0 q.limits.1 _ _ _ q.room d.0 d.1 in
-    sym (length-take-le _ _ (omega (arith, h.0, q.room, c.draw.auto.out)))
+    sym (length-take-le _ _ (omega (arith, h.0, q.room, c.draw_at.auto.out)))
 
 pub returns : goal.returns
 returns c = let a = c.args in

@@ -11,7 +11,7 @@ returns-then-beyond c =
     let r = c.read_graph.ensures in
     let q = c.requires in
     draw_refused g (xs_of a.centres.now) (ys_of a.centres.now)
-    (frame_read g a.centres.now _ _ r.0 r.1 c.counted.ensures.all q.states.0 q.arrows.0)
+    (frame_read g a.centres.now _ _ r.0 r.1 q.states.0 q.arrows.0)
     a.out.now (sym c.beyond.ensures ∙ c.if-beyond.true)
 
 pub returns : goal.returns
@@ -21,6 +21,6 @@ returns c =
     let r = c.read_graph.ensures in
     let q = c.requires in
     draw_drawn g (xs_of a.centres.now) (ys_of a.centres.now)
-    (frame_read g a.centres.now _ _ r.0 r.1 c.counted.ensures.all q.states.0 q.arrows.0)
+    (frame_read g a.centres.now _ _ r.0 r.1 q.states.0 q.arrows.0)
     (sizes_read g _ r.2 q.arrows.0)
     c.geometry.result a.out.now _ (sym c.beyond.ensures ∙ c.if-beyond.false) c.geometry.ensures.0 c.geometry.ensures.1

@@ -23,13 +23,13 @@ run-requires g c = let f = frame_in c.args.frame.now in
 pub gather-requires : goal.gather-requires
 gather-requires g c = let a = c.args in
     let f = frame_in a.frame.now in
-    let all = all_gathered f (map trace_in c.lay.new.traces) c.new.result c.lay.ensures.traces c.new.ensures a.sizes.now (replicate {A = Option Geometry} g.row.ARROWS None) _ c.run.ensures
+    let all = all_gathered f (map trace_in c.lay.new.traces) c.new-boxes.result c.lay.ensures.traces c.new-boxes.ensures a.sizes.now (replicate {A = Option Geometry} g.row.ARROWS None) _ c.run.ensures
     (omega (arith, length-replicate {A = Option Geometry} g.row.ARROWS None, c.requires.arrows)) (none_drawn g.row.ARROWS) in
     omega (arith, ap length all, records_most f a.sizes.now, c.requires.room)
 
 pub returns : goal.returns
 returns g c = let a = c.args in
     let f = frame_in a.frame.now in
-    let all = all_gathered f (map trace_in c.lay.new.traces) c.new.result c.lay.ensures.traces c.new.ensures a.sizes.now (replicate {A = Option Geometry} g.row.ARROWS None) _ c.run.ensures
+    let all = all_gathered f (map trace_in c.lay.new.traces) c.new-boxes.result c.lay.ensures.traces c.new-boxes.ensures a.sizes.now (replicate {A = Option Geometry} g.row.ARROWS None) _ c.run.ensures
     (omega (arith, length-replicate {A = Option Geometry} g.row.ARROWS None, c.requires.arrows)) (none_drawn g.row.ARROWS) in
     (c.gather.ensures.0 ∙ ap length all, c.gather.ensures.1 ∙ ap (put a.out.now 0) all)

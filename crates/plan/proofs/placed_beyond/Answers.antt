@@ -7,4 +7,4 @@ use Rattle.plan.proofs.placed_beyond.Goals as goal
 
 pub returns : goal.returns
 returns c = c.beyond.ensures
-    ∙ ap beyond (frame_placed (plan_in c.args.plan.now) c.place.new.centres _ c.counted.ensures.all c.args.placement c.place.ensures)
+    ∙ ap beyond (frame_placed (plan_in c.args.plan.now) c.place.new.centres c.args.placement c.place.ensures)

@@ -5,7 +5,7 @@ use Rattle.columns.specs.Found.{Fair}
 use Rattle.columns.proofs.Net.explore.Given as goal
 
 abbrev pub invariant-loop-i : goal.invariant-loop-i
-invariant-loop-i l =
+invariant-loop-i g l =
     (l.i-end ≡ length l.initial.found)
     × (length l.initial.found ≤ length l.found)
     × (take (length l.initial.found) l.found ≡ l.initial.found)

@@ -4,4 +4,4 @@ use Rattle.columns.proofs.Laws.{Searching}
 use Rattle.columns.proofs.Net.reach.Given as goal
 
 abbrev pub invariant-loop : goal.invariant-loop
-invariant-loop l = Searching l.self.states l.self.arrows.now l.start l.order l.sizes l.low (l.self.states - l.counter)
+invariant-loop g l = Searching l.self.states l.self.arrows.now l.start l.found l.sizes l.low (l.self.states - l.counter)

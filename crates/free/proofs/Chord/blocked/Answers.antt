@@ -13,7 +13,7 @@ use Rattle.free.proofs.Chord.blocked.Goals.{then-not-is_end+then-not-is_off, els
 use Rattle.free.proofs.Chord.blocked.Goals as goal
 
 pub loop-k-preserved : goal.loop-k-preserved
-loop-k-preserved c = let a = c.args in
+loop-k-preserved g c = let a = c.args in
     let l = c.loop-k in
     let h = c.loop-k-test.true in
     let p = get_d_any a.nodes.now l.k _ (vec f0 f0) h in
@@ -39,7 +39,7 @@ loop-k-preserved c = let a = c.args in
     ]
 
 pub returns : goal.returns
-returns c = let l = c.loop-k in
+returns g c = let l = c.loop-k in
     sym (append-nil l.spans)
     ∙ ap (λ (q : List Span). l.spans ++ q) (sym (intervals-end c.args.self c.args.nodes.now l.k c.loop-k-test.false))
     ∙ l.invariant.1

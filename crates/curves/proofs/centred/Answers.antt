@@ -1,9 +1,9 @@
--- `curves::count_into` meets its contract.
+-- `curves::centred` meets its contract.
 use Rattle.std.proofs.Common.{refl, arith}
 use Rattle.laws.specs.Flat.{table}
 use Rattle.laws.specs.Filled.{table-fill, table_full}
 use Rattle.curves.specs.Counted.{counted_at}
-use Rattle.curves.proofs.count_into.Goals as goal
+use Rattle.curves.proofs.centred.Goals as goal
 
 pub loop-k-init : goal.loop-k-init
 unfolding table
