@@ -36,3 +36,8 @@ some_is f = refused_from f 0 f.arrows ∙ beyond-each f
 pub beyond-centred : (flags : List ℕ) (cs ns : List «V») (arrows : List Ends) (n : ℕ) → n ≡ length flags → ns ≡ counted cs n
     → beyond (frame_with flags ns arrows) ≡ beyond (frame_from flags cs arrows)
 beyond-centred flags cs ns arrows n e g = ap (λ (l : List «V»). beyond (frame_with flags l arrows)) (g ∙ ap (counted cs) e)
+
+-- of centres that are counted first
+pub beyond_counted : (flags : List ℕ) (cs ns : List «V») (arrows : List Ends) (b : Bool) → ns ≡ counted cs (length flags)
+    → b ≡ list_any (ends_refused (frame_with flags ns arrows)) arrows → b ≡ beyond (frame_from flags cs arrows)
+beyond_counted flags cs ns arrows b e g = g ∙ some_is (frame_with flags ns arrows) ∙ beyond-centred flags cs ns arrows (length flags) refl e

@@ -41,6 +41,7 @@ fn some_beyond(frame: &Frame, arrows: &[Ends]) -> bool
 }
 
 // Whether the drawing of a graph at these centres is refused by 9; those that are missing or not finite count as 0.
+#[tactic(auto, using(crate::specs::Laws::beyond_counted))]
 pub fn beyond(flags: &[u8], centres: &[V], arrows: &[Ends]) -> bool
     requires few { length flags.now ≤ 64 }
     requires many { length arrows.now ≤ 256 }

@@ -138,7 +138,8 @@ impl<'a, const ARROWS: usize, const TRACES: usize> Drawing<'a, ARROWS, TRACES> {
 
     // The pass of a sort.
     fn pass(&mut self, sort: Sort, laying: &Laying, sizes: &[Block])
-        requires sized { (length sizes.now ≡ length laying.now.frame.arrows.now) × (length laying.now.frame.arrows.now ≤ ARROWS) }
+        requires sized { (length sizes.now ≡ length laying.now.frame.arrows.now)
+            × (length laying.now.frame.arrows.now ≤ ARROWS) }
         requires room { let many = S.many_of sort laying.now.laid.now in
             (length self.old.boxes.now + many ≤ ARROWS) × (length self.old.traces.now + S.more sort many ≤ TRACES) }
         ensures passed { let f = frame_in laying.now.frame in
@@ -153,7 +154,8 @@ impl<'a, const ARROWS: usize, const TRACES: usize> Drawing<'a, ARROWS, TRACES> {
 
     // The turns of all arrows.
     pub fn run(&mut self, laying: &Laying, sizes: &[Block])
-        requires sized { (length sizes.now ≡ length laying.now.frame.arrows.now) × (length laying.now.frame.arrows.now ≤ ARROWS) }
+        requires sized { (length sizes.now ≡ length laying.now.frame.arrows.now)
+            × (length laying.now.frame.arrows.now ≤ ARROWS) }
         requires room { (length self.old.boxes.now + length laying.now.frame.arrows.now ≤ ARROWS)
             × (length self.old.traces.now + S.loops_of laying.now.laid.now ≤ TRACES) }
         ensures { let f = frame_in laying.now.frame in
