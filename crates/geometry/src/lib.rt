@@ -1,7 +1,7 @@
 // `geometry`: the drawing of a graph at given centres, from its flags, arrow ends and label sizes.
 #![tactic(auto)]
 
-ghost use Rattle.std.specs.Prelude.{◌≡◌, ◌+◌, ◌*◌, ◌≤◌, ◌<◌, length};
+ghost use Rattle.std.specs.Prelude.{◌≡◌, [], ◌+◌, ◌*◌, ◌≤◌, ◌<◌, length};
 ghost use Rattle.laws.specs.Put.{put};
 ghost use Rattle.routing.specs.Routing.{records};
 ghost use Rattle.curves.specs.Lay.{frame_in};
@@ -19,7 +19,42 @@ use turns::Drawing;
 // A small sheet has at most so many states and so many arrows.
 const FEW: usize = 32;
 
-// The drawing in space for so many arrows, each with a box at most, and so many traces; how many records it has.
+// The drawing, given space for so many traces, in space for so many arrows, each with a box at most; how many records it has.
+#[inline(always)]
+fn draw_over<const ARROWS: usize, const TRACES: usize>(
+    frame: &Frame,
+    sizes: &[Block],
+    traces: &mut Stack<Trace, TRACES>,
+    out: &mut [Geometry],
+) -> usize
+    requires sized { length sizes.now ≡ length frame.now.arrows.now }
+    requires arrows { length frame.now.arrows.now ≤ ARROWS }
+    requires none { traces.old ≡ [] }
+    requires traces { length frame.now.arrows.now + length frame.now.centres.now ≤ TRACES }
+    requires small { (ARROWS ≤ 256) × (TRACES ≤ 320) }
+    requires room { length frame.now.arrows.now ≤ length out.old }
+    ensures { let drawn = records (frame_in frame.now) sizes.now in
+        (result ≡ length drawn) × (out.new ≡ put out.old 0 drawn) }
+{
+    let mut laid: Stack<Laid, ARROWS> = Stack::new(Laid::LeftOut);
+    let mut boxes: Stack<Rect, ARROWS> = Stack::new(Rect::NONE);
+    let mut drawn: [Option<Geometry>; ARROWS] = [None; ARROWS];
+    frame.lay(&mut laid, traces);
+    let mut drawing = Drawing {
+        boxes: &mut boxes,
+        traces,
+        drawn: &mut drawn,
+    };
+    let laying = Laying {
+        frame: *frame,
+        laid: laid.as_slice(),
+    };
+    drawing.run(&laying, sizes);
+    turns::gather(drawing.drawn, out)
+}
+
+// The drawing in space for so many arrows and traces; how many records it has. The traces, the largest part, come first:
+// what the compiler puts beside them while they are made is free again for the rest.
 fn draw<const ARROWS: usize, const TRACES: usize>(
     frame: &Frame,
     sizes: &[Block],
@@ -33,22 +68,8 @@ fn draw<const ARROWS: usize, const TRACES: usize>(
     ensures { let drawn = records (frame_in frame.now) sizes.now in
         (result ≡ length drawn) × (out.new ≡ put out.old 0 drawn) }
 {
-    let mut laid: Stack<Laid, ARROWS> = Stack::new(Laid::LeftOut);
-    let mut boxes: Stack<Rect, ARROWS> = Stack::new(Rect::NONE);
     let mut traces: Stack<Trace, TRACES> = Stack::new(Trace::NONE);
-    let mut drawn: [Option<Geometry>; ARROWS] = [None; ARROWS];
-    frame.lay(&mut laid, &mut traces);
-    let mut drawing = Drawing {
-        boxes: &mut boxes,
-        traces: &mut traces,
-        drawn: &mut drawn,
-    };
-    let laying = Laying {
-        frame: *frame,
-        laid: laid.as_slice(),
-    };
-    drawing.run(&laying, sizes);
-    turns::gather(drawing.drawn, out)
+    draw_over::<ARROWS, TRACES>(frame, sizes, &mut traces, out)
 }
 
 // The drawing in space for the sheet. Setting the space to 0 is a large part of drawing a small one, which has less.

@@ -22,7 +22,8 @@ impl<T: Copy, const N: usize> Model for Stack<T, N> {
 }
 
 impl<T: Copy, const N: usize> Stack<T, N> {
-    // None; the space is filled with some value.
+    // None; the space is filled with some value. Inlined, so that the space is filled where it stands.
+    #[inline(always)]
     pub fn new(fill: T) -> Self
         ensures { result ≡ [] }
     {

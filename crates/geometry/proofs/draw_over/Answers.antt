@@ -1,4 +1,4 @@
--- `geometry::draw` meets its contract.
+-- `geometry::draw_over` meets its contract.
 use Rattle.std.specs.Prelude.{◌≡◌, ◌+◌, ◌≤◌, length}
 use Rattle.std.proofs.Common.{rules, ap, ◌∙◌, arith}
 use Rattle.routing_laws.proofs.Decoded.{records_most}
@@ -12,7 +12,7 @@ use Rattle.std.proofs.lemmas.List.{length-replicate, length-map}
 use Rattle.laws.specs.Put.{put}
 use Rattle.trace.specs.Form.{trace_in}
 use Rattle.label_spots.specs.declared.Geometry.{Geometry}
-use Rattle.geometry.proofs.draw.Goals as goal
+use Rattle.geometry.proofs.draw_over.Goals as goal
 
 pub run-requires : goal.run-requires
 run-requires g c = let f = frame_in c.args.frame.now in
